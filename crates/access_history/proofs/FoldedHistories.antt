@@ -44,12 +44,15 @@ report_pushed : (accesses : List NotedAccess) (x : NodeId) (kind : AccessKind) (
     → report_after (report_of_race accesses found) x kind verdict
     ≡ report_of_race (accesses ++ noted_access x kind ∷ []) (found_or found (length accesses) (earlier_access verdict))
 report_pushed accesses x kind (Some race) verdict before =
-    ap (λ a. Some (report_with race a)) (sym (get_or_append_left accesses (noted_access x kind ∷ []) (noted_access (at 0 0) Read) race.number before))
+    ap (λ a. Some (report_with race a)) (sym (get_or_append_left accesses (noted_access x kind ∷ [])
+    (noted_access (at 0 0) Read) race.number before))
 report_pushed accesses x kind None Clean before = refl
 report_pushed accesses x kind None (Race y earlier) before =
-    ap (λ a. Some (report_with (record { number = length accesses; earlier = noted_access y earlier }) a)) (sym (get_or_push accesses (noted_access x kind) (noted_access (at 0 0) Read) (length accesses) refl))
+    ap (λ a. Some (report_with (record { number = length accesses; earlier = noted_access y earlier }) a))
+    (sym (get_or_push accesses (noted_access x kind) (noted_access (at 0 0) Read) (length accesses) refl))
 
-pub history_pushed : (down right : NodeId → ℕ) (accesses : List NotedAccess) (h h' : History) (x : NodeId) (kind : AccessKind) (verdict : Verdict)
+pub history_pushed : (down right : NodeId → ℕ) (accesses : List NotedAccess) (h h' : History) (x : NodeId) (kind : AccessKind)
+    (verdict : Verdict)
     → earlier_access verdict ≡ check_access down right (kept_of h) x kind
     → kept_of h' ≡ updated_history down right (kept_of h) x kind
     → h'.report ≡ report_after h.report x kind verdict

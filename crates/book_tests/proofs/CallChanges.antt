@@ -1,5 +1,6 @@
 -- What the calls of a book change.
-use Rattle.std.proofs.Common.{◌≡◌, ◌≢◌, ℕ, zero, suc, List, [], ◌∷◌, ◌++◌, ◌<◌, ◌≤◌, ◌⊎◌, refl, sym, ◌∙◌, arith, length, Option, Some, None, Bool, true, false, cond, set, inl, inr, append-nil}
+use Rattle.std.proofs.Common.{◌≡◌, ◌≢◌, ℕ, zero, suc, List, [], ◌∷◌, ◌++◌, ◌<◌, ◌≤◌, ◌⊎◌, refl, sym, ◌∙◌, arith, length, Option, Some, None}
+use Rattle.std.proofs.Common.{Bool, true, false, cond, set, inl, inr, append-nil}
 use Rattle.std.proofs.lemmas.Bool.{cases_lt}
 use Rattle.std.proofs.lemmas.List.{get_or-set_other, get_or_append_left, get_or_past}
 use Rattle.pipe_model.specs.declared.event.Event.{Event}
@@ -20,7 +21,8 @@ use Rattle.pipe_frame.specs.declared.results.Next.TheVariants as next
 use Rattle.pipe_frame.specs.CallResults.{advance_events, resume_events}
 use Rattle.pipe_frame.specs.TokenFields.{TokenFields}
 use Rattle.frame_book.specs.BookStates.{BookState, TokenState, Out, Kept, Spent, item_or, state_of}
-use Rattle.frame_book.specs.CallEffects.{after_advance, after_begin, after_leave_ready, after_name_next, after_stop, kept_now, token_after, with_entered, with_resumed}
+use Rattle.frame_book.specs.CallEffects.{after_advance, after_begin, after_leave_ready, after_name_next, after_stop, kept_now, token_after}
+use Rattle.frame_book.specs.CallEffects.{with_entered, with_resumed}
 use Rattle.book_tests.proofs.StayingTokens.{Changes, EndNoneOf, events_of_more, longer_with}
 
 -- ---- events that end no instance of other iterations
@@ -58,7 +60,8 @@ resume_quiet i j (Some f) = by_status f.status
 
 -- ---- lists with one item changed
 
-out_other : (tokens : List TokenState) (i j : ℕ) (s : TokenState) → j ≢ i → item_or Spent tokens j ≡ Out → item_or Spent (set tokens i s) j ≡ Out
+out_other : (tokens : List TokenState) (i j : ℕ) (s : TokenState) → j ≢ i → item_or Spent tokens j ≡ Out
+    → item_or Spent (set tokens i s) j ≡ Out
 out_other tokens i j s o h = get_or-set_other tokens i j s Spent o ∙ h
 
 out_longer : (tokens : List TokenState) (j : ℕ) → item_or Spent tokens j ≡ Out → item_or Spent (tokens ++ Out ∷ []) j ≡ Out
@@ -76,7 +79,8 @@ traces_longer (x ∷ xs) (suc j) = traces_longer xs j
 
 -- ---- the calls
 
-pub begin_changes : {M : Type 0} (i : ℕ) (v : BookState) (t : FrameToken M) → Changes i v (after_begin v (begun.Started t)) (events.Begin t.iteration ∷ [])
+pub begin_changes : {M : Type 0} (i : ℕ) (v : BookState) (t : FrameToken M) → Changes i v (after_begin v (begun.Started t))
+    (events.Begin t.iteration ∷ [])
 begin_changes i v t = record {
   program = refl;
   input = refl;

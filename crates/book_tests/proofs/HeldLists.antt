@@ -1,5 +1,6 @@
 -- Lists of tokens that are out.
-use Rattle.std.proofs.Common.{◌≡◌, ◌≢◌, ℕ, zero, suc, List, [], ◌∷◌, ◌++◌, ◌<◌, ◌≤◌, ◌⊎◌, refl, sym, subst, arith, length, Option, Some, None, set, inl, inr}
+use Rattle.std.proofs.Common.{◌≡◌, ◌≢◌, ℕ, zero, suc, List, [], ◌∷◌, ◌++◌, ◌<◌, ◌≤◌, ◌⊎◌, refl, sym, subst, arith, length, Option, Some}
+use Rattle.std.proofs.Common.{None, set, inl, inr}
 use Rattle.std.proofs.lemmas.Bool.{cases_eq}
 use Rattle.std.proofs.lemmas.List.{get_or-set_same, get_or-set_other, get_or_past}
 use Rattle.pipe_model.specs.Runs.ControlRun.{ControlRun}
@@ -15,7 +16,8 @@ pub none_held : (v : BookState) (tokens : List (Option (FrameToken Plan))) → (
 none_held v tokens none i = rw (none i) tt
 
 -- one entry more, without a token
-pub none_more : (tokens : List (Option (FrameToken Plan))) → ((i : ℕ) → token_of tokens i ≡ None) → (i : ℕ) → token_of (tokens ++ None ∷ []) i ≡ None
+pub none_more : (tokens : List (Option (FrameToken Plan))) → ((i : ℕ) → token_of tokens i ≡ None) → (i : ℕ)
+    → token_of (tokens ++ None ∷ []) i ≡ None
 none_more [] none zero = refl
 none_more [] none (suc i) = refl
 none_more (t ∷ ts) none zero = none zero
@@ -31,7 +33,8 @@ held_with v tokens t within given others i = by_index (cases_eq i t.iteration)
     by_index (inr other) = rw (get_or-set_other tokens t.iteration i (Some t) None other) (others i other)
 
 -- a token that there is no room for
-pub held_past : (v : BookState) (tokens : List (Option (FrameToken Plan))) (k : ℕ) → length tokens ≤ k → AreHeldBut k v tokens → AreHeld v tokens
+pub held_past : (v : BookState) (tokens : List (Option (FrameToken Plan))) (k : ℕ) → length tokens ≤ k → AreHeldBut k v tokens
+    → AreHeld v tokens
 held_past v tokens k past others i = by_index (cases_eq i k)
   where
     by_index : (i ≡ k) ⊎ (i ≢ k) → IsHeldAt v i (token_of tokens i)
@@ -39,22 +42,26 @@ held_past v tokens k past others i = by_index (cases_eq i k)
     by_index (inr other) = others i other
 
 -- the tokens after a change of the book
-held_one : (i j : ℕ) (v w : BookState) (events : List Event) (o : Option (FrameToken Plan)) → Changes i v w events → ControlRun w.limit (events_of w.log) (state_of w)
+held_one : (i j : ℕ) (v w : BookState) (events : List Event) (o : Option (FrameToken Plan)) → Changes i v w events
+    → ControlRun w.limit (events_of w.log) (state_of w)
     → j ≢ i → IsHeldAt v j o → IsHeldAt w j o
 held_one i j v w events None ch run other h = tt
 held_one i j v w events (Some t) ch run other h = (h.0, still_given i v w events ch run t (subst (λ k. k ≢ i) (sym h.0) other) h.1)
 
-pub held_after : (i : ℕ) (v w : BookState) (events : List Event) (tokens : List (Option (FrameToken Plan))) → Changes i v w events → ControlRun w.limit (events_of w.log) (state_of w)
+pub held_after : (i : ℕ) (v w : BookState) (events : List Event) (tokens : List (Option (FrameToken Plan))) → Changes i v w events
+    → ControlRun w.limit (events_of w.log) (state_of w)
     → AreHeld v tokens → AreHeldBut i w tokens
 held_after i v w events tokens ch run held j other = held_one i j v w events (token_of tokens j) ch run other (held j)
 
 -- no iteration has changed
 pub held_every : (v w : BookState) (events : List Event) (tokens : List (Option (FrameToken Plan))) → ((i : ℕ) → Changes i v w events)
     → ControlRun w.limit (events_of w.log) (state_of w) → AreHeld v tokens → AreHeld w tokens
-held_every v w events tokens ch run held j = held_one (suc j) j v w events (token_of tokens j) (ch (suc j)) run (λ e. absurd (omega (arith, e))) (held j)
+held_every v w events tokens ch run held j = held_one (suc j) j v w events (token_of tokens j) (ch (suc j)) run
+    (λ e. absurd (omega (arith, e))) (held j)
 
 -- none of them belongs to the iteration that has changed
-pub held_all : (i : ℕ) (w : BookState) (tokens : List (Option (FrameToken Plan))) → token_of tokens i ≡ None → AreHeldBut i w tokens → AreHeld w tokens
+pub held_all : (i : ℕ) (w : BookState) (tokens : List (Option (FrameToken Plan))) → token_of tokens i ≡ None → AreHeldBut i w tokens
+    → AreHeld w tokens
 held_all i w tokens gone others j = by_index (cases_eq j i)
   where
     by_index : (j ≡ i) ⊎ (j ≢ i) → IsHeldAt w j (token_of tokens j)

@@ -10,12 +10,14 @@ use Rattle.book_tests.specs.declared.program.Source.{Source}
 use Rattle.book_tests.specs.ScriptPrograms.{IsSmall, tree_of_source, waits_of}
 use Rattle.book_tests.proofs.ScriptBehaviours.{iterations_are_known}
 
-after_instances-push : (d : Behaviour) (replies : List (List ℤ)) (r : List ℤ) → after_instances d (replies ++ r ∷ []) ≡ after_instance (after_instances d replies) r
+after_instances-push : (d : Behaviour) (replies : List (List ℤ)) (r : List ℤ) → after_instances d (replies ++ r ∷ []) ≡ after_instance
+    (after_instances d replies) r
 after_instances-push d [] r = refl
 after_instances-push d (x ∷ replies) r = after_instances-push (after_instance d x) replies r
 
 -- it is for the same programs
-pub same_programs : (tree : SyntaxTree) (old new : Plan) → (new.turns ≡ old.turns) × (new.waits ≡ old.waits) × (new.stages ≡ old.stages) → IsPlanOf tree old → IsPlanOf tree new
+pub same_programs : (tree : SyntaxTree) (old new : Plan) → (new.turns ≡ old.turns) × (new.waits ≡ old.waits) × (new.stages ≡ old.stages)
+    → IsPlanOf tree old → IsPlanOf tree new
 same_programs tree old new same h input i =
     h input i ∙ rw (same.0, same.1, same.2) refl
 
@@ -25,7 +27,8 @@ pub plan_goes_on : (tree : SyntaxTree) (input : List ℤ) (old new : Plan) (i : 
     → IsPlanAt tree input old i replies → IsPlanAt tree input new i (replies ++ r ∷ [])
 plan_goes_on tree input old new i replies r same none next h = (
   same_programs tree old new same h.0,
-  after_instances-push ((pipeline_of tree input).behaviour i) replies r ∙ (ap (λ xs. after_instance (after_instances ((pipeline_of tree input).behaviour i) replies) xs) none
+  after_instances-push ((pipeline_of tree input).behaviour i) replies r
+      ∙ (ap (λ xs. after_instance (after_instances ((pipeline_of tree input).behaviour i) replies) xs) none
       ∙ (ap (λ d. after_instance d []) h.1 ∙ next)),
 )
 

@@ -1,5 +1,6 @@
 -- Tokens that are out stay those of running instances while the book's calls start and end other instances.
-use Rattle.std.proofs.Common.{◌≡◌, ◌≢◌, ℕ, suc, List, [], ◌∷◌, ◌++◌, ◌≤◌, refl, sym, ◌∙◌, ap, subst, arith, length, max, map, append_assoc, append-nil}
+use Rattle.std.proofs.Common.{◌≡◌, ◌≢◌, ℕ, suc, List, [], ◌∷◌, ◌++◌, ◌≤◌, refl, sym, ◌∙◌, ap, subst, arith, length, max, map, append_assoc}
+use Rattle.std.proofs.Common.{append-nil}
 use Rattle.std.proofs.lemmas.List.{map-append, length-append}
 use Rattle.pipe_model.specs.declared.event.Event.{Event}
 use Rattle.pipe_model.specs.declared.ticket.BookEntry.{BookEntry}
@@ -26,7 +27,8 @@ EndNoneOf j [] = Unit {0}
 EndNoneOf j (e ∷ es) = EndsNoneOf j e × EndNoneOf j es
 
 -- the token of a running instance stays one over events that end none of its iteration
-pub stays_over : {limit : ℕ} {c : State} (es more : List Event) (t : TokenFields) → ControlRun limit (es ++ more) c → EndNoneOf t.iteration more
+pub stays_over : {limit : ℕ} {c : State} (es more : List Event) (t : TokenFields) → ControlRun limit (es ++ more) c
+    → EndNoneOf t.iteration more
     → IsTokenOf es t → IsTokenOf (es ++ more) t
 stays_over es [] t run quiet h = subst (λ l. IsTokenOf l t) (sym (append-nil es)) h
 stays_over {limit} {c} es (e ∷ more) t run quiet h =
@@ -58,14 +60,18 @@ still_given i v w events ch run t other g =
       out = record {
         out = ch.out t.iteration other g.out.out;
         token = subst (λ es. IsTokenOf es (fields_of t)) (sym ch.log)
-            (stays_over (events_of v.log) events (fields_of t) (subst (λ es. ControlRun w.limit es (state_of w)) ch.log run) (ch.quiet t.iteration other) g.out.token);
+            (stays_over (events_of v.log) events (fields_of t) (subst (λ es. ControlRun w.limit es (state_of w)) ch.log run)
+            (ch.quiet t.iteration other) g.out.token);
         now = omega (arith, now, longer);
       };
       payload = record {
         belongs = subst (λ l. BelongsTo (plan_tie t.payload) l) (sym ch.lists) g.payload.belongs;
-        ready = subst (λ p. IsPlanAt (tree_of p) w.input t.payload t.iteration (map replies_of (item_or [] w.traces t.iteration))) (sym ch.program)
-            (subst (λ l. IsPlanAt (tree_of v.program) l t.payload t.iteration (map replies_of (item_or [] w.traces t.iteration))) (sym ch.input)
-            (subst (λ xs. IsPlanAt (tree_of v.program) v.input t.payload t.iteration (map replies_of xs)) (sym (ch.traces t.iteration other)) g.payload.ready));
+        ready = subst (λ p. IsPlanAt (tree_of p) w.input t.payload t.iteration (map replies_of (item_or [] w.traces t.iteration)))
+            (sym ch.program)
+            (subst (λ l. IsPlanAt (tree_of v.program) l t.payload t.iteration (map replies_of (item_or [] w.traces t.iteration)))
+            (sym ch.input)
+            (subst (λ xs. IsPlanAt (tree_of v.program) v.input t.payload t.iteration (map replies_of xs))
+            (sym (ch.traces t.iteration other)) g.payload.ready));
       };
       knows = g.knows;
       parts = ap (λ xs. length (map replies_of xs)) (ch.traces t.iteration other) ∙ g.parts;

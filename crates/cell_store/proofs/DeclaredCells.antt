@@ -1,5 +1,6 @@
 -- The values of the declarations, one after the other, and which of them belong to a shard.
-use Rattle.std.proofs.Common.{◌≡◌, ◌∙◌, ap, sym, refl, ℕ, ℤ, pos, ◌+◌, ◌-◌, ◌*◌, ◌/◌, ◌%◌, ◌<◌, ◌≤◌, List, [], ◌∷◌, ◌++◌, zero, suc, length, get_or, take, replicate, append-nil, append_assoc, length-append, arith}
+use Rattle.std.proofs.Common.{◌≡◌, ◌∙◌, ap, sym, refl, ℕ, ℤ, pos, ◌+◌, ◌-◌, ◌*◌, ◌/◌, ◌%◌, ◌<◌, ◌≤◌, List, [], ◌∷◌, ◌++◌, zero, suc, length}
+use Rattle.std.proofs.Common.{get_or, take, replicate, append-nil, append_assoc, length-append, arith}
 use Rattle.std.proofs.Math.Nat.{div-add-mod, lt_of_mul-lt-mul_left}
 use Rattle.std.proofs.lemmas.List.{get_or_append_left, length-replicate, take_all, take_more}
 use Rattle.std.proofs.Math.Seq.{get_or-append_seam}
@@ -23,7 +24,8 @@ size_within (e ∷ ds) zero d h = omega arith
 size_within (e ∷ ds) (suc i) d h = omega (arith, size_within ds i d (omega arith))
 
 -- the values with one declaration more at the end
-values_push : (ds : List Declaration) (d : Declaration) → declared_values (ds ++ d ∷ []) ≡ declared_values ds ++ replicate (declared_size d.size) d.value
+values_push : (ds : List Declaration) (d : Declaration) → declared_values (ds ++ d ∷ []) ≡ declared_values ds ++ replicate
+    (declared_size d.size) d.value
 values_push [] d = append-nil (replicate (declared_size d.size) d.value)
 values_push (e ∷ ds) d =
     ap (λ l. replicate (declared_size e.size) e.value ++ l) (values_push ds d)
@@ -36,7 +38,8 @@ values_take_more ds i d h e =
     ap declared_values (take_more ds i d h ∙ ap (λ x. take i ds ++ x ∷ []) (sym e)) ∙ values_push (take i ds) d
 
 -- a list that is made longer keeps its items
-pub resized : (vs : List ℤ) (k m n : ℕ) (v : ℤ) → k ≡ length vs → m ≡ length vs → take (k + n) vs ++ replicate (k + n - m) v ≡ vs ++ replicate n v
+pub resized : (vs : List ℤ) (k m n : ℕ) (v : ℤ) → k ≡ length vs → m ≡ length vs → take (k + n) vs ++ replicate
+    (k + n - m) v ≡ vs ++ replicate n v
 resized vs k m n v e f =
     let all : take (k + n) vs ≡ vs = take_all (k + n) vs (omega arith) in
     let more : k + n - m ≡ n = omega arith in
@@ -61,12 +64,14 @@ strides_more cell shard n values v more e at =
     omega (arith, grown)
 
 -- the values of the shard's first cells, with one value more
-pub taken_more : (all values more : List ℤ) (cell shard n : ℕ) → more ≡ values ++ get_or all cell (pos 0) ∷ [] → cell ≡ shard + n * length values
+pub taken_more : (all values more : List ℤ) (cell shard n : ℕ) → more ≡ values ++ get_or all cell (pos 0) ∷ []
+    → cell ≡ shard + n * length values
     → ((slot : ℕ) → slot < length values → get_or values slot (pos 0) ≡ get_or all (shard + n * slot) (pos 0))
     → (slot : ℕ) → slot < length more → get_or more slot (pos 0) ≡ get_or all (shard + n * slot) (pos 0)
 taken_more all values more cell shard n e at was slot below =
     let count : length more ≡ length values + 1 = ap length e ∙ length-append values (get_or all cell (pos 0) ∷ []) in
     below_more (λ k. get_or more k (pos 0) ≡ get_or all (shard + n * k) (pos 0)) (length values)
     (λ k h. ap (λ l. get_or l k (pos 0)) e ∙ get_or_append_left values (get_or all cell (pos 0) ∷ []) (pos 0) k h ∙ was k h)
-    (ap (λ l. get_or l (length values) (pos 0)) e ∙ get_or-append_seam values (get_or all cell (pos 0)) [] (pos 0) ∙ ap (λ c. get_or all c (pos 0)) at)
+    (ap (λ l. get_or l (length values) (pos 0)) e ∙ get_or-append_seam values (get_or all cell (pos 0)) [] (pos 0)
+    ∙ ap (λ c. get_or all c (pos 0)) at)
     slot (omega arith)

@@ -15,7 +15,8 @@ initial_value store c true e nothing =
 initial_value store c false e nothing = rw e refl
 
 -- each value of the shard is the initial value of its cell
-pub is_fresh : (store : InitialStore) (state : ShardState) → state.shard.cells ≡ length store.values → state.shard.output_limit ≡ store.output_limit
+pub is_fresh : (store : InitialStore) (state : ShardState) → state.shard.cells ≡ length store.values
+    → state.shard.output_limit ≡ store.output_limit
     → get_or store.values 1 (pos 0) ≡ pos 0 → state.shard.cells ≤ state.shard.number + state.shard.shards * length state.values
     → ((slot : ℕ) → slot < length state.values
     → get_or state.values slot (pos 0) ≡ get_or store.values (state.shard.number + state.shard.shards * slot) (pos 0))

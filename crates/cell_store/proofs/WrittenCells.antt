@@ -1,5 +1,6 @@
 -- How an access changes the state of a shard.
-use Rattle.std.proofs.Common.{◌≡◌, ◌≢◌, ◌∙◌, ap, sym, refl, subst, ℕ, ℤ, pos, zero, suc, min, ◌<◌, ◌≤◌, ◌==◌, ◌+◌, ◌*◌, ◌/◌, ◌%◌, List, [], ◌∷◌, ◌++◌, length, get_or, set, append-nil, append_assoc, arith, take, true, false, Bool, eqb, not}
+use Rattle.std.proofs.Common.{◌≡◌, ◌≢◌, ◌∙◌, ap, sym, refl, subst, ℕ, ℤ, pos, zero, suc, min, ◌<◌, ◌≤◌, ◌==◌, ◌+◌, ◌*◌, ◌/◌, ◌%◌, List, []}
+use Rattle.std.proofs.Common.{◌∷◌, ◌++◌, length, get_or, set, append-nil, append_assoc, arith, take, true, false, Bool, eqb, not}
 use Rattle.std.proofs.Math.Nat.{div-add-mod}
 use Rattle.std.proofs.lemmas.Bool.Decides.{nat_tests}
 use Rattle.std.proofs.lemmas.List.{get_or_default, get_or-set_same, get_or-set_other, length-take}
@@ -14,7 +15,8 @@ use Rattle.cell_store.specs.ShardState.{HasOutput, IsOfShard, IsStateAfter, Shar
 -- what is written to cell c with one access more
 written_then : (c : ℕ) (before : List Access) (a : Access) → written c (before ++ a ∷ []) ≡ written c before ++ wrote c a
 written_then c [] a = append-nil (wrote c a)
-written_then c (b ∷ before) a = ap (λ w. wrote c b ++ w) (written_then c before a) ∙ sym (append_assoc (wrote c b) (written c before) (wrote c a))
+written_then c (b ∷ before) a = ap (λ w. wrote c b ++ w) (written_then c before a)
+    ∙ sym (append_assoc (wrote c b) (written c before) (wrote c a))
 
 -- a read writes nothing, nor does an access to another cell
 wrote_nothing : (kind : AccessKind) (same : Bool) (v : ℤ) → (same ≡ true → kind ≡ Read) → wrote_as kind same v ≡ []
@@ -46,7 +48,8 @@ leaves_state store before a state h was = record {
   limit = was.limit;
   values = λ c there own. was.values c there own
       ∙ ap (value_from store c) (sym (unwritten c before a (λ e. h (subst (IsOfShard state.shard) (sym e) own))));
-  output = λ own. was.output own ∙ ap (take store.output_limit) (sym (unwritten 1 before a (λ e. h (subst (IsOfShard state.shard) (sym e) own))));
+  output = λ own. was.output own ∙ ap (take store.output_limit)
+      (sym (unwritten 1 before a (λ e. h (subst (IsOfShard state.shard) (sym e) own))));
 }
 
 -- what is stored at a cell's index is the value of the cell
@@ -110,31 +113,37 @@ take_then (suc n) (w ∷ vs) v = ap (λ l. w ∷ l) (take_then n vs v)
 output_then : (store : InitialStore) (before : List Access) (limit : ℕ) (output : List ℤ) (v : ℤ) → limit ≡ store.output_limit
     → output ≡ output_of store before → take limit (output ++ v ∷ []) ≡ take store.output_limit (written 1 before ++ v ∷ [])
 output_then store before limit output v e was =
-    ap (λ n. take n (output ++ v ∷ [])) e ∙ ap (λ l. take store.output_limit (l ++ v ∷ [])) was ∙ take_then store.output_limit (written 1 before) v
+    ap (λ n. take n (output ++ v ∷ [])) e ∙ ap (λ l. take store.output_limit (l ++ v ∷ [])) was
+    ∙ take_then store.output_limit (written 1 before) v
 
 -- a write to the output, whose value is then the number of emitted numbers
 writes_output : (store : InitialStore) (before : List Access) (state : ShardState) (output : List ℤ) (v : ℤ) → HasOutput state.shard
-    → 1 / state.shard.shards < length state.values → output ≡ take state.shard.output_limit (state.output ++ v ∷ []) → IsStateAfter store before state
+    → 1 / state.shard.shards < length state.values → output ≡ take state.shard.output_limit (state.output ++ v ∷ [])
+    → IsStateAfter store before state
     → IsStateAfter store (before ++ write_access 1 v ∷ [])
     (record state { values = set state.values (1 / state.shard.shards) (pos (length output)); output = output })
 writes_output store before state output v mine there e was =
     let vs = written 1 before in
     let emitted : output ≡ take store.output_limit (vs ++ v ∷ []) = e
     ∙ output_then store before state.shard.output_limit state.output v was.limit (was.output mine) in
-    let count : length output ≡ min store.output_limit (length (vs ++ v ∷ [])) = ap length emitted ∙ length-take store.output_limit (vs ++ v ∷ []) in
+    let count : length output ≡ min store.output_limit (length (vs ++ v ∷ [])) = ap length emitted
+    ∙ length-take store.output_limit (vs ++ v ∷ []) in
     record {
       cells = was.cells;
       limit = was.limit;
-      values = λ c within own. value_written store before state.values state.shard.shards c 1 v (pos (length output)) (1 == c) refl (mine ∙ sym own) there
+      values = λ c within own. value_written store before state.values state.shard.shards c 1 v (pos (length output)) (1 == c) refl
+          (mine ∙ sym own) there
           (λ _. ap pos (omega (arith, count))) (was.values c within own);
       output = λ own. emitted ∙ ap (take store.output_limit) (sym (written_last 1 before v));
     }
 
 -- the same, for a cell that is found to be the output and a value that is found to be the number
-pub writes_found_output : (store : InitialStore) (before : List Access) (state : ShardState) (output : List ℤ) (v : ℤ) (d : ℕ) (count : ℤ) → d ≡ 1
+pub writes_found_output : (store : InitialStore) (before : List Access) (state : ShardState) (output : List ℤ) (v : ℤ) (d : ℕ) (count : ℤ)
+    → d ≡ 1
     → count ≡ pos (length output) → IsOfShard state.shard d → d / state.shard.shards < length state.values
     → output ≡ take state.shard.output_limit (state.output ++ v ∷ []) → IsStateAfter store before state
-    → IsStateAfter store (before ++ write_access d v ∷ []) (record state { values = set state.values (d / state.shard.shards) count; output = output })
+    → IsStateAfter store (before ++ write_access d v ∷ [])
+    (record state { values = set state.values (d / state.shard.shards) count; output = output })
 writes_found_output store before state output v d count e n own there o was =
     rw (e, n) (writes_output store before state output v (rw e at own) (rw e at there) o was)
 

@@ -108,7 +108,8 @@ impl Cells {
     pub fn read(&self, cell: CellId) -> i64
         requires there { cell.0 < self.now.shard.cells }
         requires own { IsOfShard self.now.shard cell.0 }
-        ensures value { (store : InitialStore) (before : List Accessed) → IsStateAfter store before self.now → result ≡ value_after store before cell.0 }
+        ensures value { (store : InitialStore) (before : List Accessed) → IsStateAfter store before self.now
+            → result ≡ value_after store before cell.0 }
         ensures state { (store : InitialStore) (before : List Accessed) → IsStateAfter store before self.now
             → IsStateAfter store (before ++ read_access cell.0 result ∷ []) self.now }
     {

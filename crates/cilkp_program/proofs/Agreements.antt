@@ -20,7 +20,8 @@ without_race {tree} {input} (Some t) e a =
     let some : elision_trap tree input ≢ None = λ none. (let d : Some t ≡ None = e ∙ none in cc (d)) in
     Trapping free some (a.trapped.1 (free, some))
 
-verdict : {tree : SyntaxTree} {input : List ℤ} (reports : List Report) {status : ℕ} {text : List ℕ} → AgreesWithElision tree input reports status text
+verdict : {tree : SyntaxTree} {input : List ℤ} (reports : List Report) {status : ℕ} {text : List ℕ}
+    → AgreesWithElision tree input reports status text
     → Verdict tree input status
 verdict {tree} {input} [] a = without_race (elision_trap tree input) refl a
 verdict {tree} {input} (r ∷ rs) a =

@@ -38,7 +38,8 @@ use Rattle.cilkp_program.specs.ResultTable.{Benches}
 use Rattle.cilkp_program.specs.TakenText.{HasTaken}
 
 -- a generated source is loaded as a program
-pub source_is_accepted : (size : ℕ) (bytes : List ℕ) (source : Source) → 1 ≤ size → size ≤ MOST_SIZE → bytes ≡ source_text size → IsLoadOf bytes source
+pub source_is_accepted : (size : ℕ) (bytes : List ℕ) (source : Source) → 1 ≤ size → size ≤ MOST_SIZE → bytes ≡ source_text size
+    → IsLoadOf bytes source
     → ((checked : Program) (places : List ℤ) → source ≡ sources.Accepted checked places → ⊥) → ⊥
 source_is_accepted size bytes (sources.Accepted checked places) some few e loaded other = other checked places refl
 source_is_accepted size bytes (sources.Refused line) some few e loaded other =
@@ -46,7 +47,8 @@ source_is_accepted size bytes (sources.Refused line) some few e loaded other =
 source_is_accepted size bytes sources.Failed some few e loaded other = loaded
 
 -- a generated input is loaded as its numbers
-pub input_is_read : (seed size : ℕ) (bytes : List ℕ) (input : Input) → size ≤ MOST_SIZE → bytes ≡ input_text seed size → IsReadOf bytes input
+pub input_is_read : (seed size : ℕ) (bytes : List ℕ) (input : Input) → size ≤ MOST_SIZE → bytes ≡ input_text seed size
+    → IsReadOf bytes input
     → ((numbers : List ℤ) → input ≡ inputs.Accepted numbers → ⊥) → ⊥
 input_is_read seed size bytes (inputs.Accepted numbers) few e loaded other = other numbers refl
 input_is_read seed size bytes (inputs.Refused line) few e loaded other =
@@ -55,8 +57,10 @@ input_is_read seed size bytes inputs.Failed few e loaded other = loaded
 
 -- the loaded program and numbers are the generated ones
 pub is_generated : (seed size : ℕ) (source input : List ℕ) (checked : Program) (places numbers : List ℤ) → source ≡ source_text size
-    → input ≡ input_text seed size → IsLoadOf source (sources.Accepted checked places) → IsReadOf input (inputs.Accepted numbers) → IsGenerated seed size (tree_of checked) numbers
-is_generated seed size source input checked places numbers e f loaded read = record { program = rw e at loaded.accepted; read = rw f at read }
+    → input ≡ input_text seed size → IsLoadOf source (sources.Accepted checked places) → IsReadOf input (inputs.Accepted numbers)
+    → IsGenerated seed size (tree_of checked) numbers
+is_generated seed size source input checked places numbers e f loaded read =
+    record { program = rw e at loaded.accepted; read = rw f at read }
 
 -- a seed and a size have one program and one list of numbers
 pub one_workload : (seed size : ℕ) (tree other : SyntaxTree) (numbers others : List ℤ) → IsGenerated seed size tree numbers
@@ -81,7 +85,12 @@ counts_are_few tree numbers columns is few = rw (given_columns tree numbers colu
 pub measures_the_elision : (tree : SyntaxTree) (numbers : List ℤ) (columns : List Column) (workers : ℕ) (output : List ℤ) (m : Measured)
     → columns ≡ program_columns (whole_of tree numbers) → output ≡ elision_output tree numbers
     → m ≡ record { workers = workers; instances = instances_in (node_columns columns); last = last_or_zero output }
-    → m ≡ record { workers = workers; instances = instances_in (elision_columns tree numbers); last = last_or_zero (elision_output tree numbers) }
+    → m ≡ record {
+      workers = workers;
+      instances = instances_in (elision_columns tree numbers);
+      last =
+          last_or_zero (elision_output tree numbers);
+    }
 measures_the_elision tree numbers columns workers output m is same e =
     e ∙ λ i. record { workers = workers; instances = instances_in (given_columns tree numbers columns is i); last = last_or_zero (same i) }
 
@@ -89,8 +98,18 @@ measures_the_elision tree numbers columns workers output m is same e =
 pub summary_made : (seed size : ℕ) (tree : SyntaxTree) (numbers : List ℤ) (items : ℕ) (one eight : Measured)
     (made : Result (List ℕ) NoMemory)
     → IsGenerated seed size tree numbers → items ≡ length numbers
-    → one ≡ record { workers = 1; instances = instances_in (elision_columns tree numbers); last = last_or_zero (elision_output tree numbers) }
-    → eight ≡ record { workers = 8; instances = instances_in (elision_columns tree numbers); last = last_or_zero (elision_output tree numbers) }
+    → one ≡ record {
+      workers = 1;
+      instances = instances_in (elision_columns tree numbers);
+      last =
+          last_or_zero (elision_output tree numbers);
+    }
+    → eight ≡ record {
+      workers = 8;
+      instances = instances_in (elision_columns tree numbers);
+      last =
+          last_or_zero (elision_output tree numbers);
+    }
     → IfOk made (λ text. text ≡ summary_text items one.instances one.workers one.last eight.workers eight.last)
     → IfOk made (λ text. (other : SyntaxTree) (others : List ℤ) → IsGenerated seed size other others → text ≡ elision_summary other others)
 summary_made seed size tree numbers items one eight (Ok text) generated l w v is = λ other others g.
@@ -101,14 +120,16 @@ summary_made seed size tree numbers items one eight (Err m) generated l w v is =
 -- ---- the result of a call
 
 -- the result is the summary of this program and input
-record IsSummaryOf (tree : SyntaxTree) (numbers : List ℤ) (status : ℕ) (text : List ℕ) (log : Option RunLog) (reports : List Report) : Type 0 where
+record IsSummaryOf (tree : SyntaxTree) (numbers : List ℤ) (status : ℕ) (text : List ℕ) (log : Option RunLog)
+    (reports : List Report) : Type 0 where
   done : status ≡ 0
   text_is : text ≡ elision_summary tree numbers
   unlogged : log ≡ None
   silent : reports ≡ []
 
 -- the result of a `bench` call, whatever the files hold
-summary_outcome : {asked : Option Command} {holds : Option Content} {before now status : ℕ} {text : List ℕ} {log : Option RunLog} {reports : List Report}
+summary_outcome : {asked : Option Command} {holds : Option Content} {before now status : ℕ} {text : List ℕ} {log : Option RunLog}
+    {reports : List Report}
     (tree : SyntaxTree) (numbers : List ℤ) → IsToBench asked tree numbers → IsCallResult asked holds before now status text log reports
     → IsSummaryOf tree numbers status text log reports
 summary_outcome tree numbers a (OfRow same row) =
@@ -116,12 +137,15 @@ summary_outcome tree numbers a (OfRow same row) =
     record { done = one.0; text_is = one.1; unlogged = one.2; silent = one.3 }
 summary_outcome tree numbers a (SourceFault s grew rose w) = absurd (bench_has_no_source a.command w)
 summary_outcome tree numbers a (InputFault s i file other grew rose w v known of can) = absurd (bench_has_no_source a.command w)
-summary_outcome tree numbers a (RecordFault s i r file others other ns grew rose w v u known also of read) = absurd (bench_has_no_source a.command w)
+summary_outcome tree numbers a (RecordFault s i r file others other ns grew rose w v u known also of read) =
+    absurd (bench_has_no_source a.command w)
 
 -- a call whose text was written completely
-pub printed_summary : (asked : Option Command) (holds : Option Content) (before now status written : ℕ) (log : Option RunLog) (reports : List Report)
+pub printed_summary : (asked : Option Command) (holds : Option Content) (before now status written : ℕ) (log : Option RunLog)
+    (reports : List Report)
     (taken_before taken_now : Option (List ℕ)) → IsPrinted asked holds before now status written log reports taken_before taken_now
-    → (tree : SyntaxTree) (numbers : List ℤ) → IsToBench asked tree numbers → ReturnsSummary tree numbers status written log reports taken_before taken_now
+    → (tree : SyntaxTree) (numbers : List ℤ) → IsToBench asked tree numbers → ReturnsSummary tree numbers status written log reports
+    taken_before taken_now
 printed_summary asked holds before now status written log reports taken_before taken_now printed tree numbers a =
     let h = summary_outcome tree numbers a printed.outcome in
     record {

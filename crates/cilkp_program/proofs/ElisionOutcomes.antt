@@ -8,7 +8,8 @@ use Rattle.pipe_model.specs.Texts.{trap_lines}
 use Rattle.pipe_model.proofs.Members.{none_among}
 use Rattle.dag_build.proofs.FirstRaceLaws.{first_races_are_right, no_report_is_race_free}
 use Rattle.cilkp_program.specs.Headline.{AgreesWithElision, IsRunStatus}
-use Rattle.cilkp_program.specs.SerialResults.{ElisionHasNoRace, ElisionResult, Races, Finishes, Traps, elision_accesses, elision_columns, elision_output_text, elision_trap}
+use Rattle.cilkp_program.specs.SerialResults.{ElisionHasNoRace, ElisionResult, Races, Finishes, Traps, elision_accesses, elision_columns}
+use Rattle.cilkp_program.specs.SerialResults.{elision_output_text, elision_trap}
 
 -- the status of a program that was run
 pub outcome_status : {tree : SyntaxTree} {input : List ℤ} {status : ℕ} {text : List ℕ} {reports : List Report}
@@ -18,7 +19,8 @@ outcome_status (Finishes free ends) = inl refl
 outcome_status (Traps t free ends) = inr (inr refl)
 
 -- if the elision has no race, the empty list of reports is right
-none_are_right : (tree : SyntaxTree) (input : List ℤ) → ElisionHasNoRace tree input → AreRight (elision_columns tree input) (elision_accesses tree input) []
+none_are_right : (tree : SyntaxTree) (input : List ℤ) → ElisionHasNoRace tree input → AreRight (elision_columns tree input)
+    (elision_accesses tree input) []
 none_are_right tree input free = record {
   name = λ r among. absurd (none_among r among);
   all = λ a b race. absurd (free a b race);
@@ -26,9 +28,11 @@ none_are_right tree input free = record {
 }
 
 -- the reports are right for the elision's own dag
-pub outcome_is_right : {tree : SyntaxTree} {input : List ℤ} {status : ℕ} {text : List ℕ} {reports : List Report} → ElisionResult tree input status text reports
+pub outcome_is_right : {tree : SyntaxTree} {input : List ℤ} {status : ℕ} {text : List ℕ} {reports : List Report}
+    → ElisionResult tree input status text reports
     → AreRight (elision_columns tree input) (elision_accesses tree input) reports
-outcome_is_right {tree} {input} (Races reports some first) = first_races_are_right (elision_columns tree input) (elision_accesses tree input) reports first
+outcome_is_right {tree} {input} (Races reports some first) = first_races_are_right (elision_columns tree input)
+    (elision_accesses tree input) reports first
 outcome_is_right {tree} {input} (Finishes free ends) = none_are_right tree input free
 outcome_is_right {tree} {input} (Traps t free ends) = none_are_right tree input free
 
@@ -37,7 +41,8 @@ traps : (tree : SyntaxTree) (input : List ℤ) (at : TrapAt) → elision_trap tr
 traps tree input at some none = let d : None ≡ Some at = sym none ∙ some in cc (d)
 
 -- whether there are reports, the status and the text are as the elision says
-pub outcome_agrees : {tree : SyntaxTree} {input : List ℤ} {status : ℕ} {text : List ℕ} {reports : List Report} → ElisionResult tree input status text reports
+pub outcome_agrees : {tree : SyntaxTree} {input : List ℤ} {status : ℕ} {text : List ℕ} {reports : List Report}
+    → ElisionResult tree input status text reports
     → AgreesWithElision tree input reports status text
 outcome_agrees {tree} {input} (Races reports some first) = record {
   silent = no_report_is_race_free (elision_columns tree input) (elision_accesses tree input) reports first;

@@ -25,12 +25,15 @@ record IsTextOf (tree : SyntaxTree) (status : ℕ) (text : List ℕ) (log : Opti
 -- the row of such a call
 text_row : {asked : Option Command} {held : FileContents} {status : ℕ} {text : List ℕ} {log : Option RunLog} {reports : List Report}
     (tree : SyntaxTree) (source : List ℕ)
-    → asked ≡ Some (Format source) → IsSourceOf held.source tree → ResultRow asked held status text log reports → IsTextOf tree status text log reports
+    → asked ≡ Some (Format source) → IsSourceOf held.source tree → ResultRow asked held status text log reports
+    → IsTextOf tree status text log reports
 text_row tree source w s row =
-    let one = one_row (format_asks_no_run w) row (Formats source tree w s) in record { done = one.0; text_is = one.1; not_run = one.2; silent = one.3 }
+    let one = one_row (format_asks_no_run w) row (Formats source tree w s) in
+    record { done = one.0; text_is = one.1; not_run = one.2; silent = one.3 }
 
 -- the result of a call that prints an accepted program, if no read failed
-text_outcome : {asked : Option Command} {content : Content} {before now status : ℕ} {text : List ℕ} {log : Option RunLog} {reports : List Report}
+text_outcome : {asked : Option Command} {content : Content} {before now status : ℕ} {text : List ℕ} {log : Option RunLog}
+    {reports : List Report}
     (tree : SyntaxTree)
     → ¬ (CountRose before now) → IsToFormat asked content tree → IsCallResult asked (Some content) before now status text log reports
     → IsTextOf tree status text log reports
@@ -41,9 +44,12 @@ text_outcome tree calm a (InputFault s i file other grew rose w v known of can) 
 text_outcome tree calm a (RecordFault s i r file others other ns grew rose w v u known also of read) = absurd (calm rose)
 
 -- a call whose text was written completely
-pub text_printed : (asked : Option Command) (holds : Option Content) (before now status written : ℕ) (log : Option RunLog) (reports : List Report)
-    (taken_before taken_now : Option (List ℕ)) → ¬ (CountRose before now) → IsPrinted asked holds before now status written log reports taken_before taken_now
-    → IfSome holds (λ content. (tree : SyntaxTree) → IsToFormat asked content tree → ReturnsText tree status written log reports taken_before taken_now)
+pub text_printed : (asked : Option Command) (holds : Option Content) (before now status written : ℕ) (log : Option RunLog)
+    (reports : List Report)
+    (taken_before taken_now : Option (List ℕ)) → ¬ (CountRose before now) → IsPrinted asked holds before now status written log reports
+    taken_before taken_now
+    → IfSome holds (λ content. (tree : SyntaxTree) → IsToFormat asked content tree → ReturnsText tree status written log reports
+    taken_before taken_now)
 text_printed asked None before now status written log reports taken_before taken_now calm printed = tt
 text_printed asked (Some content) before now status written log reports taken_before taken_now calm printed = λ tree a. (
     let h = text_outcome tree calm a printed.outcome in

@@ -10,7 +10,8 @@ use Rattle.pipe_io.specs.declared.whole.WriteEnd.{WriteEnd}
 use Rattle.pipe_io.specs.declared.whole.WriteEnd.TheVariants as ends
 
 -- a text that was written completely was printed
-pub text_whole : (asked : Option Command) (holds : Option Content) (before now status written : ℕ) (text : List ℕ) (log : Option RunLog) (reports : List Report)
+pub text_whole : (asked : Option Command) (holds : Option Content) (before now status written : ℕ) (text : List ℕ) (log : Option RunLog)
+    (reports : List Report)
     (taken_before taken_now : Option (List ℕ)) → IsCallResult asked holds before now status text log reports → written ≡ length text
     → HasTaken written text taken_before taken_now
     → IsPrinted asked holds before now status written log reports taken_before taken_now
@@ -21,7 +22,8 @@ text_whole asked holds before now status written text log reports taken_before t
 pub text_cut_short : (asked : Option Command) (holds : Option Content) (before now status written : ℕ) (text : List ℕ) (log : Option RunLog)
     (reports : List Report)
     (taken_before taken_now : Option (List ℕ)) (end : WriteEnd) → IsCallResult asked holds before now status text log reports
-    → written ≤ length text → ((end ≡ ends.Whole) ↔ (written ≡ length text)) → end ≢ ends.Whole → HasTaken written text taken_before taken_now
+    → written ≤ length text → ((end ≡ ends.Whole) ↔ (written ≡ length text)) → end ≢ ends.Whole
+    → HasTaken written text taken_before taken_now
     → IsCutShort asked holds before now written log reports taken_before taken_now
 text_cut_short asked holds before now status written text log reports taken_before taken_now end outcome within whole cut taken = record {
   status = status;
@@ -32,7 +34,8 @@ text_cut_short asked holds before now status written text log reports taken_befo
 }
 
 -- a call whose text is cut short by out of memory
-pub given_up_writing : (asked : Option Command) (holds : Option Content) (before now written : ℕ) (log : Option RunLog) (reports : List Report)
+pub given_up_writing : (asked : Option Command) (holds : Option Content) (before now written : ℕ) (log : Option RunLog)
+    (reports : List Report)
     (taken_before taken_now : Option (List ℕ)) → IsCutShort asked holds before now written log reports taken_before taken_now
     → IsGivenUp asked holds before now taken_before taken_now
 given_up_writing asked holds before now written log reports taken_before taken_now cut = inr (written, log, reports, cut)

@@ -15,7 +15,12 @@ use Rattle.pipe_model.specs.Runs.WholeProgramRuns.{ProgramRun, NoLoop, OfLoop}
 use Rattle.cilkp_program.specs.Headline.{MeetsHeadline}
 
 control_allows_more : (limit more : ℕ) (s : State) → limit ≤ more → (e : Event) → ControlAllows limit s e → ControlAllows more s e
-control_allows_more limit more s le (Begin i) h = record { number = h.number; room = (let l = h.room in omega (arith, l, le)); follows = h.follows }
+control_allows_more limit more s le (Begin i) h = record {
+  number = h.number;
+  room = (let l = h.room in omega (arith, l, le));
+  follows =
+      h.follows;
+}
 control_allows_more limit more s le (Access i a) h = h
 control_allows_more limit more s le (Advance i k n) h = h
 control_allows_more limit more s le (Enter i) h = h

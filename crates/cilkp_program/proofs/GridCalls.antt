@@ -24,11 +24,13 @@ use Rattle.cilkp_program.specs.CommandFiles.{asks_record, asks_wave, program_by}
 use Rattle.cilkp_program.specs.Headline.{AgreesWithElision, MeetsHeadline}
 use Rattle.cilkp_program.specs.ProgramFiles.{FileContents, IsSourceOf}
 use Rattle.cilkp_program.specs.RecordedRuns.{IsRecordedRun}
-use Rattle.cilkp_program.specs.ResultTable.{IsLogOf, OfPlay, OfRun, OfWave, ResultRow, NoCommand, SourceRefused, Formats, Benches, WaveRefused, InputRefused, Runs, RunsSerially, ChecksRecord, Weighs}
+use Rattle.cilkp_program.specs.ResultTable.{IsLogOf, OfPlay, OfRun, OfWave, ResultRow, NoCommand, SourceRefused, Formats, Benches}
+use Rattle.cilkp_program.specs.ResultTable.{WaveRefused, InputRefused, Runs, RunsSerially, ChecksRecord, Weighs}
 use Rattle.cilkp_program.specs.WaveCalls.{AgreesWithGrid, IsToRunWave, ReturnsGrid}
 
 -- what agrees with the elision of the lowered program agrees with the grid
-agrees_with_grid : (tree : SyntaxTree) (numbers : List ℤ) (reports : List Report) {status : ℕ} {text : List ℕ} → IsWave tree → BreaksNoRule tree
+agrees_with_grid : (tree : SyntaxTree) (numbers : List ℤ) (reports : List Report) {status : ℕ} {text : List ℕ} → IsWave tree
+    → BreaksNoRule tree
     → AgreesWithElision (lowered tree) numbers reports status text → AgreesWithGrid tree numbers reports status text
 agrees_with_grid tree numbers reports wave obeys h =
     let grid = lowered_waves_are_grids tree numbers wave obeys in
@@ -49,17 +51,20 @@ agrees_with_grid tree numbers reports wave obeys h =
     }
 
 -- the result describes a run of the lowered program
-record IsGridRun (tree : SyntaxTree) (numbers : List ℤ) (limit status : ℕ) (text : List ℕ) (run_log : Option RunLog) (reports : List Report) : Type 0 where
+record IsGridRun (tree : SyntaxTree) (numbers : List ℤ) (limit status : ℕ) (text : List ℕ) (run_log : Option RunLog)
+    (reports : List Report) : Type 0 where
   log : RunLog
   logged : run_log ≡ Some log
   meets : MeetsHeadline (lowered tree) numbers limit log reports status text
 
 -- the limit of a `wave` command
-wave_limit : {asked : Option Command} {tree : SyntaxTree} {numbers : List ℤ} {throttle limit workers : ℕ} {source input : List ℕ} {log : RunLog}
+wave_limit : {asked : Option Command} {tree : SyntaxTree} {numbers : List ℤ} {throttle limit workers : ℕ} {source input : List ℕ}
+    {log : RunLog}
     → IsLogOf asked tree numbers throttle log → asked ≡ Some (Wave source input workers limit) → throttle ≡ limit
 wave_limit (OfRun source input workers recording w) v = absurd (apart w v (λ e. cc (e)))
 wave_limit (OfPlay source input workers seed recording w is) v = absurd (apart w v (λ e. cc (e)))
-wave_limit {throttle = throttle} {limit = limit} {workers = workers} {source = source} {input = input} (OfWave source' input' workers' w fits) v =
+wave_limit {throttle = throttle} {limit = limit} {workers = workers} {source = source} {input = input}
+    (OfWave source' input' workers' w fits) v =
     let e : Wave source' input' workers' throttle ≡ Wave source input workers limit = one_command w v in cc (e)
 
 obeys_rules : {file : Option (List ℕ)} (tree : SyntaxTree) → IsSourceOf file tree → BreaksNoRule tree
@@ -74,7 +79,8 @@ grid_row tree numbers limit a s i (SourceRefused source w r) = absurd (refused_n
 grid_row tree numbers limit a s i (Formats source other w o) = absurd (apart a.command w (λ e. cc (e)))
 grid_row tree numbers limit a s i (Benches seed size other others w g) = absurd (apart a.command w (λ e. cc (e)))
 grid_row tree numbers limit a s i (WaveRefused source input workers throttle other w o r) =
-    absurd (refused_no_wave other tree (one_source other tree o (rw (← s) a.program)) (waves_have_no_fault tree a.wave (obeys_rules tree a.program)) r)
+    absurd (refused_no_wave other tree (one_source other tree o (rw (← s) a.program))
+    (waves_have_no_fault tree a.wave (obeys_rules tree a.program)) r)
 grid_row tree numbers limit a s i (InputRefused input other w o can r) = absurd (refused_no_input numbers r (rw (← i) a.read))
 grid_row {asked} {status = status} {text = text} {reports = reports} tree numbers limit a s i (Runs throttle log other others w o m found) =
     let same : other ≡ tree = one_source other tree o.program (rw (← s) a.program) in
@@ -99,9 +105,11 @@ grid_row tree numbers limit a s i (ChecksRecord source input saved throttle othe
 grid_row tree numbers limit a s i (Weighs source input other others w o r) = absurd (apart a.command w (λ e. cc (e)))
 
 -- the result of a call that runs a wave loop, if no read failed
-grid_result : {asked : Option Command} {content : Content} {before now status : ℕ} {text : List ℕ} {log : Option RunLog} {reports : List Report}
+grid_result : {asked : Option Command} {content : Content} {before now status : ℕ} {text : List ℕ} {log : Option RunLog}
+    {reports : List Report}
     (tree : SyntaxTree) (numbers : List ℤ) (limit : ℕ)
-    → ¬ (CountRose before now) → IsToRunWave asked content tree numbers limit → IsCallResult asked (Some content) before now status text log reports
+    → ¬ (CountRose before now) → IsToRunWave asked content tree numbers limit → IsCallResult asked
+    (Some content) before now status text log reports
     → IsGridRun tree numbers limit status text log reports
 grid_result tree numbers limit calm a (OfRow same row) =
     grid_row tree numbers limit a (row.known.source a.source (rw a.command refl)) (row.known.input a.input (rw a.command refl)) row.row
@@ -110,8 +118,10 @@ grid_result tree numbers limit calm a (InputFault s i file other grew rose w v k
 grid_result tree numbers limit calm a (RecordFault s i r file others other ns grew rose w v u known also of read) = absurd (calm rose)
 
 -- a call whose text was written completely
-pub printed_grid : (asked : Option Command) (holds : Option Content) (before now status written : ℕ) (log : Option RunLog) (reports : List Report)
-    (taken_before taken_now : Option (List ℕ)) → ¬ (CountRose before now) → IsPrinted asked holds before now status written log reports taken_before taken_now
+pub printed_grid : (asked : Option Command) (holds : Option Content) (before now status written : ℕ) (log : Option RunLog)
+    (reports : List Report)
+    (taken_before taken_now : Option (List ℕ)) → ¬ (CountRose before now) → IsPrinted asked holds before now status written log reports
+    taken_before taken_now
     → IfSome holds (λ content. (tree : SyntaxTree) (numbers : List ℤ) (limit : ℕ) → IsToRunWave asked content tree numbers limit
     → ReturnsGrid tree numbers limit status written log reports taken_before taken_now)
 printed_grid asked None before now status written log reports taken_before taken_now calm printed = tt

@@ -1,6 +1,7 @@
 -- A row that runs a program meets the headline.
 use Rattle.pipe_model.specs.Language.CheckingRules.{BreaksNoRule}
-use Rattle.std.proofs.Common.{◌≡◌, ◌≢◌, ◌≤◌, ◌∙◌, ◌↔◌, ◌++◌, Bool, ℕ, ℤ, List, [], Option, Some, None, IfSome, append-nil, ap, arith, refl, subst, sym}
+use Rattle.std.proofs.Common.{◌≡◌, ◌≢◌, ◌≤◌, ◌∙◌, ◌↔◌, ◌++◌, Bool, ℕ, ℤ, List, [], Option, Some, None, IfSome, append-nil, ap, arith, refl}
+use Rattle.std.proofs.Common.{subst, sym}
 use Rattle.pipe_model.specs.declared.event.RunLog.{RunLog}
 use Rattle.pipe_model.specs.declared.report.Report.{Report}
 use Rattle.pipe_model.specs.Language.SyntaxTree.{SyntaxTree}
@@ -27,12 +28,15 @@ use Rattle.cilkp_program.specs.declared.program_run.FinishedRun.{FinishedRun}
 use Rattle.cilkp_program.specs.RecordedRuns.{IsRecordedRun, ReturnsRun, recorded}
 use Rattle.cilkp_program.specs.RunResults.{HasRun, IsFinishedRunOf}
 use Rattle.cilkp_program.specs.ProgramFiles.{FileContents}
-use Rattle.cilkp_program.specs.ResultTable.{ResultRow, NoCommand, SourceRefused, Formats, Benches, WaveRefused, InputRefused, Runs, RunsSerially, ChecksRecord, Weighs}
+use Rattle.cilkp_program.specs.ResultTable.{ResultRow, NoCommand, SourceRefused, Formats, Benches, WaveRefused, InputRefused, Runs}
+use Rattle.cilkp_program.specs.ResultTable.{RunsSerially, ChecksRecord, Weighs}
 use Rattle.cilkp_program.specs.SerialResults.{ElisionHasNoRace, elision_output, elision_trap}
 
--- what is printed for the elision's output and trap, or for reports that are there exactly if the elision has a race, agrees with the elision
+-- what is printed for the elision's output and trap, or for reports that are there exactly if the elision has a race, agrees with the
+-- elision
 printed_agrees : (tree : SyntaxTree) (numbers output : List ℤ) (trap : Option TrapAt) (reports : List Report) {status : ℕ} {text : List ℕ}
-    → (reports ≡ []) ↔ ElisionHasNoRace tree numbers → (reports ≡ [] → output ≡ elision_output tree numbers) → (reports ≡ [] → trap ≡ elision_trap tree numbers)
+    → (reports ≡ []) ↔ ElisionHasNoRace tree numbers → (reports ≡ [] → output ≡ elision_output tree numbers)
+    → (reports ≡ [] → trap ≡ elision_trap tree numbers)
     → IsPrintedAs tree.cells output trap reports status text → AgreesWithElision tree numbers reports status text
 printed_agrees tree numbers output trap reports silent o t (WithRaces some) =
     let racy : ElisionHasNoRace tree numbers → ⊥ = λ free. some (silent.1 free) in
@@ -78,33 +82,45 @@ pub run_meets : (tree : SyntaxTree) (numbers : List ℤ) (limit : ℕ) (log : Ru
     → IsPrintedAs tree.cells output trap reports status text → MeetsHeadline tree numbers limit log reports status text
 run_meets tree numbers limit log output trap reports form run throttled right o t printed =
     let whole = runs_meet_the_headline tree numbers limit log reports [] form run right in
-    record { run = run; reported = right; agrees = printed_agrees tree numbers output trap reports whole.silent o t printed; throttled = throttled }
+    record {
+      run = run;
+      reported = right;
+      agrees = printed_agrees tree numbers output trap reports whole.silent o t printed;
+      throttled =
+          throttled;
+    }
 
 -- the result of a call that makes a finished run of the program and prints it
-pub run_returned : (tree : SyntaxTree) (input : List ℤ) (throttle : ℕ) (recording : Bool) (run : FinishedRun) (status : ℕ) (printed text : List ℕ)
+pub run_returned : (tree : SyntaxTree) (input : List ℤ) (throttle : ℕ) (recording : Bool) (run : FinishedRun) (status : ℕ)
+    (printed text : List ℕ)
     → BreaksNoRule tree → IsFinishedRunOf tree input throttle run
     → IsPrintedAs tree.cells run.output run.trap run.reports status printed → text ≡ recorded recording tree.cells run.run_log printed
-    → HasRun tree input throttle recording run.run_log (record { status = status; text = text; run_log = Some run.run_log; reports = run.reports })
+    → HasRun tree input throttle recording run.run_log
+    (record { status = status; text = text; run_log = Some run.run_log; reports = run.reports })
 run_returned tree input throttle recording run status printed text accepted h as_printed is = record {
   logged = refl;
   meets = record {
     outcome = printed;
     text_is = is;
-    meets = run_meets tree input throttle run.run_log run.output run.trap run.reports accepted h.run h.throttled h.right h.output h.trap as_printed;
+    meets = run_meets tree input throttle run.run_log run.output run.trap run.reports accepted h.run h.throttled h.right h.output h.trap
+        as_printed;
   };
   found = h.found;
 }
 
 -- the result describes a run of the program
-record IsRunOf (recording : Bool) (tree : SyntaxTree) (numbers : List ℤ) (limit status : ℕ) (text : List ℕ) (run_log : Option RunLog) (reports : List Report)
+record IsRunOf (recording : Bool) (tree : SyntaxTree) (numbers : List ℤ) (limit status : ℕ) (text : List ℕ) (run_log : Option RunLog)
+    (reports : List Report)
     : Type 0 where
   log : RunLog
   logged : run_log ≡ Some log
   meets : IsRecordedRun recording tree numbers limit log reports status text
 
 -- what meets the headline under a limit meets it under a greater one
-recorded_more : {recording : Bool} {tree : SyntaxTree} {numbers : List ℤ} (limit more : ℕ) {log : RunLog} {reports : List Report} {status : ℕ} {text : List ℕ}
-    → limit ≤ more → IsRecordedRun recording tree numbers limit log reports status text → IsRecordedRun recording tree numbers more log reports status text
+recorded_more : {recording : Bool} {tree : SyntaxTree} {numbers : List ℤ} (limit more : ℕ) {log : RunLog} {reports : List Report}
+    {status : ℕ} {text : List ℕ}
+    → limit ≤ more → IsRecordedRun recording tree numbers limit log reports status text → IsRecordedRun recording tree numbers more log
+    reports status text
 recorded_more limit more le h = record { outcome = h.outcome; text_is = h.text_is; meets = meets_more limit more le h.meets }
 
 accepted_row : {asked : Option Command} {content : Content} {held : FileContents} {status : ℕ} {text : List ℕ} {log : Option RunLog}
@@ -117,12 +133,14 @@ accepted_row tree numbers limit a s i (Formats source other w o) = absurd (runs_
 accepted_row tree numbers limit a s i (Benches seed size other others w g) = absurd (runs_nothing w refl a.runs)
 accepted_row tree numbers limit a s i (WaveRefused source input workers throttle other w o r) = absurd (runs_nothing w refl a.runs)
 accepted_row tree numbers limit a s i (InputRefused input other w o can r) = absurd (refused_no_input numbers r (rw (← i) a.read))
-accepted_row {asked} {status = status} {text = text} {reports = reports} tree numbers limit a s i (Runs throttle log other others w o m found) =
+accepted_row {asked} {status = status} {text = text} {reports = reports} tree numbers limit a s i
+    (Runs throttle log other others w o m found) =
     let same : other ≡ tree = one_source other tree o.program (rw (← s) a.program) in
     let also : others ≡ numbers = one_input others numbers o.read (rw (← i) a.read) in
     let bound : throttle ≡ a.throttle = one_limit w a.runs in
     let within = a.within in
-    let plain : program_by (asks_wave asked) other ≡ tree = ap (λ wave. program_by wave other) (runs_no_wave asked a.throttle a.runs) ∙ same in
+    let plain : program_by (asks_wave asked) other ≡ tree = ap (λ wave. program_by wave other) (runs_no_wave asked a.throttle a.runs)
+    ∙ same in
     let made : IsRecordedRun (asks_record asked) tree numbers throttle log reports status text =
     subst (λ t. IsRecordedRun (asks_record asked) t numbers throttle log reports status text) plain
     (subst (λ n. IsRecordedRun (asks_record asked) (program_by (asks_wave asked) other) n throttle log reports status text) also m) in
@@ -132,9 +150,11 @@ accepted_row tree numbers limit a s i (ChecksRecord source input saved throttle 
 accepted_row tree numbers limit a s i (Weighs source input other others w o r) = absurd (runs_nothing w refl a.runs)
 
 -- the result of a call that runs an accepted program, if no read failed
-result_meets : {asked : Option Command} {content : Content} {before now status : ℕ} {text : List ℕ} {log : Option RunLog} {reports : List Report}
+result_meets : {asked : Option Command} {content : Content} {before now status : ℕ} {text : List ℕ} {log : Option RunLog}
+    {reports : List Report}
     (tree : SyntaxTree) (numbers : List ℤ) (limit : ℕ)
-    → ¬ (CountRose before now) → IsToRun asked content tree numbers limit → IsCallResult asked (Some content) before now status text log reports
+    → ¬ (CountRose before now) → IsToRun asked content tree numbers limit → IsCallResult asked
+    (Some content) before now status text log reports
     → IsRunOf (asks_record asked) tree numbers limit status text log reports
 result_meets tree numbers limit calm a (OfRow same row) =
     accepted_row tree numbers limit a (row.known.source a.source a.names_source) (row.known.input a.input a.names_input) row.row
@@ -143,8 +163,10 @@ result_meets tree numbers limit calm a (InputFault s i file other grew rose w v 
 result_meets tree numbers limit calm a (RecordFault s i r file others other ns grew rose w v u known also of read) = absurd (calm rose)
 
 -- the headline of a call whose text was written completely
-pub printed_meets : (asked : Option Command) (holds : Option Content) (before now status written : ℕ) (log : Option RunLog) (reports : List Report)
-    (taken_before taken_now : Option (List ℕ)) → ¬ (CountRose before now) → IsPrinted asked holds before now status written log reports taken_before taken_now
+pub printed_meets : (asked : Option Command) (holds : Option Content) (before now status written : ℕ) (log : Option RunLog)
+    (reports : List Report)
+    (taken_before taken_now : Option (List ℕ)) → ¬ (CountRose before now) → IsPrinted asked holds before now status written log reports
+    taken_before taken_now
     → IfSome holds (λ content. (tree : SyntaxTree) (numbers : List ℤ) (limit : ℕ) → IsToRun asked content tree numbers limit
     → ReturnsRun (asks_record asked) tree numbers limit status written log reports taken_before taken_now)
 printed_meets asked None before now status written log reports taken_before taken_now calm printed = tt

@@ -18,7 +18,8 @@ use Rattle.pipe_io.specs.declared.whole.Whole.TheVariants as whole
 use Rattle.pipe_io.specs.Reads.{Content}
 use Rattle.cilkp_program.specs.ProgramFiles.{InputRefusal, InputMissing, IsSourceOf, NoNumbers, SourceRefusal, SourceMissing, NotAccepted}
 use Rattle.pipe_model.specs.Language.SyntaxTree.{SyntaxTree}
-use Rattle.cilkp_program.specs.LoadedFiles.{AreFaulty, IsInputFrom, IsMarkedSource, IsInputResult, IsLoadOf, IsReadOf, IsSourceFrom, IsSourceResult}
+use Rattle.cilkp_program.specs.LoadedFiles.{AreFaulty, IsInputFrom, IsMarkedSource, IsInputResult, IsLoadOf, IsReadOf, IsSourceFrom}
+use Rattle.cilkp_program.specs.LoadedFiles.{IsSourceResult}
 use Rattle.cilkp_program.specs.declared.load.Input.{Input}
 use Rattle.cilkp_program.specs.declared.load.Input.TheVariants as loaded
 use Rattle.cilkp_program.specs.declared.load.Source.{Source}
@@ -45,7 +46,8 @@ of_file None name limit outcome up h = let f = some_file limit outcome up in rec
 of_file (Some content) name limit outcome up h = record { file = content name; known = refl; is = h }
 
 -- a source with the offsets of its marks is a source
-pub source_of_marked : {file : Option (List ℕ)} {tree : SyntaxTree} {places : List ℤ} → IsMarkedSource file tree places → IsSourceOf file tree
+pub source_of_marked : {file : Option (List ℕ)} {tree : SyntaxTree} {places : List ℤ} → IsMarkedSource file tree places
+    → IsSourceOf file tree
 source_of_marked s = record { bytes = s.bytes; held = s.held; accepted = s.marked.accepted }
 
 -- the file is missing
@@ -83,11 +85,13 @@ file_result file name bytes limit sources.Failed h g = absurd g
 pub source_outcome : (holds : Option Content) (name : List ℕ) (limit : ℕ) (bytes : List ℕ) (r : Result Source NoMemory)
     → IsOfFile holds name limit (whole.Bytes bytes)
     → IfOk r (λ source. IsLoadOf bytes source) → IfOk r (λ source. IsSourceResult holds name source)
-source_outcome holds name limit bytes (Ok source) f g = record { file = f.file; known = f.known; result_is = file_result f.file name bytes limit source f.is g }
+source_outcome holds name limit bytes (Ok source) f g =
+    record { file = f.file; known = f.known; result_is = file_result f.file name bytes limit source f.is g }
 source_outcome holds name limit bytes (Err m) f g = g
 
 -- the lexer refuses the first bytes of a source that is too long, so the source is refused
-prefix_result : (file : Option (List ℕ)) (name bytes : List ℕ) (source : Source) → IsWholeOf file LONGEST_SOURCE (whole.TooLong bytes) → IsLoadOf bytes source
+prefix_result : (file : Option (List ℕ)) (name bytes : List ℕ) (source : Source) → IsWholeOf file LONGEST_SOURCE (whole.TooLong bytes)
+    → IsLoadOf bytes source
     → IsSourceFrom name file source
 prefix_result file name bytes (sources.Accepted checked places) h g =
     let f = too_long_is_held file LONGEST_SOURCE bytes h in
@@ -100,9 +104,11 @@ prefix_result file name bytes (sources.Refused line) h g =
 prefix_result file name bytes sources.Failed h g = absurd g
 
 -- the result of loading a source that is too long
-pub long_source_outcome : (holds : Option Content) (name bytes : List ℕ) (r : Result Source NoMemory) → IsOfFile holds name LONGEST_SOURCE (whole.TooLong bytes)
+pub long_source_outcome : (holds : Option Content) (name bytes : List ℕ) (r : Result Source NoMemory)
+    → IsOfFile holds name LONGEST_SOURCE (whole.TooLong bytes)
     → IfOk r (λ source. IsLoadOf bytes source) → IfOk r (λ source. IsSourceResult holds name source)
-long_source_outcome holds name bytes (Ok source) f g = record { file = f.file; known = f.known; result_is = prefix_result f.file name bytes source f.is g }
+long_source_outcome holds name bytes (Ok source) f g =
+    record { file = f.file; known = f.known; result_is = prefix_result f.file name bytes source f.is g }
 long_source_outcome holds name bytes (Err m) f g = g
 
 -- an input that is missing is refused
@@ -119,7 +125,8 @@ input_is_too_long file name line bytes e h =
 -- loading a file gives the same result as loading its bytes
 input_result : (file : Option (List ℕ)) (name bytes : List ℕ) (limit : ℕ) (input : Input) → IsWholeOf file limit (whole.Bytes bytes)
     → IsReadOf bytes input → IsInputFrom name file input
-input_result file name bytes limit (loaded.Accepted numbers) h g = record { bytes = bytes; held = bytes_are_held file limit bytes h; read = g }
+input_result file name bytes limit (loaded.Accepted numbers) h g =
+    record { bytes = bytes; held = bytes_are_held file limit bytes h; read = g }
 input_result file name bytes limit (loaded.Refused line) h g =
     rw g.line_is (NoNumbers bytes g.fault (bytes_are_held file limit bytes h) g.faulty)
 input_result file name bytes limit loaded.Failed h g = absurd g
@@ -128,11 +135,13 @@ input_result file name bytes limit loaded.Failed h g = absurd g
 pub input_outcome : (holds : Option Content) (name : List ℕ) (limit : ℕ) (bytes : List ℕ) (r : Result Input NoMemory)
     → IsOfFile holds name limit (whole.Bytes bytes)
     → IfOk r (λ input. IsReadOf bytes input) → IfOk r (λ input. IsInputResult holds name input)
-input_outcome holds name limit bytes (Ok input) f g = record { file = f.file; known = f.known; result_is = input_result f.file name bytes limit input f.is g }
+input_outcome holds name limit bytes (Ok input) f g =
+    record { file = f.file; known = f.known; result_is = input_result f.file name bytes limit input f.is g }
 input_outcome holds name limit bytes (Err m) f g = g
 
 -- a fault of an input
-pub input_faulty : (bytes : List ℕ) (fault : InputFault) (line : List ℕ) → IsFaultOf bytes fault → IsInputLine fault line → AreFaulty bytes line
+pub input_faulty : (bytes : List ℕ) (fault : InputFault) (line : List ℕ) → IsFaultOf bytes fault → IsInputLine fault line
+    → AreFaulty bytes line
 input_faulty bytes (inputs.BadByte place) line h e = record { fault = inputs.BadByte place; faulty = h; line_is = e }
 input_faulty bytes (inputs.TooWide place) line h e = record { fault = inputs.TooWide place; faulty = h; line_is = e }
 input_faulty bytes (inputs.TooMany place) line h e = record { fault = inputs.TooMany place; faulty = h; line_is = e }

@@ -11,7 +11,8 @@ pub one_command : {asked : Option Command} {c d : Command} → asked ≡ Some c 
 one_command {asked} {c} {d} w v = let e : Some c ≡ Some d = sym w ∙ v in cc (e)
 
 -- a command that makes a run is not a `serial` command
-pub run_is_not_serial : {asked : Option Command} {tree : SyntaxTree} {numbers : List ℤ} {throttle : ℕ} {log : RunLog} {other other_input : List ℕ}
+pub run_is_not_serial : {asked : Option Command} {tree : SyntaxTree} {numbers : List ℤ} {throttle : ℕ} {log : RunLog}
+    {other other_input : List ℕ}
     → IsLogOf asked tree numbers throttle log → asked ≡ Some (Serial other other_input) → ⊥
 run_is_not_serial {throttle = throttle} {other = other} {other_input = other_input} (OfRun source input workers recording w) v =
     let e : Run source input workers throttle recording ≡ Serial other other_input = one_command w v in cc (e)
@@ -41,17 +42,22 @@ run_is_not_bench {throttle = throttle} {seed = seed} {size = size} (OfWave sourc
     let e : Wave source input workers throttle ≡ Bench seed size = one_command w v in cc (e)
 
 -- it is not a `check-record` command
-pub run_is_not_check : {asked : Option Command} {tree : SyntaxTree} {numbers : List ℤ} {throttle : ℕ} {log : RunLog} {other other_input saved : List ℕ}
+pub run_is_not_check : {asked : Option Command} {tree : SyntaxTree} {numbers : List ℤ} {throttle : ℕ} {log : RunLog}
+    {other other_input saved : List ℕ}
     {limit : ℕ} → IsLogOf asked tree numbers throttle log → asked ≡ Some (CheckRecord other other_input saved limit) → ⊥
-run_is_not_check {throttle = throttle} {other = other} {other_input = other_input} {saved = saved} {limit = limit} (OfRun source input workers recording w) v =
+run_is_not_check {throttle = throttle} {other = other} {other_input = other_input} {saved = saved} {limit = limit}
+    (OfRun source input workers recording w) v =
     let e : Run source input workers throttle recording ≡ CheckRecord other other_input saved limit = one_command w v in cc (e)
-run_is_not_check {throttle = throttle} {other = other} {other_input = other_input} {saved = saved} {limit = limit} (OfPlay source input workers seed recording w is) v =
+run_is_not_check {throttle = throttle} {other = other} {other_input = other_input} {saved = saved} {limit = limit}
+    (OfPlay source input workers seed recording w is) v =
     let e : Play source input workers throttle seed recording ≡ CheckRecord other other_input saved limit = one_command w v in cc (e)
-run_is_not_check {throttle = throttle} {other = other} {other_input = other_input} {saved = saved} {limit = limit} (OfWave source input workers w fits) v =
+run_is_not_check {throttle = throttle} {other = other} {other_input = other_input} {saved = saved} {limit = limit}
+    (OfWave source input workers w fits) v =
     let e : Wave source input workers throttle ≡ CheckRecord other other_input saved limit = one_command w v in cc (e)
 
 -- it is not a `span` command
-pub run_is_not_span : {asked : Option Command} {tree : SyntaxTree} {numbers : List ℤ} {throttle : ℕ} {log : RunLog} {other other_input : List ℕ}
+pub run_is_not_span : {asked : Option Command} {tree : SyntaxTree} {numbers : List ℤ} {throttle : ℕ} {log : RunLog}
+    {other other_input : List ℕ}
     → IsLogOf asked tree numbers throttle log → asked ≡ Some (Span other other_input) → ⊥
 run_is_not_span {throttle = throttle} {other = other} {other_input = other_input} (OfRun source input workers recording w) v =
     let e : Run source input workers throttle recording ≡ Span other other_input = one_command w v in cc (e)
@@ -61,16 +67,19 @@ run_is_not_span {throttle = throttle} {other = other} {other_input = other_input
     let e : Wave source input workers throttle ≡ Span other other_input = one_command w v in cc (e)
 
 -- it returns the log of its run
-pub run_keeps_log : {asked : Option Command} {tree : SyntaxTree} {numbers : List ℤ} {throttle : ℕ} {log : RunLog} → IsLogOf asked tree numbers throttle log
+pub run_keeps_log : {asked : Option Command} {tree : SyntaxTree} {numbers : List ℤ} {throttle : ℕ} {log : RunLog}
+    → IsLogOf asked tree numbers throttle log
     → KeepsLog asked
 run_keeps_log (OfRun source input workers recording w) = rw w refl
 run_keeps_log (OfPlay source input workers seed recording w is) = rw w refl
 run_keeps_log (OfWave source input workers w fits) = rw w refl
 
 -- a `run` command is not a `play` command
-pub run_is_not_play : {asked : Option Command} {source input other other_input : List ℕ} {workers throttle others limit seed : ℕ} {recording records : Bool}
+pub run_is_not_play : {asked : Option Command} {source input other other_input : List ℕ} {workers throttle others limit seed : ℕ}
+    {recording records : Bool}
     → asked ≡ Some (Run source input workers throttle recording) → asked ≡ Some (Play other other_input others limit seed records) → ⊥
-run_is_not_play {source = source} {input = input} {other = other} {other_input = other_input} {workers = workers} {throttle = throttle} {others = others} {limit = limit} {seed = seed} {recording = recording} {records = records} w v =
+run_is_not_play {source = source} {input = input} {other = other} {other_input = other_input} {workers = workers} {throttle = throttle}
+    {others = others} {limit = limit} {seed = seed} {recording = recording} {records = records} w v =
     let e : Run source input workers throttle recording ≡ Play other other_input others limit seed records = one_command w v in cc (e)
 
 -- a `play` command has one number of workers, one throttling limit and one seed
@@ -79,19 +88,25 @@ pub record IsOnePlay (workers others throttle limit seed number : ℕ) : Type 0 
   pub throttle_is : throttle ≡ limit
   pub seed_is : seed ≡ number
 
-pub one_play : {asked : Option Command} {source input other other_input : List ℕ} {workers throttle seed others limit number : ℕ} {recording records : Bool}
+pub one_play : {asked : Option Command} {source input other other_input : List ℕ} {workers throttle seed others limit number : ℕ}
+    {recording records : Bool}
     → asked ≡ Some (Play source input workers throttle seed recording) → asked ≡ Some (Play other other_input others limit number records)
     → IsOnePlay workers others throttle limit seed number
-one_play {source = source} {input = input} {other = other} {other_input = other_input} {workers = workers} {throttle = throttle} {seed = seed} {others = others} {limit = limit} {number = number} {recording = recording} {records = records} w v =
+one_play {source = source} {input = input} {other = other} {other_input = other_input} {workers = workers} {throttle = throttle}
+    {seed = seed} {others = others} {limit = limit} {number = number} {recording = recording} {records = records} w v =
     let e : Play source input workers throttle seed recording ≡ Play other other_input others limit number records = one_command w v in
     record { workers_are = cc (e); throttle_is = cc (e); seed_is = cc (e) }
 
 -- it has one throttling limit
-pub one_limit : {asked : Option Command} {tree : SyntaxTree} {numbers : List ℤ} {throttle other : ℕ} {log : RunLog} → IsLogOf asked tree numbers throttle log
+pub one_limit : {asked : Option Command} {tree : SyntaxTree} {numbers : List ℤ} {throttle other : ℕ} {log : RunLog}
+    → IsLogOf asked tree numbers throttle log
     → RunsUnder asked other → throttle ≡ other
-one_limit {throttle = throttle} {other = other} (OfRun source input workers recording w) v = let e : Some throttle ≡ Some other = rw w at v in cc (e)
-one_limit {throttle = throttle} {other = other} (OfPlay source input workers seed recording w is) v = let e : Some throttle ≡ Some other = rw w at v in cc (e)
-one_limit {throttle = throttle} {other = other} (OfWave source input workers w fits) v = let e : None ≡ Some other = rw w at v in absurd (cc (e))
+one_limit {throttle = throttle} {other = other} (OfRun source input workers recording w) v = let e : Some throttle ≡ Some other =
+    rw w at v in cc (e)
+one_limit {throttle = throttle} {other = other} (OfPlay source input workers seed recording w is) v = let e : Some throttle ≡ Some other =
+    rw w at v in cc (e)
+one_limit {throttle = throttle} {other = other} (OfWave source input workers w fits) v = let e : None ≡ Some other = rw w at v in
+    absurd (cc (e))
 
 -- a command with such a limit takes its source as it is
 pub runs_no_wave : (asked : Option Command) (throttle : ℕ) → RunsUnder asked throttle → asks_wave asked ≡ false
@@ -106,7 +121,8 @@ runs_no_wave (Some (Wave source input workers limit)) throttle v = absurd (let e
 runs_no_wave (Some (Span source input)) throttle v = refl
 
 -- a command without a run makes none
-pub runs_nothing : {asked : Option Command} {c : Command} {throttle : ℕ} → asked ≡ Some c → throttle_in c ≡ None → RunsUnder asked throttle → ⊥
+pub runs_nothing : {asked : Option Command} {c : Command} {throttle : ℕ} → asked ≡ Some c → throttle_in c ≡ None → RunsUnder asked throttle
+    → ⊥
 runs_nothing {asked} {c} {throttle} w none v = let e : None ≡ Some throttle = sym none ∙ rw w at v in cc (e)
 
 -- a `serial` command is not a `format` command
@@ -163,13 +179,16 @@ pub format_is_not_bench : {asked : Option Command} {source : List ℕ} {seed siz
 format_is_not_bench {asked} {source} {seed} {size} w v = let e : Format source ≡ Bench seed size = one_command w v in cc (e)
 
 -- it has no source and no input
-pub bench_has_no_source : {asked : Option Command} {source : List ℕ} {seed size : ℕ} → asked ≡ Some (Bench seed size) → NamesSource asked source → ⊥
+pub bench_has_no_source : {asked : Option Command} {source : List ℕ} {seed size : ℕ} → asked ≡ Some (Bench seed size)
+    → NamesSource asked source → ⊥
 bench_has_no_source {asked} {source} v w = let e : None ≡ Some source = rw v at w in cc (e)
 
-pub bench_has_no_input : {asked : Option Command} {input : List ℕ} {seed size : ℕ} → asked ≡ Some (Bench seed size) → NamesInput asked input → ⊥
+pub bench_has_no_input : {asked : Option Command} {input : List ℕ} {seed size : ℕ} → asked ≡ Some (Bench seed size)
+    → NamesInput asked input → ⊥
 bench_has_no_input {asked} {input} v w = let e : None ≡ Some input = rw v at w in cc (e)
 
-pub bench_has_no_record : {asked : Option Command} {saved : List ℕ} {seed size : ℕ} → asked ≡ Some (Bench seed size) → NamesRecord asked saved → ⊥
+pub bench_has_no_record : {asked : Option Command} {saved : List ℕ} {seed size : ℕ} → asked ≡ Some (Bench seed size)
+    → NamesRecord asked saved → ⊥
 bench_has_no_record {asked} {saved} v w = let e : None ≡ Some saved = rw v at w in cc (e)
 
 -- it keeps no log
@@ -215,7 +234,9 @@ pub record IsOneCheck (saved name : List ℕ) (throttle limit : ℕ) : Type 0 wh
   pub throttle_is : throttle ≡ limit
 
 pub one_check : {asked : Option Command} {source input saved other other_input name : List ℕ} {throttle limit : ℕ}
-    → asked ≡ Some (CheckRecord source input saved throttle) → asked ≡ Some (CheckRecord other other_input name limit) → IsOneCheck saved name throttle limit
-one_check {source = source} {input = input} {saved = saved} {other = other} {other_input = other_input} {name = name} {throttle = throttle} {limit = limit} w v =
+    → asked ≡ Some (CheckRecord source input saved throttle) → asked ≡ Some (CheckRecord other other_input name limit)
+    → IsOneCheck saved name throttle limit
+one_check {source = source} {input = input} {saved = saved} {other = other} {other_input = other_input} {name = name} {throttle = throttle}
+    {limit = limit} w v =
     let e : CheckRecord source input saved throttle ≡ CheckRecord other other_input name limit = one_command w v in
     record { saved_is = cc (e); throttle_is = cc (e) }

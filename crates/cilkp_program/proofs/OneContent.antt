@@ -6,7 +6,8 @@ use Rattle.grammar_laws.proofs.SourceRefusals.{one_accepted, one_refusal, refuse
 use Rattle.cilkp_program.specs.InputLines.{input_line}
 use Rattle.pipe_io.proofs.OneFault.{numbers_have_no_fault, one_fault}
 use Rattle.pipe_io.proofs.OneReading.{one_reading}
-use Rattle.cilkp_program.specs.ProgramFiles.{IsInputOf, IsSourceOf, SourceRefusal, SourceMissing, NotAccepted, InputRefusal, InputMissing, NoNumbers}
+use Rattle.cilkp_program.specs.ProgramFiles.{IsInputOf, IsSourceOf, SourceRefusal, SourceMissing, NotAccepted, InputRefusal, InputMissing}
+use Rattle.cilkp_program.specs.ProgramFiles.{NoNumbers}
 
 -- a file that is missing has no content
 pub missing_not_held : (file : Option (List ℕ)) (bytes : List ℕ) → file ≡ None → file ≡ Some bytes → ⊥
@@ -17,7 +18,8 @@ pub one_held : (file : Option (List ℕ)) (bytes others : List ℕ) → file ≡
 one_held file bytes others h g = let e : Some bytes ≡ Some others = sym h ∙ g in cc (e)
 
 -- a source has at most one line of refusal
-pub one_source_refusal : {file : Option (List ℕ)} {name text other : List ℕ} → SourceRefusal name file text → SourceRefusal name file other → text ≡ other
+pub one_source_refusal : {file : Option (List ℕ)} {name text other : List ℕ} → SourceRefusal name file text → SourceRefusal name file other
+    → text ≡ other
 one_source_refusal (SourceMissing m) (SourceMissing m') = refl
 one_source_refusal (SourceMissing m) (NotAccepted bytes refusal h r) = absurd (missing_not_held _ bytes m h)
 one_source_refusal (NotAccepted bytes refusal h r) (SourceMissing m) = absurd (missing_not_held _ bytes m h)
@@ -25,13 +27,15 @@ one_source_refusal (NotAccepted bytes refusal h r) (NotAccepted bytes' refusal' 
     let same : bytes' ≡ bytes = one_held _ bytes' bytes h' h in ap refusal_line (one_refusal r (rw same at r'))
 
 -- a source that is refused is not accepted
-pub refused_not_accepted_file : {file : Option (List ℕ)} {name text : List ℕ} (tree : SyntaxTree) → SourceRefusal name file text → IsSourceOf file tree → ⊥
+pub refused_not_accepted_file : {file : Option (List ℕ)} {name text : List ℕ} (tree : SyntaxTree) → SourceRefusal name file text
+    → IsSourceOf file tree → ⊥
 refused_not_accepted_file tree (SourceMissing m) s = missing_not_held _ s.bytes m s.held
 refused_not_accepted_file tree (NotAccepted bytes refusal h r) s =
     let same : s.bytes ≡ bytes = one_held _ s.bytes bytes s.held h in refused_not_accepted tree r (rw same at s.accepted)
 
 -- an input has at most one line of refusal
-pub one_input_refusal : {file : Option (List ℕ)} {name text other : List ℕ} → InputRefusal name file text → InputRefusal name file other → text ≡ other
+pub one_input_refusal : {file : Option (List ℕ)} {name text other : List ℕ} → InputRefusal name file text → InputRefusal name file other
+    → text ≡ other
 one_input_refusal (InputMissing m) (InputMissing m') = refl
 one_input_refusal (InputMissing m) (NoNumbers bytes fault h f) = absurd (missing_not_held _ bytes m h)
 one_input_refusal (NoNumbers bytes fault h f) (InputMissing m) = absurd (missing_not_held _ bytes m h)
@@ -39,7 +43,8 @@ one_input_refusal (NoNumbers bytes fault h f) (NoNumbers bytes' fault' h' f') =
     let same : bytes' ≡ bytes = one_held _ bytes' bytes h' h in ap input_line (one_fault f (rw same at f'))
 
 -- an input that is refused is not a list of numbers
-pub refused_no_input : {file : Option (List ℕ)} {name text : List ℕ} (numbers : List ℤ) → InputRefusal name file text → IsInputOf file numbers → ⊥
+pub refused_no_input : {file : Option (List ℕ)} {name text : List ℕ} (numbers : List ℤ) → InputRefusal name file text
+    → IsInputOf file numbers → ⊥
 refused_no_input numbers (InputMissing m) s = missing_not_held _ s.bytes m s.held
 refused_no_input numbers (NoNumbers bytes fault h f) s =
     let same : s.bytes ≡ bytes = one_held _ s.bytes bytes s.held h in numbers_have_no_fault f (rw same at s.read)

@@ -20,7 +20,8 @@ use Rattle.record_parser.specs.RecordLines.{IsFirstBadLine, IsRecord, lines_of}
 use Rattle.record_parser.specs.declared.bounds.TheConstants.{LONGEST_RECORD}
 use Rattle.cilkp_program.proofs.OneContent.{missing_not_held, one_held}
 use Rattle.cilkp_program.specs.ProgramFiles.{IsSourceOf}
-use Rattle.cilkp_program.specs.RecordResults.{HasBadLine, IsRecordOf, NoRecord, NoRun, RecordMissing, RecordRefusal, RecordResult, RecordTooLong, RunOf, kind_line, status_of_reports}
+use Rattle.cilkp_program.specs.RecordResults.{HasBadLine, IsRecordOf, NoRecord, NoRun, RecordMissing, RecordRefusal, RecordResult}
+use Rattle.cilkp_program.specs.RecordResults.{RecordTooLong, RunOf, kind_line, status_of_reports}
 
 -- ---- refused or read
 
@@ -51,7 +52,8 @@ one_refusal {tree} {file = file} (HasBadLine bytes n h short bad) (HasBadLine ot
     ap (numbered_line (codes "refused record BadLine at ")) (one_bad_line tree file bytes others n m h g bad worse)
 
 -- a record is not refused
-refused_no_record : {tree : SyntaxTree} {name : List ℕ} {file : Option (List ℕ)} {text : List ℕ} (events : List Event) → RecordRefusal tree name file text
+refused_no_record : {tree : SyntaxTree} {name : List ℕ} {file : Option (List ℕ)} {text : List ℕ} (events : List Event)
+    → RecordRefusal tree name file text
     → IsRecordOf tree file events → ⊥
 refused_no_record events (RecordMissing m) r = missing_not_held _ r.bytes m r.held
 refused_no_record events (RecordTooLong bytes h long) r = not_both_lengths _ bytes r.bytes h r.held long r.short
@@ -60,7 +62,8 @@ refused_no_record {tree} {file = file} events (HasBadLine bytes n h short bad) r
     records_have_no_bad_line tree.cells (lines_of bytes) events n (subst (λ b. IsRecord tree.cells (lines_of b) events) same r.read) bad
 
 -- a file is a record of one list of events
-one_list : {tree : SyntaxTree} {source file : Option (List ℕ)} (events others : List Event) → IsSourceOf source tree → IsRecordOf tree file events
+one_list : {tree : SyntaxTree} {source file : Option (List ℕ)} (events others : List Event) → IsSourceOf source tree
+    → IsRecordOf tree file events
     → IsRecordOf tree file others → events ≡ others
 one_list {tree} {file = file} events others s h g =
     let same : g.bytes ≡ h.bytes = one_held file g.bytes h.bytes g.held h.held in
@@ -70,7 +73,8 @@ one_list {tree} {file = file} events others s h g =
 -- ---- the results
 
 -- two results have the same status, text, log and reports
-abbrev pub AreOneResult : (status other : ℕ) (text other_text : List ℕ) (log other_log : Option RunLog) (reports other_reports : List Report) → Type 0
+abbrev pub AreOneResult : (status other : ℕ) (text other_text : List ℕ) (log other_log : Option RunLog)
+    (reports other_reports : List Report) → Type 0
 AreOneResult status other text other_text log other_log reports other_reports =
     (status ≡ other) × (text ≡ other_text) × (log ≡ other_log) × (reports ≡ other_reports)
 
@@ -90,9 +94,11 @@ abbrev index_in : RecordAnswer → ℕ
 index_in (answers.Run kind log reports) = 0
 index_in (answers.NotAllowed k) = k
 
-pub one_record_result : {tree : SyntaxTree} {numbers : List ℤ} {throttle : ℕ} {name : List ℕ} {source file : Option (List ℕ)} {status other : ℕ}
+pub one_record_result : {tree : SyntaxTree} {numbers : List ℤ} {throttle : ℕ} {name : List ℕ} {source file : Option (List ℕ)}
+    {status other : ℕ}
     {text other_text : List ℕ} {log other_log : Option RunLog} {reports other_reports : List Report} → IsSourceOf source tree
-    → RecordResult tree numbers throttle name file status text log reports → RecordResult tree numbers throttle name file other other_text other_log other_reports
+    → RecordResult tree numbers throttle name file status text log reports → RecordResult tree numbers throttle name file other other_text
+    other_log other_reports
     → AreOneResult status other text other_text log other_log reports other_reports
 one_record_result s (NoRecord r) (NoRecord r') = (refl, one_refusal r r', refl, refl)
 one_record_result s (NoRecord r) (NoRun events k h bad) = absurd (refused_no_record events r h)

@@ -34,7 +34,8 @@ record IsFirstRaceReport (columns : List (List Node)) (accesses : List NodeAcces
   known : r ≡ report_of columns cell (access_at (accesses_to cell accesses) earlier) (access_at (accesses_to cell accesses) later)
 
 -- a report of a first race names the cell of that race
-first_race_report : (columns : List (List Node)) (accesses : List NodeAccess) (cell : ℕ) (r : Report) → r.cell.0 ≡ cell → ReportsFirstRaceOfCell columns accesses r
+first_race_report : (columns : List (List Node)) (accesses : List NodeAccess) (cell : ℕ) (r : Report) → r.cell.0 ≡ cell
+    → ReportsFirstRaceOfCell columns accesses r
     → IsFirstRaceReport columns accesses cell r
 first_race_report columns accesses cell r e h =
     subst (λ c. IsFirstRaceReport columns accesses c r) e (record { earlier = h.earlier; later = h.later; first = h.first; known = h.told })
@@ -62,7 +63,8 @@ record HasIndex (xs : List Report) (r : Report) : Type 0 where
 index_among : (xs : List Report) (r : Report) → Among r xs → HasIndex xs r
 index_among [] r m = absurd (none_among r m)
 index_among (x ∷ xs) r Here = record { place = 0; within = omega arith; is = λ d. refl }
-index_among (x ∷ xs) r (Later _ m) = let h = index_among xs r m in let w = h.within in record { place = suc h.place; within = omega (arith, w); is = h.is }
+index_among (x ∷ xs) r (Later _ m) = let h = index_among xs r m in let w = h.within in
+    record { place = suc h.place; within = omega (arith, w); is = h.is }
 
 -- the first of a rising list is below all others
 first_below : (x : Report) (xs : List Report) (r : Report) → AllPairs below (x ∷ xs) → Among r xs → x.cell.0 < r.cell.0
@@ -80,10 +82,12 @@ among_others x xs _ w Here = absurd (omega (arith, w))
 among_others x xs r w (Later _ m) = m
 
 -- rising lists with the same elements have the same first element
-one_first : (x y : Report) (xs ys : List Report) → AllPairs below (x ∷ xs) → AllPairs below (y ∷ ys) → Among x (y ∷ ys) → Among y (x ∷ xs) → x ≡ y
+one_first : (x y : Report) (xs ys : List Report) → AllPairs below (x ∷ xs) → AllPairs below (y ∷ ys) → Among x (y ∷ ys) → Among y (x ∷ xs)
+    → x ≡ y
 one_first x _ xs ys p q Here m = refl
 one_first x y xs ys p q (Later _ k) Here = refl
-one_first x y xs ys p q (Later _ k) (Later _ m) = let a = first_below x xs y p m in let b = first_below y ys x q k in absurd (omega (arith, a, b))
+one_first x y xs ys p q (Later _ k) (Later _ m) = let a = first_below x xs y p m in let b = first_below y ys x q k in
+    absurd (omega (arith, a, b))
 
 -- two rising lists with the same elements are equal
 one_list : (xs ys : List Report) → AllPairs below xs → AllPairs below ys → ((r : Report) → Among r xs → Among r ys)
@@ -111,4 +115,5 @@ among_both columns accesses xs ys h g r m =
 -- two lists of the first races of all cells are equal
 pub one_first_races : (columns : List (List Node)) (accesses : List NodeAccess) (xs ys : List Report) → AreFirstRaces columns accesses xs
     → AreFirstRaces columns accesses ys → xs ≡ ys
-one_first_races columns accesses xs ys h g = one_list xs ys h.rise g.rise (among_both columns accesses xs ys h g) (among_both columns accesses ys xs g h)
+one_first_races columns accesses xs ys h g = one_list xs ys h.rise g.rise (among_both columns accesses xs ys h g)
+    (among_both columns accesses ys xs g h)

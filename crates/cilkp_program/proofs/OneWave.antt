@@ -10,7 +10,8 @@ use Rattle.cilkp_program.proofs.OneContent.{one_held}
 use Rattle.cilkp_program.specs.WaveRefusals.{IsMarkAt, IsRefusedWave, IsWaveLine, OfRow, OfRowSet, OfStage, OfTest}
 
 -- a mark has one offset in a source
-one_place : {source : List ℕ} {tree other_tree : SyntaxTree} {mark number : ℕ} (place other : ℕ) → mark ≡ number → IsMarkAt source tree mark place
+one_place : {source : List ℕ} {tree other_tree : SyntaxTree} {mark number : ℕ} (place other : ℕ) → mark ≡ number
+    → IsMarkAt source tree mark place
     → IsMarkAt source other_tree number other → place ≡ other
 one_place {source} {mark = mark} {number = number} place other m h g =
     let tokens = one_lexed source h.spelled.tokens g.spelled.tokens h.spelled.lexed g.spelled.lexed in

@@ -9,7 +9,8 @@ use Rattle.cilkp_words.specs.Commands.{Command}
 use Rattle.cilkp_program.specs.PrintedResults.{IsCallResult, OfRow, SourceFault, InputFault, RecordFault}
 use Rattle.cilkp_program.specs.CommandFiles.{KeepsLog}
 use Rattle.cilkp_program.specs.ProgramFiles.{FileContents}
-use Rattle.cilkp_program.specs.ResultTable.{ResultRow, NoCommand, SourceRefused, Formats, Benches, WaveRefused, InputRefused, Runs, RunsSerially, ChecksRecord, Weighs}
+use Rattle.cilkp_program.specs.ResultTable.{ResultRow, NoCommand, SourceRefused, Formats, Benches, WaveRefused, InputRefused, Runs}
+use Rattle.cilkp_program.specs.ResultTable.{RunsSerially, ChecksRecord, Weighs}
 use Rattle.cilkp_program.proofs.Agreements.{agreed_status}
 use Rattle.cilkp_program.proofs.OneCommand.{bench_keeps_no_log, format_keeps_no_log, run_keeps_log}
 use Rattle.cilkp_program.specs.Headline.{IsRunStatus}
@@ -54,7 +55,8 @@ read_fault : {asked : Option Command} {before now : ℕ} → CountRose before no
 read_fault rose = record { small = omega arith; fault = λ e. rose; logged = no_log _ _ (λ logs. logs.2 refl) }
 
 -- a command that keeps no log
-without_log : {asked : Option Command} {before now status : ℕ} → (KeepsLog asked → ⊥) → IsRunStatus status → IsPossibleStatus asked before now status None
+without_log : {asked : Option Command} {before now status : ℕ} → (KeepsLog asked → ⊥) → IsRunStatus status
+    → IsPossibleStatus asked before now status None
 without_log silent is = record {
   small = run_status_is_small is;
   fault = λ four. absurd (run_status_is_no_fault is (inr four));
@@ -71,7 +73,8 @@ with_run log keeps is = record {
 }
 
 -- a record that is checked
-checked_status : {asked : Option Command} {before now : ℕ} {tree : SyntaxTree} {numbers : List ℤ} {throttle : ℕ} {name : List ℕ} {file : Option (List ℕ)}
+checked_status : {asked : Option Command} {before now : ℕ} {tree : SyntaxTree} {numbers : List ℤ} {throttle : ℕ} {name : List ℕ}
+    {file : Option (List ℕ)}
     {status : ℕ} {text : List ℕ} {log : Option RunLog} {reports : List Report} → KeepsLog asked
     → RecordResult tree numbers throttle name file status text log reports → IsPossibleStatus asked before now status log
 checked_status keeps (NoRecord r) = refusal
@@ -83,7 +86,8 @@ checked_status keeps (RunOf events kind log reports h r) = with_run log keeps (r
     reports_status (r ∷ rs) = inr (inl refl)
 
 -- the status of a row
-row_status : {before now : ℕ} {asked : Option Command} {held : FileContents} {status : ℕ} {text : List ℕ} {log : Option RunLog} {reports : List Report}
+row_status : {before now : ℕ} {asked : Option Command} {held : FileContents} {status : ℕ} {text : List ℕ} {log : Option RunLog}
+    {reports : List Report}
     → ResultRow asked held status text log reports → IsPossibleStatus asked before now status log
 row_status (NoCommand n) = refusal
 row_status (SourceRefused s w r) = refusal
@@ -97,7 +101,8 @@ row_status (ChecksRecord s i r k tree numbers w a outcome) = checked_status (rw 
 row_status (Weighs s i tree numbers w a r) = without_log (λ keeps. let d : false ≡ true = rw w at keeps in cc (d)) (inl refl)
 
 -- the status of a result
-possible_status : {asked : Option Command} {holds : Option Content} {before now status : ℕ} {text : List ℕ} {log : Option RunLog} {reports : List Report}
+possible_status : {asked : Option Command} {holds : Option Content} {before now status : ℕ} {text : List ℕ} {log : Option RunLog}
+    {reports : List Report}
     → IsCallResult asked holds before now status text log reports → IsPossibleStatus asked before now status log
 possible_status (OfRow same row) = row_status row.row
 possible_status (SourceFault s grew rose w) = read_fault rose
@@ -105,22 +110,26 @@ possible_status (InputFault s i file tree grew rose w v known of can) = read_fau
 possible_status (RecordFault s i r file others tree ns grew rose w v u known also of read) = read_fault rose
 
 -- no result has the status of a write that failed
-pub no_write_fault : {asked : Option Command} {holds : Option Content} {before now status : ℕ} {text : List ℕ} {log : Option RunLog} {reports : List Report}
+pub no_write_fault : {asked : Option Command} {holds : Option Content} {before now status : ℕ} {text : List ℕ} {log : Option RunLog}
+    {reports : List Report}
     → IsCallResult asked holds before now status text log reports → status ≡ 5 → ⊥
 no_write_fault outcome five = let t = possible_status outcome in let small = t.small in absurd (omega (arith, small, five))
 
 -- the status is at most 4
-pub result_is_small : {asked : Option Command} {holds : Option Content} {before now status : ℕ} {text : List ℕ} {log : Option RunLog} {reports : List Report}
+pub result_is_small : {asked : Option Command} {holds : Option Content} {before now status : ℕ} {text : List ℕ} {log : Option RunLog}
+    {reports : List Report}
     → IsCallResult asked holds before now status text log reports → status ≤ 4
 result_is_small outcome = let t = possible_status outcome in t.small
 
 -- the status 4 has its cause
-pub result_has_cause : {asked : Option Command} {holds : Option Content} {before now status : ℕ} {text : List ℕ} {log : Option RunLog} {reports : List Report}
+pub result_has_cause : {asked : Option Command} {holds : Option Content} {before now status : ℕ} {text : List ℕ} {log : Option RunLog}
+    {reports : List Report}
     → IsCallResult asked holds before now status text log reports → status ≡ 4 → CountRose before now
 result_has_cause outcome four = let t = possible_status outcome in t.fault four
 
 -- there is a run log exactly if the command keeps one, the call was not refused, and no read failed
-pub result_is_logged : {asked : Option Command} {holds : Option Content} {before now status : ℕ} {text : List ℕ} {log : Option RunLog} {reports : List Report}
+pub result_is_logged : {asked : Option Command} {holds : Option Content} {before now status : ℕ} {text : List ℕ} {log : Option RunLog}
+    {reports : List Report}
     → IsCallResult asked holds before now status text log reports → (is_some log ≡ true) ↔ (KeepsLog asked × (status ≢ 1) × (status ≢ 4))
 result_is_logged outcome = let t = possible_status outcome in t.logged
 
@@ -130,7 +139,8 @@ counts_do_not_fall true h = h.0
 counts_do_not_fall false h = omega (arith, h)
 
 -- the count of failed reads does not fall
-pub result_keeps_count : {asked : Option Command} {holds : Option Content} {before now status : ℕ} {text : List ℕ} {log : Option RunLog} {reports : List Report}
+pub result_keeps_count : {asked : Option Command} {holds : Option Content} {before now status : ℕ} {text : List ℕ} {log : Option RunLog}
+    {reports : List Report}
     → IsCallResult asked holds before now status text log reports → before ≤ now
 result_keeps_count (OfRow same row) = omega (arith, same)
 result_keeps_count (SourceFault s grew rose w) = grew

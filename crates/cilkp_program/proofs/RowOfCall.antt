@@ -1,5 +1,6 @@
 -- Which row a call has.
-use Rattle.std.proofs.Common.{◌≡◌, ◌∙◌, ℕ, ℤ, Bool, true, false, List, [], Option, Some, None, Result, Ok, Err, IfOk, IfSome, refl, ap, sym, subst, inl, inr}
+use Rattle.std.proofs.Common.{◌≡◌, ◌∙◌, ℕ, ℤ, Bool, true, false, List, [], Option, Some, None, Result, Ok, Err, IfOk, IfSome, refl, ap, sym}
+use Rattle.std.proofs.Common.{subst, inl, inr}
 use Rattle.std.specs.Prelude.{option_and_then}
 use Rattle.pipe_model.specs.declared.event.RunLog.{RunLog}
 use Rattle.pipe_model.specs.declared.report.Report.{Report}
@@ -30,12 +31,14 @@ use Rattle.cilkp_program.specs.ProgramFiles.{AreHeldBy, FileContents, SourceRefu
 use Rattle.cilkp_program.specs.SerialResults.{ElisionResult}
 use Rattle.cilkp_program.specs.SpanResults.{IsSpanText}
 use Rattle.cilkp_program.specs.Benchmarks.{IsGenerated, elision_summary}
-use Rattle.cilkp_program.specs.ResultTable.{IsLogOf, OfPlay, OfRun, OfWave, NoCommand, SourceRefused, Formats, Benches, WaveRefused, InputRefused, Runs, RunsSerially, ChecksRecord, Weighs}
+use Rattle.cilkp_program.specs.ResultTable.{IsLogOf, OfPlay, OfRun, OfWave, NoCommand, SourceRefused, Formats, Benches, WaveRefused}
+use Rattle.cilkp_program.specs.ResultTable.{InputRefused, Runs, RunsSerially, ChecksRecord, Weighs}
 use Rattle.cilkp_program.specs.PreparedFiles.{AreReady}
 use Rattle.cilkp_program.specs.RecordedRuns.{IsRecordedRun, seeded_events}
 use Rattle.cilkp_program.specs.RunResults.{IsPlayResult, IsRunResult}
 use Rattle.cilkp_program.specs.RunReports.{run_reports}
-use Rattle.cilkp_program.proofs.OneCommand.{bench_has_no_input, bench_has_no_record, bench_has_no_source, no_input, no_record, no_source, wave_command}
+use Rattle.cilkp_program.proofs.OneCommand.{bench_has_no_input, bench_has_no_record, bench_has_no_source, no_input, no_record, no_source}
+use Rattle.cilkp_program.proofs.OneCommand.{wave_command}
 use Rattle.cilkp_program.proofs.Loading.{source_of_marked}
 use Rattle.cilkp_program.proofs.OneContent.{one_held}
 
@@ -52,7 +55,8 @@ abbrev with_input : (file other : Option (List ℕ)) → Option Content → Opti
 with_input file other holds asked = record { source = file; input = other; saved = unread holds (option_and_then record_in asked) }
 
 -- the content of the files of a command with an input, if it is known
-files_known : (asked : Option Command) (holds : Option Content) (source input : List ℕ) (file other : Option (List ℕ)) → NamesSource asked source
+files_known : (asked : Option Command) (holds : Option Content) (source input : List ℕ) (file other : Option (List ℕ))
+    → NamesSource asked source
     → NamesInput asked input → IfSome holds (λ content. content source ≡ file) → IfSome holds (λ content. content input ≡ other)
     → IfSome holds (λ content. AreHeldBy content asked (with_input file other holds asked))
 files_known asked None source input file other n m s i = tt
@@ -130,7 +134,8 @@ file_refused holds before now source text file same known r asked n = OfRow same
 pub source_refused : (holds : Option Content) (before now : ℕ) (source text : List ℕ) → CountsFault false before now
     → IsSourceResult holds source (sources.Refused text) → (asked : Option Command) → NamesSource asked source
     → IsCallResult asked holds before now 1 text None []
-source_refused holds before now source text same s asked n = file_refused holds before now source text s.file same s.known s.result_is asked n
+source_refused holds before now source text same s asked n = file_refused holds before now source text s.file same s.known s.result_is
+    asked n
 
 -- a program that is refused as a wave loop
 wave_refused : (holds : Option Content) (before now : ℕ) (source text : List ℕ) (file : Option (List ℕ)) → CountsFault false before now
@@ -144,7 +149,8 @@ wave_refused holds before now source text file same known r asked n is = let w =
 
 -- a source that is refused before it is run
 pub runnable_refused : (holds : Option Content) (before now : ℕ) (source text : List ℕ) (wave : Bool) → CountsFault false before now
-    → IsRunnableResult holds source wave (runnables.Refused text) → (asked : Option Command) → NamesSource asked source → asks_wave asked ≡ wave
+    → IsRunnableResult holds source wave (runnables.Refused text) → (asked : Option Command) → NamesSource asked source
+    → asks_wave asked ≡ wave
     → IsCallResult asked holds before now 1 text None []
 runnable_refused holds before now source text wave same s asked n is = elim s.result_is [
   | inl r ↦ file_refused holds before now source text s.file same s.known r asked n
@@ -152,7 +158,8 @@ runnable_refused holds before now source text wave same s asked n is = elim s.re
 ]
 
 -- a program that is printed
-pub program_printed : (holds : Option Content) (before now : ℕ) (source : List ℕ) (checked : Program) (places : List ℤ) → CountsFault false before now
+pub program_printed : (holds : Option Content) (before now : ℕ) (source : List ℕ) (checked : Program) (places : List ℤ)
+    → CountsFault false before now
     → IsSourceResult holds source (sources.Accepted checked places)
     → IsCallResult (Some (Format source)) holds before now 0 (program_text (tree_of checked)) None []
 program_printed holds before now source checked places same s = OfRow same (record {
@@ -164,7 +171,8 @@ program_printed holds before now source checked places same s = OfRow same (reco
 -- ---- the files of a command with an input
 
 -- an input that is refused
-pub input_refused : (holds later : Option Content) (before mid now : ℕ) (source input text : List ℕ) (wave : Bool) (checked : Program) → later ≡ holds
+pub input_refused : (holds later : Option Content) (before mid now : ℕ) (source input text : List ℕ) (wave : Bool) (checked : Program)
+    → later ≡ holds
     → CountsFault false before mid → CountsFault false mid now → IsRunnableResult holds source wave (runnables.Program checked)
     → IsInputResult later input (inputs.Refused text) → (asked : Option Command) → NamesSource asked source → NamesInput asked input
     → asks_wave asked ≡ wave → IsCallResult asked holds before now 1 text None []
@@ -175,17 +183,22 @@ input_refused holds later before mid now source input text wave checked keeps sa
 })
 
 -- an input that could not be read
-pub input_failed : (holds : Option Content) (before mid now : ℕ) (source input : List ℕ) (wave : Bool) (checked : Program) → CountsFault false before mid
-    → CountsFault true mid now → IsRunnableResult holds source wave (runnables.Program checked) → (asked : Option Command) → NamesSource asked source
+pub input_failed : (holds : Option Content) (before mid now : ℕ) (source input : List ℕ) (wave : Bool) (checked : Program)
+    → CountsFault false before mid
+    → CountsFault true mid now → IsRunnableResult holds source wave (runnables.Program checked) → (asked : Option Command)
+    → NamesSource asked source
     → NamesInput asked input → asks_wave asked ≡ wave → IsCallResult asked holds before now 4 (fault_read input) None []
 input_failed holds before mid now source input wave checked same rose s asked n m is =
     let at_mid : IsCallResult asked holds mid now 4 (fault_read input) None [] =
-    InputFault source input s.file s.result_is.tree rose.0 rose.1 n m s.known s.result_is.accepted (λ asks. s.result_is.fits (sym is ∙ asks)) in
+    InputFault source input s.file s.result_is.tree rose.0 rose.1 n m s.known s.result_is.accepted
+    (λ asks. s.result_is.fits (sym is ∙ asks)) in
     rw (← same) at_mid
 
 -- a program to run and the numbers of an input
-pub files_ready : (holds later : Option Content) (before mid now : ℕ) (source input : List ℕ) (wave : Bool) (checked : Program) (numbers : List ℤ)
-    → later ≡ holds → CountsFault false before mid → CountsFault false mid now → IsRunnableResult holds source wave (runnables.Program checked)
+pub files_ready : (holds later : Option Content) (before mid now : ℕ) (source input : List ℕ) (wave : Bool) (checked : Program)
+    (numbers : List ℤ)
+    → later ≡ holds → CountsFault false before mid → CountsFault false mid now → IsRunnableResult holds source wave
+    (runnables.Program checked)
     → IsInputResult later input (inputs.Accepted numbers) → AreReady holds before now source input wave (tree_of checked) numbers
 files_ready holds later before mid now source input wave checked numbers keeps same same' s i = record {
   source_file = s.file;
@@ -203,20 +216,24 @@ files_ready holds later before mid now source input wave checked numbers keeps s
 -- ---- a program that is run
 
 -- by `run`, `play` or `wave`, with the run log
-row_of_run : (holds : Option Content) (before now : ℕ) (source input : List ℕ) (asked : Option Command) (throttle : ℕ) (program : SyntaxTree)
+row_of_run : (holds : Option Content) (before now : ℕ) (source input : List ℕ) (asked : Option Command) (throttle : ℕ)
+    (program : SyntaxTree)
     (numbers : List ℤ) (log : RunLog) (a : CommandResult) → NamesSource asked source → NamesInput asked input
     → (ready : AreReady holds before now source input (asks_wave asked) program numbers) → IsLogOf asked ready.tree numbers throttle log
-    → a.run_log ≡ Some log → IsRecordedRun (asks_record asked) program numbers throttle log a.reports a.status a.text → a.reports ≡ run_reports log
+    → a.run_log ≡ Some log → IsRecordedRun (asks_record asked) program numbers throttle log a.reports a.status a.text
+    → a.reports ≡ run_reports log
     → IsCallResult asked holds before now a.status a.text a.run_log a.reports
-row_of_run holds before now source input asked throttle program numbers log a n m ready of logged meets found = rw logged (OfRow ready.calm (record {
-  held = with_input ready.source_file ready.input_file holds asked;
-  known = files_known asked holds source input ready.source_file ready.input_file n m ready.source_known ready.input_known;
-  row = Runs throttle log ready.tree numbers of (record { program = ready.accepted; read = ready.read })
-      (subst (λ t. IsRecordedRun (asks_record asked) t numbers throttle log a.reports a.status a.text) ready.program_is meets) found;
-}))
+row_of_run holds before now source input asked throttle program numbers log a n m ready of logged meets found =
+    rw logged (OfRow ready.calm (record {
+      held = with_input ready.source_file ready.input_file holds asked;
+      known = files_known asked holds source input ready.source_file ready.input_file n m ready.source_known ready.input_known;
+      row = Runs throttle log ready.tree numbers of (record { program = ready.accepted; read = ready.read })
+          (subst (λ t. IsRecordedRun (asks_record asked) t numbers throttle log a.reports a.status a.text) ready.program_is meets) found;
+    }))
 
 -- by `run`
-pub result_of_run : (holds : Option Content) (before now : ℕ) (source input : List ℕ) (workers throttle : ℕ) (recording : Bool) (tree : SyntaxTree)
+pub result_of_run : (holds : Option Content) (before now : ℕ) (source input : List ℕ) (workers throttle : ℕ) (recording : Bool)
+    (tree : SyntaxTree)
     (numbers : List ℤ) (r : Result CommandResult NoMemory) → AreReady holds before now source input false tree numbers
     → IfOk r (IsRunResult tree numbers throttle recording)
     → IfOk r (λ a. IsCallResult (Some (Run source input workers throttle recording)) holds before now a.status a.text a.run_log a.reports)
@@ -236,13 +253,17 @@ result_of_wave holds before now source input workers throttle tree numbers (Ok a
 result_of_wave holds before now source input workers throttle tree numbers (Err m) ready h = h
 
 -- by `play`
-pub result_of_play : (holds : Option Content) (before now : ℕ) (source input : List ℕ) (workers throttle seed : ℕ) (recording : Bool) (tree : SyntaxTree)
+pub result_of_play : (holds : Option Content) (before now : ℕ) (source input : List ℕ) (workers throttle seed : ℕ) (recording : Bool)
+    (tree : SyntaxTree)
     (numbers : List ℤ) (r : Result CommandResult NoMemory) → AreReady holds before now source input false tree numbers
     → IfOk r (IsPlayResult tree numbers workers throttle seed recording)
-    → IfOk r (λ a. IsCallResult (Some (Play source input workers throttle seed recording)) holds before now a.status a.text a.run_log a.reports)
+    → IfOk r (λ a. IsCallResult (Some (Play source input workers throttle seed recording)) holds before now a.status a.text a.run_log
+    a.reports)
 result_of_play holds before now source input workers throttle seed recording tree numbers (Ok a) ready h =
-    row_of_run holds before now source input (Some (Play source input workers throttle seed recording)) throttle tree numbers h.log a refl refl
-    ready (OfPlay source input workers seed recording refl (h.events ∙ ap (λ t. seeded_events t numbers workers throttle seed) ready.program_is))
+    row_of_run holds before now source input (Some (Play source input workers throttle seed recording)) throttle tree numbers h.log a refl
+    refl
+    ready (OfPlay source input workers seed recording refl
+    (h.events ∙ ap (λ t. seeded_events t numbers workers throttle seed) ready.program_is))
     h.run.logged h.run.meets h.run.found
 result_of_play holds before now source input workers throttle seed recording tree numbers (Err m) ready h = h
 
@@ -260,12 +281,14 @@ result_of_serial holds before now source input tree numbers (Ok a) ready outcome
 result_of_serial holds before now source input tree numbers (Err m) ready outcome log = log
 
 -- by `span`: its elision is weighed, whatever races it has
-pub result_of_span : (holds : Option Content) (before now : ℕ) (source input : List ℕ) (tree : SyntaxTree) (numbers : List ℤ) (text : List ℕ)
+pub result_of_span : (holds : Option Content) (before now : ℕ) (source input : List ℕ) (tree : SyntaxTree) (numbers : List ℤ)
+    (text : List ℕ)
     → AreReady holds before now source input false tree numbers → IsSpanText tree numbers text
     → IsCallResult (Some (Span source input)) holds before now 0 text None []
 result_of_span holds before now source input tree numbers text ready weighed = OfRow ready.calm (record {
   held = with_input ready.source_file ready.input_file holds (Some (Span source input));
-  known = files_known (Some (Span source input)) holds source input ready.source_file ready.input_file refl refl ready.source_known ready.input_known;
+  known = files_known (Some (Span source input)) holds source input ready.source_file ready.input_file refl refl ready.source_known
+      ready.input_known;
   row = Weighs source input ready.tree numbers refl (record { program = ready.accepted; read = ready.read })
       (subst (λ t. IsSpanText t numbers text) ready.program_is weighed);
 })
@@ -282,21 +305,26 @@ result_of_weighed holds before now source input tree numbers (Err m) ready weigh
 -- ---- a record that is checked
 
 -- the result of the record, with the files of the command
-row_of_check : (holds later : Option Content) (before mid now : ℕ) (source input saved : List ℕ) (throttle : ℕ) (tree : SyntaxTree) (numbers : List ℤ)
+row_of_check : (holds later : Option Content) (before mid now : ℕ) (source input saved : List ℕ) (throttle : ℕ) (tree : SyntaxTree)
+    (numbers : List ℤ)
     {status : ℕ} {text : List ℕ} {log : Option RunLog} {reports : List Report} → later ≡ holds
-    → AreReady holds before mid source input false tree numbers → IsSavedResult later mid now tree numbers throttle saved status text log reports
+    → AreReady holds before mid source input false tree numbers → IsSavedResult later mid now tree numbers throttle saved status text log
+    reports
     → IsCallResult (Some (CheckRecord source input saved throttle)) holds before now status text log reports
-row_of_check holds later before mid now source input saved throttle tree numbers {status} {text} {log} {reports} keeps ready (Judged file same known outcome) =
+row_of_check holds later before mid now source input saved throttle tree numbers {status} {text} {log} {reports} keeps ready
+    (Judged file same known outcome) =
     OfRow (same ∙ ready.calm) (record {
       held = record { source = ready.source_file; input = ready.input_file; saved = file };
       known = all_known (Some (CheckRecord source input saved throttle)) holds source input saved
-          (record { source = ready.source_file; input = ready.input_file; saved = file }) refl refl refl ready.source_known ready.input_known (rw keeps at known);
+          (record { source = ready.source_file; input = ready.input_file; saved = file }) refl refl refl ready.source_known
+          ready.input_known (rw keeps at known);
       row = ChecksRecord source input saved throttle ready.tree numbers refl (record { program = ready.accepted; read = ready.read })
           (subst (λ t. RecordResult t numbers throttle saved file status text log reports) ready.program_is outcome);
     })
 row_of_check holds later before mid now source input saved throttle tree numbers keeps ready (Unread rose) =
     let at_mid : IsCallResult (Some (CheckRecord source input saved throttle)) holds mid now 4 (fault_read saved) None [] =
-    RecordFault source input saved ready.source_file ready.input_file ready.tree numbers rose.0 rose.1 refl refl refl ready.source_known ready.input_known
+    RecordFault source input saved ready.source_file ready.input_file ready.tree numbers rose.0 rose.1 refl refl refl ready.source_known
+    ready.input_known
     ready.accepted ready.read in
     rw (← ready.calm) at_mid
 
@@ -337,10 +365,12 @@ pub bench_returned : (seed size : ℕ) (text : List ℕ) → IsInRange (Bench se
 bench_returned seed size text range is =
     let generated : IsGenerated seed size (generated_tree size) (items_from seed 1 size) =
     record { program = accepted size range.1.0 range.1.1; read = inputs_are_read seed size range.1.1 } in
-    result_of_bench seed size (generated_tree size) (items_from seed 1 size) text generated (is (generated_tree size) (items_from seed 1 size) generated)
+    result_of_bench seed size (generated_tree size) (items_from seed 1 size) text generated
+    (is (generated_tree size) (items_from seed 1 size) generated)
 
 -- a call that returns this
-pub result_given : (asked : Option Command) (holds : Option Content) (before now : ℕ) (r : Result CommandResult NoMemory) (a : CommandResult)
+pub result_given : (asked : Option Command) (holds : Option Content) (before now : ℕ) (r : Result CommandResult NoMemory)
+    (a : CommandResult)
     → IfOk r (λ b. b ≡ a)
     → IsCallResult asked holds before now a.status a.text a.run_log a.reports
     → IfOk r (λ b. IsCallResult asked holds before now b.status b.text b.run_log b.reports)

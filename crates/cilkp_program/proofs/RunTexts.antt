@@ -31,7 +31,8 @@ printed_to_its_end cells output trap reports text none t ends =
     rw (t, ends, append-nil (output_lines output)) (ToItsEnd (none_left reports none) refl)
 
 -- a run without reports and with a trap
-pub printed_with_trap : (cells : List Declaration) (output : List ℤ) (trap : Option TrapAt) (reports : List Report) (text : List ℕ) (at : TrapAt)
+pub printed_with_trap : (cells : List Declaration) (output : List ℤ) (trap : Option TrapAt) (reports : List Report) (text : List ℕ)
+    (at : TrapAt)
     → (length reports == 0) ≡ true
     → text ≡ output_lines output ++ trap_lines trap → trap ≡ Some at → IsPrintedAs cells output trap reports 3 text
 printed_with_trap cells output trap reports text at none t ends = rw (t, ends) (WithTrap at (none_left reports none) refl)

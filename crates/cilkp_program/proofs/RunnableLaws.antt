@@ -1,5 +1,6 @@
 -- The program to run of a source, and the line that refuses it as a wave loop.
-use Rattle.std.proofs.Common.{◌≡◌, ◌<◌, ◌∙◌, ap, refl, subst, sym, inl, inr, arith, ℕ, zero, suc, ℤ, pos, Bool, true, false, List, [], ◌∷◌, length, slice_get, Option, Some, Result, Ok, Err, IfOk, if◌then◌else◌}
+use Rattle.std.proofs.Common.{◌≡◌, ◌<◌, ◌∙◌, ap, refl, subst, sym, inl, inr, arith, ℕ, zero, suc, ℤ, pos, Bool, true, false, List, [], ◌∷◌}
+use Rattle.std.proofs.Common.{length, slice_get, Option, Some, Result, Ok, Err, IfOk, if◌then◌else◌}
 use Rattle.language_laws.proofs.MarkedTokens.{marks_have_places}
 use Rattle.pipe_io.specs.Faults.{CountsFault}
 use Rattle.pipe_io.specs.Reads.{Content}
@@ -37,7 +38,8 @@ place_of_mark : (tokens : List Token) (mark : ℕ) → mark < length (mark_place
 place_of_mark [] mark h = absurd (omega (arith, h))
 place_of_mark (token ∷ tokens) mark h = one_more_place (is_mark token.kind) token.place (mark_places tokens) mark (place_of_mark tokens) h
 
-has_place : (source : List ℕ) (tree : SyntaxTree) (places : List ℤ) (mark : ℕ) → IsAcceptedWith source tree places → mark < length (marks_of tree)
+has_place : (source : List ℕ) (tree : SyntaxTree) (places : List ℤ) (mark : ℕ) → IsAcceptedWith source tree places
+    → mark < length (marks_of tree)
     → HasPlaceAt places mark
 has_place source tree places mark a within =
     let many = marks_have_places source tree a.accepted.spelled in
@@ -56,22 +58,38 @@ fault_has_wave_place source tree places a waves.NoMemory t = tt
 
 mark_at : (source : List ℕ) (tree : SyntaxTree) (places : List ℤ) (mark place : ℕ) → IsAcceptedWith source tree places
     → slice_get places mark ≡ Some (pos place) → IsMarkAt source tree mark place
-mark_at source tree places mark place a found = record { spelled = a.accepted.spelled; found = ap (λ ps. slice_get ps mark) (sym a.placed) ∙ found }
+mark_at source tree places mark place a found = record {
+  spelled = a.accepted.spelled;
+  found = ap (λ ps. slice_get ps mark) (sym a.placed)
+      ∙ found;
+}
 
 -- the line refuses the program as a wave loop
-pub wave_is_refused : (source : List ℕ) (tree : SyntaxTree) (places : List ℤ) (fault : WaveFault) (line : List ℕ) → IsAcceptedWith source tree places
+pub wave_is_refused : (source : List ℕ) (tree : SyntaxTree) (places : List ℤ) (fault : WaveFault) (line : List ℕ)
+    → IsAcceptedWith source tree places
     → IsFirstFault fault (wave_fault tree) → IsWaveFaultLine fault places line → IsNoWave source tree line
 wave_is_refused source tree places waves.BadTest line a t e = rw e (record { fault = BadTest; faulty = t; line_is = OfTest })
 wave_is_refused source tree places waves.NoRow line a t e = rw e (record { fault = NoRow; faulty = t; line_is = OfRow })
 wave_is_refused source tree places (waves.HasStage mark) line a t e =
-    rw e.line_is (record { fault = HasStage mark; faulty = t; line_is = OfStage mark e.place (mark_at source tree places mark e.place a e.found) })
+    rw e.line_is (record {
+      fault = HasStage mark;
+      faulty = t;
+      line_is = OfStage mark e.place
+          (mark_at source tree places mark e.place a e.found);
+    })
 wave_is_refused source tree places (waves.RowSet mark) line a t e =
-    rw e.line_is (record { fault = RowSet mark; faulty = t; line_is = OfRowSet mark e.place (mark_at source tree places mark e.place a e.found) })
+    rw e.line_is (record {
+      fault = RowSet mark;
+      faulty = t;
+      line_is = OfRowSet mark e.place
+          (mark_at source tree places mark e.place a e.found);
+    })
 wave_is_refused source tree places waves.NoMemory line a t e = absurd e
 
 -- ---- the result of loading
 
-pub runnable_outcome : (holds : Option Content) (name : List ℕ) (wave : Bool) (checked : Program) (places : List ℤ) (r : Result Runnable NoMemory)
+pub runnable_outcome : (holds : Option Content) (name : List ℕ) (wave : Bool) (checked : Program) (places : List ℤ)
+    (r : Result Runnable NoMemory)
     → IsSourceResult holds name (sources.Accepted checked places)
     → IfOk r (λ x. (source : List ℕ) → IsAcceptedWith source (tree_of checked) places → IsRunnableOf source (tree_of checked) wave x)
     → IfOk r (IsRunnableResult holds name wave)
@@ -92,7 +110,14 @@ runnable_outcome holds name wave checked places (Ok (runnables.Refused line)) s 
         record {
           tree = tree_of checked;
           accepted = source_of_marked s.result_is;
-          refused = record { bytes = s.result_is.bytes; held = s.result_is.held; fault = h.1.fault; faulty = h.1.faulty; line_is = h.1.line_is };
+          refused = record {
+            bytes = s.result_is.bytes;
+            held = s.result_is.held;
+            fault = h.1.fault;
+            faulty = h.1.faulty;
+            line_is =
+                h.1.line_is;
+          };
         },
       );
     }
@@ -106,7 +131,8 @@ pub runnable_cause : (holds : Option Content) (name : List ℕ) (wave : Bool) (c
     → IfOk r (λ x. CountsFault (is_runnable_fault x) before now)
 runnable_cause holds name wave checked places before now (Ok (runnables.Program program)) s same each = same
 runnable_cause holds name wave checked places before now (Ok (runnables.Refused line)) s same each = same
-runnable_cause holds name wave checked places before now (Ok runnables.Failed) s same each = absurd (each s.result_is.bytes s.result_is.marked)
+runnable_cause holds name wave checked places before now (Ok runnables.Failed) s same each =
+    absurd (each s.result_is.bytes s.result_is.marked)
 runnable_cause holds name wave checked places before now (Err m) s same each = each
 
 -- a source that is refused

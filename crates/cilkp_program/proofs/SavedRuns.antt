@@ -24,7 +24,8 @@ use Rattle.cilkp_program.specs.declared.command_result.CommandResult.{CommandRes
 use Rattle.cilkp_program.specs.declared.saved_run.Record.{Record}
 use Rattle.cilkp_program.specs.declared.saved_run.Record.TheVariants as records
 use Rattle.cilkp_program.specs.LoadedRecords.{HasBadLineAt, IsReadRecord, IsRecordFrom, IsRecordLoad, IsSavedResult, Judged, Unread}
-use Rattle.cilkp_program.specs.RecordResults.{HasBadLine, IsRecordOf, NoRecord, NoRun, RecordMissing, RecordResult, RecordTooLong, RunOf, kind_line, status_of_reports}
+use Rattle.cilkp_program.specs.RecordResults.{HasBadLine, IsRecordOf, NoRecord, NoRun, RecordMissing, RecordResult, RecordTooLong, RunOf}
+use Rattle.cilkp_program.specs.RecordResults.{kind_line, status_of_reports}
 
 -- ---- reading
 
@@ -36,7 +37,8 @@ bad_line tree bytes line (lines.HasBadLine n short bad) e = record { n = n; bad 
 -- reading the bytes of a file gives the same result as loading the file
 from_bytes : (tree : SyntaxTree) (name : List ℕ) (file : Option (List ℕ)) (bytes : List ℕ) (r : Record) → file ≡ Some bytes
     → length bytes ≤ LONGEST_RECORD → IsReadRecord tree bytes r → IsRecordFrom tree name file r
-from_bytes tree name file bytes (records.Accepted events) held short h = (record { bytes = bytes; held = held; short = short; read = h.0 }, h.1)
+from_bytes tree name file bytes (records.Accepted events) held short h =
+    (record { bytes = bytes; held = held; short = short; read = h.0 }, h.1)
 from_bytes tree name file bytes (records.Refused line) held short h = rw h.line_is (HasBadLine bytes h.n held short h.bad)
 from_bytes tree name file bytes records.Failed held short h = absurd h
 
@@ -65,7 +67,8 @@ record_is_too_long holds tree name bytes line f e =
 -- ---- checking
 
 -- the result for a record that is a run
-pub checked_run : (tree : SyntaxTree) (numbers : List ℤ) (throttle : ℕ) (events : List Event) {kind : RunKind} {log : RunLog} {reports : List Report}
+pub checked_run : (tree : SyntaxTree) (numbers : List ℤ) (throttle : ℕ) (events : List Event) {kind : RunKind} {log : RunLog}
+    {reports : List Report}
     (r : Result CommandResult NoMemory) → IsRecordAnswer (whole_of tree numbers) throttle events (answers.Run kind log reports)
     → IfOk r (λ a. a ≡ record {
       status = status_of_reports reports;
@@ -82,7 +85,8 @@ checked_run tree numbers throttle events (Err m) answer e = e
 -- the result for a record with an event that is not allowed
 pub no_run : (tree : SyntaxTree) (numbers : List ℤ) (throttle : ℕ) (events : List Event) {k : ℕ} (text : List ℕ)
     → IsRecordAnswer (whole_of tree numbers) throttle events (answers.NotAllowed k)
-    → text ≡ numbered_line (codes "refused record NotAllowed at ") k → (name : List ℕ) (file : Option (List ℕ)) → IsRecordOf tree file events
+    → text ≡ numbered_line (codes "refused record NotAllowed at ") k → (name : List ℕ) (file : Option (List ℕ))
+    → IsRecordOf tree file events
     → RecordResult tree numbers throttle name file 1 text None []
 no_run tree numbers throttle events text (IsNoProgramRun k h) e = λ name file r. rw e (NoRun events k r h)
 

@@ -25,7 +25,8 @@ use Rattle.cilkp_program.specs.declared.program_run.FinishedRun.{FinishedRun}
 use Rattle.cilkp_program.specs.Headline.{IsToRun}
 use Rattle.cilkp_program.specs.ProgramFiles.{FileContents}
 use Rattle.cilkp_program.specs.RecordedRuns.{HasSeededEvents, IsFinishedLog, IsToPlay, ReturnsRun, recorded, seeded_events}
-use Rattle.cilkp_program.specs.ResultTable.{ResultRow, NoCommand, SourceRefused, Formats, Benches, WaveRefused, InputRefused, Runs, RunsSerially, ChecksRecord, Weighs, IsLogOf, OfPlay, OfRun, OfWave}
+use Rattle.cilkp_program.specs.ResultTable.{ResultRow, NoCommand, SourceRefused, Formats, Benches, WaveRefused, InputRefused, Runs}
+use Rattle.cilkp_program.specs.ResultTable.{RunsSerially, ChecksRecord, Weighs, IsLogOf, OfPlay, OfRun, OfWave}
 use Rattle.cilkp_program.specs.RunReports.{run_reports}
 use Rattle.cilkp_program.specs.RunResults.{IsPlayResult, IsSeededPlay}
 use Rattle.cilkp_program.specs.RunTexts.{IsPrintedAs}
@@ -41,7 +42,8 @@ pub seeded_play : (tree : SyntaxTree) (input : List ℤ) (workers throttle seed 
     → (IsTrue p.finished → HasElisionResults (whole_of tree input) p) → (enough_turns tree ≤ turns → IsTrue p.finished)
     → IsSeededPlay tree input workers throttle seed
     (record { output = p.output; trap = p.trap; run_log = p.run_log; reports = p.reports })
-seeded_play tree input workers throttle seed choices turns p chosen counted events run columns throttled finished found right elision enough =
+seeded_play tree input workers throttle seed choices turns p chosen counted events run columns throttled finished found right elision
+    enough =
     let over : IsTrue p.finished = enough (omega (arith, counted)) in
     record {
       events = events ∙ ap₂ (λ cs n. played_events tree input workers throttle cs n) chosen counted;
@@ -74,8 +76,10 @@ other_log : {asked : Option Command} {tree : SyntaxTree} {numbers : List ℤ} {l
     (workers throttle seed : ℕ) (recording : Bool) → asked ≡ Some (Play source input workers throttle seed recording)
     → IsLogOf asked tree numbers limit log → log.events ≡ seeded_events tree numbers workers throttle seed
 other_log {limit = limit} source input workers throttle seed recording w (OfRun source' input' workers' recording' v) =
-    let e : Play source input workers throttle seed recording ≡ Run source' input' workers' limit recording' = one_command w v in absurd (cc (e))
-other_log {tree = tree} {numbers = numbers} {limit = limit} source input workers throttle seed recording w (OfPlay source' input' workers' seed' recording' v is) =
+    let e : Play source input workers throttle seed recording ≡ Run source' input' workers' limit recording' = one_command w v in
+    absurd (cc (e))
+other_log {tree = tree} {numbers = numbers} {limit = limit} source input workers throttle seed recording w
+    (OfPlay source' input' workers' seed' recording' v is) =
     let e : Play source' input' workers' limit seed' recording' ≡ Play source input workers throttle seed recording = one_command v w in
     let same_workers : workers' ≡ workers = cc (e) in
     let same_limit : limit ≡ throttle = cc (e) in
@@ -92,7 +96,8 @@ scheduled_row : {asked : Option Command} {content : Content} {held : FileContent
 scheduled_row tree numbers workers throttle seed a s i (Runs limit log other others w o m found) =
     let same : other ≡ tree = one_source other tree o.program (rw (← s) a.program) in
     let also : others ≡ numbers = one_input others numbers o.read (rw (← i) a.read) in
-    other_log a.source a.input workers throttle seed a.recording a.command w ∙ ap₂ (λ t n. seeded_events t n workers throttle seed) same also
+    other_log a.source a.input workers throttle seed a.recording a.command w ∙ ap₂ (λ t n. seeded_events t n workers throttle seed) same
+    also
 scheduled_row tree numbers workers throttle seed a s i (NoCommand none) = tt
 scheduled_row tree numbers workers throttle seed a s i (SourceRefused source w r) = tt
 scheduled_row tree numbers workers throttle seed a s i (Formats source other w o) = tt
@@ -100,23 +105,28 @@ scheduled_row tree numbers workers throttle seed a s i (Benches number size othe
 scheduled_row tree numbers workers throttle seed a s i (WaveRefused source input others limit other w o r) = tt
 scheduled_row tree numbers workers throttle seed a s i (InputRefused input other w o can r) = tt
 scheduled_row tree numbers workers throttle seed a s i (RunsSerially source input other others w o r) = tt
-scheduled_row tree numbers workers throttle seed a s i (ChecksRecord source input saved limit other others w o r) = absurd (apart a.command w (λ e. cc (e)))
+scheduled_row tree numbers workers throttle seed a s i (ChecksRecord source input saved limit other others w o r) =
+    absurd (apart a.command w (λ e. cc (e)))
 scheduled_row tree numbers workers throttle seed a s i (Weighs source input other others w o r) = absurd (apart a.command w (λ e. cc (e)))
 
-scheduled_result : {asked : Option Command} {content : Content} {before now status : ℕ} {text : List ℕ} {log : Option RunLog} {reports : List Report}
+scheduled_result : {asked : Option Command} {content : Content} {before now status : ℕ} {text : List ℕ} {log : Option RunLog}
+    {reports : List Report}
     (tree : SyntaxTree) (numbers : List ℤ) (workers throttle seed : ℕ)
     → IsToPlay asked content tree numbers workers throttle seed → IsCallResult asked (Some content) before now status text log reports
     → HasSeededEvents tree numbers workers throttle seed log
 scheduled_result tree numbers workers throttle seed a (OfRow same row) =
-    scheduled_row tree numbers workers throttle seed a (row.known.source a.source (rw a.command refl)) (row.known.input a.input (rw a.command refl)) row.row
+    scheduled_row tree numbers workers throttle seed a (row.known.source a.source (rw a.command refl))
+    (row.known.input a.input (rw a.command refl)) row.row
 scheduled_result tree numbers workers throttle seed a (SourceFault s grew rose w) = tt
 scheduled_result tree numbers workers throttle seed a (InputFault s i file other grew rose w v known of can) = tt
 scheduled_result tree numbers workers throttle seed a (RecordFault s i r file others other ns grew rose w v u known also of read) = tt
 
 -- the events of a call
-pub call_is_scheduled : (asked : Option Command) (holds : Option Content) (before now status : ℕ) (text : List ℕ) (log : Option RunLog) (reports : List Report)
+pub call_is_scheduled : (asked : Option Command) (holds : Option Content) (before now status : ℕ) (text : List ℕ) (log : Option RunLog)
+    (reports : List Report)
     → IsCallResult asked holds before now status text log reports
-    → IfSome holds (λ content. (tree : SyntaxTree) (numbers : List ℤ) (workers throttle seed : ℕ) → IsToPlay asked content tree numbers workers throttle seed
+    → IfSome holds (λ content. (tree : SyntaxTree) (numbers : List ℤ) (workers throttle seed : ℕ)
+    → IsToPlay asked content tree numbers workers throttle seed
     → HasSeededEvents tree numbers workers throttle seed log)
 call_is_scheduled asked None before now status text log reports outcome = tt
 call_is_scheduled asked (Some content) before now status text log reports outcome =

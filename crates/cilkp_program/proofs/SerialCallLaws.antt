@@ -12,11 +12,13 @@ use Rattle.cilkp_program.proofs.OneContent.{one_input, one_source, refused_no_in
 use Rattle.cilkp_program.specs.PrintedResults.{IsCallResult, OfRow, SourceFault, InputFault, RecordFault, IsPrinted}
 use Rattle.cilkp_program.specs.ProgramFiles.{FileContents}
 use Rattle.cilkp_program.specs.SerialResults.{ElisionResult}
-use Rattle.cilkp_program.specs.ResultTable.{ResultRow, NoCommand, SourceRefused, Formats, Benches, WaveRefused, InputRefused, Runs, RunsSerially, ChecksRecord, Weighs}
+use Rattle.cilkp_program.specs.ResultTable.{ResultRow, NoCommand, SourceRefused, Formats, Benches, WaveRefused, InputRefused, Runs}
+use Rattle.cilkp_program.specs.ResultTable.{RunsSerially, ChecksRecord, Weighs}
 use Rattle.cilkp_program.specs.SerialCalls.{ReturnsElision, IsToRunSerially}
 
 -- the result is the program's serial elision, without a log
-record IsElisionOf (tree : SyntaxTree) (numbers : List ℤ) (status : ℕ) (text : List ℕ) (log : Option RunLog) (reports : List Report) : Type 0 where
+record IsElisionOf (tree : SyntaxTree) (numbers : List ℤ) (status : ℕ) (text : List ℕ) (log : Option RunLog)
+    (reports : List Report) : Type 0 where
   unlogged : log ≡ None
   outcome : ElisionResult tree numbers status text reports
 
@@ -39,9 +41,11 @@ elided_row tree numbers a s i (ChecksRecord source input saved throttle other ot
 elided_row tree numbers a s i (Weighs source input other others w o r) = absurd (apart a.command w (λ e. cc (e)))
 
 -- the result of a call that runs the elision of an accepted program, if no read failed
-result_elided : {asked : Option Command} {content : Content} {before now status : ℕ} {text : List ℕ} {log : Option RunLog} {reports : List Report}
+result_elided : {asked : Option Command} {content : Content} {before now status : ℕ} {text : List ℕ} {log : Option RunLog}
+    {reports : List Report}
     (tree : SyntaxTree) (numbers : List ℤ)
-    → ¬ (CountRose before now) → IsToRunSerially asked content tree numbers → IsCallResult asked (Some content) before now status text log reports
+    → ¬ (CountRose before now) → IsToRunSerially asked content tree numbers → IsCallResult asked
+    (Some content) before now status text log reports
     → IsElisionOf tree numbers status text log reports
 result_elided tree numbers calm a (OfRow same row) =
     elided_row tree numbers a (row.known.source a.source (rw a.command refl)) (row.known.input a.input (rw a.command refl)) row.row
@@ -50,8 +54,10 @@ result_elided tree numbers calm a (InputFault s i file other grew rose w v known
 result_elided tree numbers calm a (RecordFault s i r file others other ns grew rose w v u known also of read) = absurd (calm rose)
 
 -- a call whose text was written completely
-pub printed_elision : (asked : Option Command) (holds : Option Content) (before now status written : ℕ) (log : Option RunLog) (reports : List Report)
-    (taken_before taken_now : Option (List ℕ)) → ¬ (CountRose before now) → IsPrinted asked holds before now status written log reports taken_before taken_now
+pub printed_elision : (asked : Option Command) (holds : Option Content) (before now status written : ℕ) (log : Option RunLog)
+    (reports : List Report)
+    (taken_before taken_now : Option (List ℕ)) → ¬ (CountRose before now) → IsPrinted asked holds before now status written log reports
+    taken_before taken_now
     → IfSome holds (λ content. (tree : SyntaxTree) (numbers : List ℤ) → IsToRunSerially asked content tree numbers
     → ReturnsElision tree numbers status written log reports taken_before taken_now)
 printed_elision asked None before now status written log reports taken_before taken_now calm printed = tt

@@ -26,7 +26,8 @@ use Rattle.run_laws.proofs.RunStates.IterationCounts.{runs_keep_rules}
 use Rattle.run_laws.specs.RunLaws.{KeepsRules}
 use Rattle.program_laws.proofs.ProgramElisions.{program_elision_is_a_run}
 use Rattle.program_laws.specs.ProgramRunLaws.{HasElisionLog}
-use Rattle.cilkp_program.specs.SerialResults.{ElisionResult, Races, Finishes, Traps, elision_accesses, elision_columns, elision_log, elision_output, elision_trap}
+use Rattle.cilkp_program.specs.SerialResults.{ElisionResult, Races, Finishes, Traps, elision_accesses, elision_columns, elision_log}
+use Rattle.cilkp_program.specs.SerialResults.{elision_output, elision_trap}
 use Rattle.cilkp_program.specs.RunTexts.{IsPrintedAs, WithRaces, ToItsEnd, WithTrap}
 
 -- ---- the elision as a run
@@ -96,7 +97,8 @@ accesses_inside tree input form =
     (λ k d w. let inside = h.rules.inside _ (among_at _ k d w) in (column_inside _ _ _ inside, inside)))
 
 -- the accesses that the elision returns are made by instances of the dag that is built
-pub given_accesses_inside : (tree : SyntaxTree) (input : List ℤ) (dag : List (List Node)) (columns : List Column) (accesses : List NodeAccess)
+pub given_accesses_inside : (tree : SyntaxTree) (input : List ℤ) (dag : List (List Node)) (columns : List Column)
+    (accesses : List NodeAccess)
     → BreaksNoRule tree
     → dag ≡ node_columns columns → columns ≡ program_columns (whole_of tree input) → accesses ≡ elision_accesses tree input
     → All (IsAccessOf dag) accesses
@@ -104,14 +106,16 @@ given_accesses_inside tree input dag columns accesses form d e a =
     rw (a, d ∙ given_columns tree input columns e) (accesses_inside tree input form)
 
 -- the dag that is built has the same races as the program
-pub given_races : (tree : SyntaxTree) (input : List ℤ) (dag : List (List Node)) (columns : List Column) (accesses : List NodeAccess) (reports : List Report)
+pub given_races : (tree : SyntaxTree) (input : List ℤ) (dag : List (List Node)) (columns : List Column) (accesses : List NodeAccess)
+    (reports : List Report)
     → dag ≡ node_columns columns
     → columns ≡ program_columns (whole_of tree input) → accesses ≡ elision_accesses tree input → AreFirstRaces dag accesses reports
     → AreFirstRaces (elision_columns tree input) (elision_accesses tree input) reports
 given_races tree input dag columns accesses reports d e a r = rw (← a, ← (d ∙ given_columns tree input columns e)) r
 
 -- what is printed for the elision's output, trap and races is the elision's result
-pub printed_result : (tree : SyntaxTree) (input : List ℤ) (output : List ℤ) (trap : Option TrapAt) (reports : List Report) {status : ℕ} {text : List ℕ}
+pub printed_result : (tree : SyntaxTree) (input : List ℤ) (output : List ℤ) (trap : Option TrapAt)
+    (reports : List Report) {status : ℕ} {text : List ℕ}
     → output ≡ elision_output tree input → trap ≡ elision_trap tree input
     → AreFirstRaces (elision_columns tree input) (elision_accesses tree input) reports
     → IsPrintedAs tree.cells output trap reports status text → ElisionResult tree input status text reports

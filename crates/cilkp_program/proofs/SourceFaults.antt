@@ -29,15 +29,18 @@ abbrev pub spelled_by : (source : List ℕ) (tokens : List Token) (tree : Syntax
 spelled_by source tokens tree lexed spelled = record { tokens = tokens; lexed = lexed; spelled = spelled }
 
 -- a fault of the lexer
-pub text_refused : (source : List ℕ) (fault : LexFault) (line : List ℕ) → IsFaultOf source fault → IsLexicalLine fault line → AreRefused source line
+pub text_refused : (source : List ℕ) (fault : LexFault) (line : List ℕ) → IsFaultOf source fault → IsLexicalLine fault line
+    → AreRefused source line
 text_refused source (lexer.BadByte place) line h e = record { refusal = Lexical (BadByte place); refused = ForItsText _ h; line_is = e }
 text_refused source (lexer.TooWide place) line h e = record { refusal = Lexical (TooWide place); refused = ForItsText _ h; line_is = e }
 text_refused source lexer.SourceTooLong line h e = record { refusal = Lexical SourceTooLong; refused = ForItsText _ h; line_is = e }
-text_refused source (lexer.NameTooLong place) line h e = record { refusal = Lexical (NameTooLong place); refused = ForItsText _ h; line_is = e }
+text_refused source (lexer.NameTooLong place) line h e =
+    record { refusal = Lexical (NameTooLong place); refused = ForItsText _ h; line_is = e }
 text_refused source lexer.NoMemory line h e = absurd e
 
 -- a fault of the parser
-pub tokens_refused : (source : List ℕ) (tokens : List Token) (fault : ParseFault) (line : List ℕ) → IsLexed source tokens → IsFault source tokens fault
+pub tokens_refused : (source : List ℕ) (tokens : List Token) (fault : ParseFault) (line : List ℕ) → IsLexed source tokens
+    → IsFault source tokens fault
     → IsSyntaxLine fault line → AreRefused source line
 tokens_refused source tokens (parser.Unexpected place) line l h e =
     record { refusal = Syntactic grammar.Unexpected place; refused = ForAToken tokens grammar.Unexpected place l h; line_is = e }
@@ -48,7 +51,8 @@ tokens_refused source tokens (parser.TooLong place) line l h e =
 tokens_refused source tokens parser.NoMemory line l h e = absurd e
 
 -- the mark of a fault has an offset
-pub fault_has_place : (source : List ℕ) (tree : SyntaxTree) (s : SourceSpells source tree) (fault : CheckFault) → IsFirstFaultOf fault (fault_of tree)
+pub fault_has_place : (source : List ℕ) (tree : SyntaxTree) (s : SourceSpells source tree) (fault : CheckFault)
+    → IsFirstFaultOf fault (fault_of tree)
     → HasPlace fault (mark_places s.tokens)
 fault_has_place source tree s (checks.LimitOut which) t = tt
 fault_has_place source tree s (checks.Unknown mark) t = place_of_broken source tree s _ mark t
@@ -62,7 +66,8 @@ fault_has_place source tree s (checks.ZeroSize mark) t = place_of_broken source 
 fault_has_place source tree s checks.NoMemory t = tt
 
 -- a rule that is broken
-rule_refused : (source : List ℕ) (tree : SyntaxTree) (s : SourceSpells source tree) (rule : checking.CheckingRule) (mark : ℕ) (line : List ℕ)
+rule_refused : (source : List ℕ) (tree : SyntaxTree) (s : SourceSpells source tree) (rule : checking.CheckingRule) (mark : ℕ)
+    (line : List ℕ)
     → fault_of tree ≡ Some (Broken rule mark) → IsRuleLine rule (mark_places s.tokens) mark line → AreRefused source line
 rule_refused source tree s rule mark line t r =
     record { refusal = RuleBroken rule r.place; refused = ForARule tree rule mark r.place s t r.found; line_is = r.line_is }
@@ -71,7 +76,8 @@ rule_refused source tree s rule mark line t r =
 pub program_refused : (source : List ℕ) (tree : SyntaxTree) (s : SourceSpells source tree) (fault : CheckFault) (line : List ℕ)
     → IsFirstFaultOf fault (fault_of tree)
     → IsCheckLine fault (mark_places s.tokens) line → AreRefused source line
-program_refused source tree s (checks.LimitOut which) line t e = record { refusal = LimitOut which; refused = ForALimit tree which s t; line_is = e }
+program_refused source tree s (checks.LimitOut which) line t e =
+    record { refusal = LimitOut which; refused = ForALimit tree which s t; line_is = e }
 program_refused source tree s (checks.Unknown mark) line t r = rule_refused source tree s _ mark line t r
 program_refused source tree s (checks.Twice mark) line t r = rule_refused source tree s _ mark line t r
 program_refused source tree s (checks.PipeOutside mark) line t r = rule_refused source tree s _ mark line t r

@@ -22,7 +22,8 @@ use Rattle.cilkp_program.proofs.OneContent.{one_input, one_source, refused_no_in
 use Rattle.cilkp_program.proofs.SerialDags.{given_columns}
 use Rattle.cilkp_program.specs.PrintedResults.{IsCallResult, OfRow, SourceFault, InputFault, RecordFault, IsPrinted}
 use Rattle.cilkp_program.specs.ProgramFiles.{FileContents, IsSourceOf}
-use Rattle.cilkp_program.specs.ResultTable.{ResultRow, NoCommand, SourceRefused, Formats, Benches, WaveRefused, InputRefused, Runs, RunsSerially, ChecksRecord, Weighs}
+use Rattle.cilkp_program.specs.ResultTable.{ResultRow, NoCommand, SourceRefused, Formats, Benches, WaveRefused, InputRefused, Runs}
+use Rattle.cilkp_program.specs.ResultTable.{RunsSerially, ChecksRecord, Weighs}
 use Rattle.cilkp_program.specs.SerialResults.{elision_columns}
 use Rattle.cilkp_program.specs.SpanCalls.{IsToWeigh, ReturnsSpan}
 use Rattle.cilkp_program.specs.SpanResults.{IsSpanText, span_text}
@@ -30,23 +31,28 @@ use Rattle.cilkp_program.specs.SpanResults.{IsSpanText, span_text}
 -- ---- one text
 
 -- an elision has at most one text of work and span
-pub one_span_text : {file : Option (List ℕ)} (tree : SyntaxTree) (input : List ℤ) {text other : List ℕ} → IsSourceOf file tree → IsSpanText tree input text
+pub one_span_text : {file : Option (List ℕ)} (tree : SyntaxTree) (input : List ℤ) {text other : List ℕ} → IsSourceOf file tree
+    → IsSpanText tree input text
     → IsSpanText tree input other → text ≡ other
 one_span_text tree input s t o =
     let columns = given_columns tree input (program_columns (whole_of tree input)) refl in
-    let full : AreColumns (elision_columns tree input) = subst AreColumns columns (elision_meets tree input (record { obeys = s.accepted.obeys })).columns in
+    let full : AreColumns (elision_columns tree input) =
+    subst AreColumns columns (elision_meets tree input (record { obeys = s.accepted.obeys })).columns in
     t.text_is ∙ ap (span_text (elision_columns tree input))
-    (columns_have_one_span (elision_columns tree input) (program_steps tree input) t.found o.found full t.heaviest o.heaviest) ∙ sym o.text_is
+    (columns_have_one_span (elision_columns tree input) (program_steps tree input) t.found o.found full t.heaviest o.heaviest)
+    ∙ sym o.text_is
 
 -- the text of what was found
-pub weighed_text : (tree : SyntaxTree) (input : List ℤ) (columns : List Column) (steps : List ℤ) (found : Span) (r : Result (List ℕ) NoMemory)
+pub weighed_text : (tree : SyntaxTree) (input : List ℤ) (columns : List Column) (steps : List ℤ) (found : Span)
+    (r : Result (List ℕ) NoMemory)
     → columns ≡ program_columns (whole_of tree input) → steps ≡ program_steps tree input → IsWorkAndSpan (node_columns columns) steps found
     → IfOk r (λ text. text ≡ span_text (node_columns columns) found) → IfOk r (IsSpanText tree input)
 weighed_text tree input columns steps found (Ok text) c s h t =
     let same = given_columns tree input columns c in
     record {
       found = found;
-      heaviest = subst (λ cs. IsWorkAndSpan cs (program_steps tree input) found) same (subst (λ ss. IsWorkAndSpan (node_columns columns) ss found) s h);
+      heaviest = subst (λ cs. IsWorkAndSpan cs (program_steps tree input) found) same
+          (subst (λ ss. IsWorkAndSpan (node_columns columns) ss found) s h);
       text_is = t ∙ ap (λ cs. span_text cs found) same;
     }
 weighed_text tree input columns steps found (Err m) c s h t = t
@@ -54,7 +60,8 @@ weighed_text tree input columns steps found (Err m) c s h t = t
 -- ---- the call
 
 -- the result is the text of work and span, with status 0, without a log and reports
-record IsWeighed (tree : SyntaxTree) (numbers : List ℤ) (status : ℕ) (text : List ℕ) (log : Option RunLog) (reports : List Report) : Type 0 where
+record IsWeighed (tree : SyntaxTree) (numbers : List ℤ) (status : ℕ) (text : List ℕ) (log : Option RunLog)
+    (reports : List Report) : Type 0 where
   done : status ≡ 0
   weighed : IsSpanText tree numbers text
   unlogged : log ≡ None
@@ -84,7 +91,8 @@ weighed_row {text = text} tree numbers a s i (Weighs source input other others w
     }
 
 -- the result of a `span` call for an accepted program, if no read failed
-result_weighed : {asked : Option Command} {content : Content} {before now status : ℕ} {text : List ℕ} {log : Option RunLog} {reports : List Report}
+result_weighed : {asked : Option Command} {content : Content} {before now status : ℕ} {text : List ℕ} {log : Option RunLog}
+    {reports : List Report}
     (tree : SyntaxTree) (numbers : List ℤ)
     → ¬ (CountRose before now) → IsToWeigh asked content tree numbers → IsCallResult asked (Some content) before now status text log reports
     → IsWeighed tree numbers status text log reports
@@ -95,8 +103,10 @@ result_weighed tree numbers calm a (InputFault s i file other grew rose w v know
 result_weighed tree numbers calm a (RecordFault s i r file others other ns grew rose w v u known also of read) = absurd (calm rose)
 
 -- a call whose text was written completely
-pub printed_span : (asked : Option Command) (holds : Option Content) (before now status written : ℕ) (log : Option RunLog) (reports : List Report)
-    (taken_before taken_now : Option (List ℕ)) → ¬ (CountRose before now) → IsPrinted asked holds before now status written log reports taken_before taken_now
+pub printed_span : (asked : Option Command) (holds : Option Content) (before now status written : ℕ) (log : Option RunLog)
+    (reports : List Report)
+    (taken_before taken_now : Option (List ℕ)) → ¬ (CountRose before now) → IsPrinted asked holds before now status written log reports
+    taken_before taken_now
     → IfSome holds (λ content. (tree : SyntaxTree) (numbers : List ℤ) → IsToWeigh asked content tree numbers
     → ReturnsSpan tree numbers status written log reports taken_before taken_now)
 printed_span asked None before now status written log reports taken_before taken_now calm printed = tt

@@ -32,7 +32,8 @@ summary_text items instances workers last other_workers other_last =
     (codes "items " ++ (decimal items ++ (codes "\ninstances " ++ (decimal instances ++ codes "\n"))) ++ run_line workers last)
     ++ run_line other_workers other_last
 
--- the summary of a program and its input: its items, the stage instances of its serial elision, and the last number of the elision's output, or 0, for
+-- the summary of a program and its input: its items, the stage instances of its serial elision, and the last number of the elision's
+-- output, or 0, for
 -- a run with 1 worker and one with 8
 abbrev pub elision_summary : SyntaxTree → List ℤ → List ℕ
 elision_summary tree numbers =

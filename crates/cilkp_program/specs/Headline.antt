@@ -16,7 +16,8 @@ use Rattle.cilkp_program.specs.ProgramFiles.{IsInputOf, IsSourceOf}
 use Rattle.cilkp_program.specs.SerialResults.{ElisionHasNoRace, elision_output_text, elision_trap}
 use Rattle.cilkp_words.specs.Commands.{Command}
 
--- the command is `run` or `play` with a source that is accepted as the program, an input of these numbers, any number of workers, and a throttling limit
+-- the command is `run` or `play` with a source that is accepted as the program, an input of these numbers, any number of workers, and a
+-- throttling limit
 -- of at most `limit`
 pub record IsToRun (asked : Option Command) (content : Content) (tree : SyntaxTree) (numbers : List ℤ) (limit : ℕ) : Type 0 where
   pub source : List ℕ
@@ -36,16 +37,19 @@ pub record AgreesWithElision (tree : SyntaxTree) (input : List ℤ) (reports : L
   -- the status is 2 exactly if the dag of the serial elision has a race, and then the races are printed
   pub racy : (status ≡ 2) ↔ (ElisionHasNoRace tree input → ⊥)
   pub races : status ≡ 2 → text ≡ race_lines tree.cells reports
-  -- otherwise the output and the trap of the serial elision are printed, with status 3 exactly if it has a trap, and status 0 exactly if not
+  -- otherwise the output and the trap of the serial elision are printed, with status 3 exactly if it has a trap, and status 0 exactly if
+  -- not
   pub otherwise : ElisionHasNoRace tree input → text ≡ elision_output_text tree input ++ trap_lines (elision_trap tree input)
   pub trapped : (status ≡ 3) ↔ (ElisionHasNoRace tree input × (elision_trap tree input ≢ None))
   pub untrapped : (status ≡ 0) ↔ (ElisionHasNoRace tree input × (elision_trap tree input ≡ None))
 
 -- a run of the program under the throttling limit: its log, its reports, and the status and the text of the call
-pub record MeetsHeadline (tree : SyntaxTree) (input : List ℤ) (limit : ℕ) (log : RunLog) (reports : List Report) (status : ℕ) (text : List ℕ) : Type 0 where
+pub record MeetsHeadline (tree : SyntaxTree) (input : List ℤ) (limit : ℕ) (log : RunLog) (reports : List Report) (status : ℕ)
+    (text : List ℕ) : Type 0 where
   -- the log is that of a finished run of the program on its input, with the run's own columns
   pub run : IsFinishedProgramRun (whole_of tree input) limit log
-  -- a cell has a report exactly if two conflicting accesses to it are parallel in the run's own dag; it has at most one, and the reports rise by cell
+  -- a cell has a report exactly if two conflicting accesses to it are parallel in the run's own dag; it has at most one, and the reports
+  -- rise by cell
   pub reported : AreRight (columns_after log.events) (accesses_after log.events) reports
   -- whether races are reported, and what is printed, is as the serial elision says
   pub agrees : AgreesWithElision tree input reports status text

@@ -46,7 +46,8 @@ pub record IsRecordLoad (holds : Option Content) (tree : SyntaxTree) (name : Lis
 -- the result of checking the record of this name: no read failed, and some content of the file explains it, or a read failed
 pub data IsSavedResult (holds : Option Content) (before now : ℕ) (tree : SyntaxTree) (numbers : List ℤ) (throttle : ℕ) (name : List ℕ)
     : ℕ → List ℕ → Option RunLog → List Report → Type 0 where
-  Judged : (file : Option (List ℕ)) {status : ℕ} {text : List ℕ} {log : Option RunLog} {reports : List Report} → CountsFault false before now
+  Judged : (file : Option (List ℕ)) {status : ℕ} {text : List ℕ} {log : Option RunLog} {reports : List Report}
+      → CountsFault false before now
       → IfSome holds (λ content. content name ≡ file) → RecordResult tree numbers throttle name file status text log reports
       → IsSavedResult holds before now tree numbers throttle name status text log reports
   Unread : CountsFault true before now → IsSavedResult holds before now tree numbers throttle name 4 (fault_read name) None []

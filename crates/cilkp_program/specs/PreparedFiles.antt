@@ -9,9 +9,11 @@ use Rattle.cilkp_program.specs.ProgramFiles.{IsInputOf, IsSourceOf}
 use Rattle.cilkp_program.specs.CommandFiles.{CanRunBy, NamesInput, NamesSource, asks_wave, program_by}
 use Rattle.cilkp_words.specs.Commands.{Command}
 
--- no read failed, the source is accepted as a program, whose lowered form this is if it is taken as a wave loop, and the input is these numbers, by some
+-- no read failed, the source is accepted as a program, whose lowered form this is if it is taken as a wave loop, and the input is these
+-- numbers, by some
 -- content of the two files; where the content is known, by that one
-pub record AreReady (holds : Option Content) (before now : ℕ) (source input : List ℕ) (wave : Bool) (program : SyntaxTree) (numbers : List ℤ) : Type 0 where
+pub record AreReady (holds : Option Content) (before now : ℕ) (source input : List ℕ) (wave : Bool) (program : SyntaxTree)
+    (numbers : List ℤ) : Type 0 where
   pub source_file : Option (List ℕ)
   pub input_file : Option (List ℕ)
   pub tree : SyntaxTree
@@ -25,7 +27,8 @@ pub record AreReady (holds : Option Content) (before now : ℕ) (source input : 
 
 -- the files are ready, or the result of each command with these files is known already
 abbrev pub IsPreparation : Option Content → ℕ → ℕ → List ℕ → List ℕ → Bool → Prepared → Type 0
-IsPreparation holds before now source input wave (prepared.Ready checked numbers) = AreReady holds before now source input wave (tree_of checked) numbers
+IsPreparation holds before now source input wave (prepared.Ready checked numbers) = AreReady holds before now source input wave
+    (tree_of checked) numbers
 IsPreparation holds before now source input wave (prepared.Decided outcome) =
     (asked : Option Command) → NamesSource asked source → NamesInput asked input → asks_wave asked ≡ wave
     → IsCallResult asked holds before now outcome.status outcome.text outcome.run_log outcome.reports

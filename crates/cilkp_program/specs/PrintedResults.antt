@@ -12,25 +12,33 @@ use Rattle.cilkp_program.specs.ResultTable.{ResultRow}
 use Rattle.cilkp_program.specs.TakenText.{HasTaken}
 use Rattle.cilkp_words.specs.Commands.{Command}
 
--- the result of a call in which no read failed: the row of its command and of some content of its files; where the content is known, it is that one
-pub record IsRow (asked : Option Command) (holds : Option Content) (status : ℕ) (text : List ℕ) (log : Option RunLog) (reports : List Report) : Type 0 where
+-- the result of a call in which no read failed: the row of its command and of some content of its files; where the content is known, it is
+-- that one
+pub record IsRow (asked : Option Command) (holds : Option Content) (status : ℕ) (text : List ℕ) (log : Option RunLog)
+    (reports : List Report) : Type 0 where
   pub held : FileContents
   pub known : IfSome holds (λ content. AreHeldBy content asked held)
   pub row : ResultRow asked held status text log reports
 
--- the status, the text, the run log and the reports of a call: those of its row if no read failed, and otherwise the line of the fault, which is the
--- input's only if the source is an accepted program to run, and the record's only if the input is accepted too. `before` and `now` are the counts of
+-- the status, the text, the run log and the reports of a call: those of its row if no read failed, and otherwise the line of the fault,
+-- which is the
+-- input's only if the source is an accepted program to run, and the record's only if the input is accepted too. `before` and `now` are the
+-- counts of
 -- faults before and after the call
-pub data IsCallResult (asked : Option Command) (holds : Option Content) (before now : ℕ) : ℕ → List ℕ → Option RunLog → List Report → Type 0 where
-  OfRow : {status : ℕ} {text : List ℕ} {log : Option RunLog} {reports : List Report} → now ≡ before → IsRow asked holds status text log reports
+pub data IsCallResult (asked : Option Command) (holds : Option Content) (before now : ℕ) : ℕ → List ℕ → Option RunLog → List Report
+    → Type 0 where
+  OfRow : {status : ℕ} {text : List ℕ} {log : Option RunLog} {reports : List Report} → now ≡ before
+      → IsRow asked holds status text log reports
       → IsCallResult asked holds before now status text log reports
   SourceFault : (source : List ℕ) → before ≤ now → CountRose before now → NamesSource asked source
       → IsCallResult asked holds before now 4 (fault_read source) None []
-  InputFault : (source input : List ℕ) (file : Option (List ℕ)) (tree : SyntaxTree) → before ≤ now → CountRose before now → NamesSource asked source
+  InputFault : (source input : List ℕ) (file : Option (List ℕ)) (tree : SyntaxTree) → before ≤ now → CountRose before now
+      → NamesSource asked source
       → NamesInput asked input
       → IfSome holds (λ content. content source ≡ file) → IsSourceOf file tree → CanRunBy (asks_wave asked) tree
       → IsCallResult asked holds before now 4 (fault_read input) None []
-  RecordFault : (source input saved : List ℕ) (file other : Option (List ℕ)) (tree : SyntaxTree) (numbers : List ℤ) → before ≤ now → CountRose before now
+  RecordFault : (source input saved : List ℕ) (file other : Option (List ℕ)) (tree : SyntaxTree) (numbers : List ℤ) → before ≤ now
+      → CountRose before now
       → NamesSource asked source → NamesInput asked input → NamesRecord asked saved → IfSome holds (λ content. content source ≡ file)
       → IfSome holds (λ content. content input ≡ other) → IsSourceOf file tree → IsInputOf other numbers
       → IsCallResult asked holds before now 4 (fault_read saved) None []
@@ -45,7 +53,8 @@ pub record IsPrinted (asked : Option Command) (holds : Option Content) (faults_b
   pub taken : HasTaken written text taken_before taken_now
 
 -- a prefix of the call's text was written, and not all of it; the run log and the reports are those of the complete result
-pub record IsCutShort (asked : Option Command) (holds : Option Content) (faults_before faults_now written : ℕ) (log : Option RunLog) (reports : List Report)
+pub record IsCutShort (asked : Option Command) (holds : Option Content) (faults_before faults_now written : ℕ) (log : Option RunLog)
+    (reports : List Report)
     (taken_before taken_now : Option (List ℕ)) : Type 0 where
   pub status : ℕ
   pub text : List ℕ
@@ -54,7 +63,8 @@ pub record IsCutShort (asked : Option Command) (holds : Option Content) (faults_
   pub taken : HasTaken written text taken_before taken_now
 
 -- after out of memory, nothing was taken, or the call's text was cut short
-abbrev pub IsGivenUp : (asked : Option Command) (holds : Option Content) (faults_before faults_now : ℕ) (taken_before taken_now : Option (List ℕ)) → Type 0
+abbrev pub IsGivenUp : (asked : Option Command) (holds : Option Content) (faults_before faults_now : ℕ)
+    (taken_before taken_now : Option (List ℕ)) → Type 0
 IsGivenUp asked holds faults_before faults_now taken_before taken_now =
     (taken_now ≡ taken_before)
     ⊎ ((written : ℕ) × (log : Option RunLog) × (reports : List Report)

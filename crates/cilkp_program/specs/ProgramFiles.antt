@@ -42,7 +42,8 @@ pub record AreAccepted (held : FileContents) (tree : SyntaxTree) (numbers : List
 -- the line that refuses a source of this name: there is no such file, or it is not accepted
 pub data SourceRefusal (name : List ℕ) (file : Option (List ℕ)) : List ℕ → Type 0 where
   SourceMissing : file ≡ None → SourceRefusal name file (refused_missing name)
-  NotAccepted : (bytes : List ℕ) (refusal : Refusal) → file ≡ Some bytes → IsRefused bytes refusal → SourceRefusal name file (refusal_line refusal)
+  NotAccepted : (bytes : List ℕ) (refusal : Refusal) → file ≡ Some bytes → IsRefused bytes refusal
+      → SourceRefusal name file (refusal_line refusal)
 
 -- the line that refuses an input of this name: there is no such file, or it is not a list of numbers within the bounds
 pub data InputRefusal (name : List ℕ) (file : Option (List ℕ)) : List ℕ → Type 0 where

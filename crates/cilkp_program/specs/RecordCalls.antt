@@ -9,15 +9,18 @@ use Rattle.cilkp_program.specs.RecordResults.{RecordResult}
 use Rattle.cilkp_program.specs.TakenText.{HasTaken}
 use Rattle.cilkp_words.specs.Commands.{Command, CheckRecord}
 
--- the command is `check-record` with a source that is accepted as the program, an input of these numbers, this throttling limit, and a record of this name
-pub record IsToCheck (asked : Option Command) (content : Content) (tree : SyntaxTree) (numbers : List ℤ) (throttle : ℕ) (saved : List ℕ) : Type 0 where
+-- the command is `check-record` with a source that is accepted as the program, an input of these numbers, this throttling limit, and a
+-- record of this name
+pub record IsToCheck (asked : Option Command) (content : Content) (tree : SyntaxTree) (numbers : List ℤ) (throttle : ℕ)
+    (saved : List ℕ) : Type 0 where
   pub source : List ℕ
   pub input : List ℕ
   pub command : asked ≡ Some (CheckRecord source input saved throttle)
   pub program : IsSourceOf (content source) tree
   pub read : IsInputOf (content input) numbers
 
--- the call has the result of the record, and its text was written completely: a yes, which is a status of 0 or 2, means that the events of the file are a run
+-- the call has the result of the record, and its text was written completely: a yes, which is a status of 0 or 2, means that the events of
+-- the file are a run
 -- of the program, and that its race lines name exactly the cells that race in that run's own dag
 pub record ReturnsCheck (tree : SyntaxTree) (numbers : List ℤ) (throttle : ℕ) (saved : List ℕ) (file : Option (List ℕ)) (status written : ℕ)
     (run_log : Option RunLog) (reports : List Report) (taken_before taken_now : Option (List ℕ)) : Type 0 where

@@ -27,7 +27,8 @@ status_of_reports (r ∷ rs) = 2
 -- the line that refuses a record of this name: there is no such file, it is too long, or it has a line of no known form
 pub data RecordRefusal (tree : SyntaxTree) (name : List ℕ) (file : Option (List ℕ)) : List ℕ → Type 0 where
   RecordMissing : file ≡ None → RecordRefusal tree name file (refused_missing name)
-  RecordTooLong : (bytes : List ℕ) → file ≡ Some bytes → LONGEST_RECORD < length bytes → RecordRefusal tree name file (codes "refused record TooLong\n")
+  RecordTooLong : (bytes : List ℕ) → file ≡ Some bytes → LONGEST_RECORD < length bytes → RecordRefusal tree name file
+      (codes "refused record TooLong\n")
   HasBadLine : (bytes : List ℕ) (n : ℕ) → file ≡ Some bytes → length bytes ≤ LONGEST_RECORD → IsFirstBadLine tree.cells (lines_of bytes) n
       → RecordRefusal tree name file (numbered_line (codes "refused record BadLine at ") n)
 
@@ -38,7 +39,8 @@ pub record IsRecordOf (tree : SyntaxTree) (file : Option (List ℕ)) (events : L
   pub short : length bytes ≤ LONGEST_RECORD
   pub read : IsRecord tree.cells (lines_of bytes) events
 
--- the status, the text, the run log and the reports of a check: a record is refused, or its events are no run of the program from some event on, or they are
+-- the status, the text, the run log and the reports of a check: a record is refused, or its events are no run of the program from some
+-- event on, or they are
 -- a run, whose log and races are returned
 pub data RecordResult (tree : SyntaxTree) (numbers : List ℤ) (throttle : ℕ) (name : List ℕ) (file : Option (List ℕ))
     : ℕ → List ℕ → Option RunLog → List Report → Type 0 where
@@ -47,4 +49,5 @@ pub data RecordResult (tree : SyntaxTree) (numbers : List ℤ) (throttle : ℕ) 
       → RecordResult tree numbers throttle name file 1 (numbered_line (codes "refused record NotAllowed at ") k) None []
   RunOf : (events : List Event) (kind : RunKind) (log : RunLog) (reports : List Report) → IsRecordOf tree file events
       → IsCheckedRecord (whole_of tree numbers) throttle events kind log reports
-      → RecordResult tree numbers throttle name file (status_of_reports reports) (kind_line kind ++ race_lines tree.cells reports) (Some log) reports
+      → RecordResult tree numbers throttle name file (status_of_reports reports) (kind_line kind ++ race_lines tree.cells reports)
+      (Some log) reports

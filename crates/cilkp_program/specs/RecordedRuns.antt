@@ -24,7 +24,8 @@ recorded false cells log text = text
 recorded true cells log text = text ++ log_text cells log.events
 
 -- the text of a run that meets the headline, with the lines of its log if they are asked for
-pub record IsRecordedRun (recording : Bool) (tree : SyntaxTree) (input : List ℤ) (limit : ℕ) (log : RunLog) (reports : List Report) (status : ℕ) (text : List ℕ)
+pub record IsRecordedRun (recording : Bool) (tree : SyntaxTree) (input : List ℤ) (limit : ℕ) (log : RunLog) (reports : List Report)
+    (status : ℕ) (text : List ℕ)
     : Type 0 where
   pub outcome : List ℕ
   pub text_is : text ≡ recorded recording tree.cells log outcome
@@ -32,10 +33,12 @@ pub record IsRecordedRun (recording : Bool) (tree : SyntaxTree) (input : List �
 
 -- the events of the schedule that the choices of a seed make
 abbrev pub seeded_events : SyntaxTree → List ℤ → (workers throttle seed : ℕ) → List Event
-seeded_events tree input workers throttle seed = played_events tree input workers throttle (first_choices seed MOST_INDEX) (enough_turns tree)
+seeded_events tree input workers throttle seed = played_events tree input workers throttle (first_choices seed MOST_INDEX)
+    (enough_turns tree)
 
 -- the command is `play` with a source that is accepted as the program, an input of these numbers, and these options
-pub record IsToPlay (asked : Option Command) (content : Content) (tree : SyntaxTree) (numbers : List ℤ) (workers throttle seed : ℕ) : Type 0 where
+pub record IsToPlay (asked : Option Command) (content : Content) (tree : SyntaxTree) (numbers : List ℤ)
+    (workers throttle seed : ℕ) : Type 0 where
   pub source : List ℕ
   pub input : List ℕ
   pub recording : Bool
@@ -53,9 +56,11 @@ pub record IsFinishedLog (tree : SyntaxTree) (input : List ℤ) (run_log : Optio
   pub logged : run_log ≡ Some log
   pub finished : ProgramIsFinished (whole_of tree input) (state_after log.events)
 
--- the call returned the log of a run that meets the headline under the throttling limit, and its text, with the lines of the log if they are asked for,
+-- the call returned the log of a run that meets the headline under the throttling limit, and its text, with the lines of the log if they
+-- are asked for,
 -- was written completely. An accepted program has no other result on its input
-pub record ReturnsRun (recording : Bool) (tree : SyntaxTree) (numbers : List ℤ) (limit status written : ℕ) (run_log : Option RunLog) (reports : List Report)
+pub record ReturnsRun (recording : Bool) (tree : SyntaxTree) (numbers : List ℤ) (limit status written : ℕ) (run_log : Option RunLog)
+    (reports : List Report)
     (taken_before taken_now : Option (List ℕ)) : Type 0 where
   pub log : RunLog
   pub logged : run_log ≡ Some log

@@ -9,15 +9,19 @@ use Rattle.cilkp_words.specs.Commands.{Command}
 
 -- for all commands but `run` and `wave`: two rows of the same command and the same files have the same status, text, run log and reports
 abbrev pub CallsHaveOneRow : Type 0
-CallsHaveOneRow = (asked : Option Command) (held : FileContents) (status other_status : ℕ) (text other_text : List ℕ) (log other_log : Option RunLog)
+CallsHaveOneRow = (asked : Option Command) (held : FileContents) (status other_status : ℕ) (text other_text : List ℕ)
+    (log other_log : Option RunLog)
     (reports other_reports : List Report) → (AsksRun asked → ⊥)
     → ResultRow asked held status text log reports → ResultRow asked held other_status other_text other_log other_reports
     → (status ≡ other_status) × (text ≡ other_text) × (log ≡ other_log) × (reports ≡ other_reports)
 
--- for all commands: two rows of the same command and the same files have the same status, and the same text unless the status is 2 or the log is printed.
--- (Two runs of `run` or `wave` may have different logs, and if the program has a race they may report different races of a cell. The seed of a `play` fixes its run)
+-- for all commands: two rows of the same command and the same files have the same status, and the same text unless the status is 2 or the
+-- log is printed.
+-- (Two runs of `run` or `wave` may have different logs, and if the program has a race they may report different races of a cell. The seed
+-- of a `play` fixes its run)
 abbrev pub CallsHaveOneStatus : Type 0
-CallsHaveOneStatus = (asked : Option Command) (held : FileContents) (status other_status : ℕ) (text other_text : List ℕ) (log other_log : Option RunLog)
+CallsHaveOneStatus = (asked : Option Command) (held : FileContents) (status other_status : ℕ) (text other_text : List ℕ)
+    (log other_log : Option RunLog)
     (reports other_reports : List Report)
     → ResultRow asked held status text log reports → ResultRow asked held other_status other_text other_log other_reports
     → (status ≡ other_status) × (asks_record asked ≡ false → status ≢ 2 → text ≡ other_text)

@@ -13,7 +13,8 @@ use Rattle.cilkp_program.specs.RecordedRuns.{IsRecordedRun, seeded_events}
 use Rattle.cilkp_program.specs.RunReports.{run_reports}
 use Rattle.cilkp_program.specs.SerialResults.{elision_output, elision_trap}
 
--- a finished run of the program under the throttling limit; its reports are those that its histories find, and right; without a report it has the output
+-- a finished run of the program under the throttling limit; its reports are those that its histories find, and right; without a report it
+-- has the output
 -- and the trap of the serial elision
 pub record IsFinishedRunOf (tree : SyntaxTree) (input : List ℤ) (throttle : ℕ) (r : FinishedRun) : Type 0 where
   pub run : IsFinishedProgramRun (whole_of tree input) throttle r.run_log
@@ -39,7 +40,8 @@ abbrev pub IsRunResult : SyntaxTree → List ℤ → (throttle : ℕ) → (recor
 IsRunResult tree input throttle recording a = (log : RunLog) × HasRun tree input throttle recording log a
 
 -- the result of `play`: that of the run with the events of the schedule
-pub record IsPlayResult (tree : SyntaxTree) (input : List ℤ) (workers throttle seed : ℕ) (recording : Bool) (a : CommandResult) : Type 0 where
+pub record IsPlayResult (tree : SyntaxTree) (input : List ℤ) (workers throttle seed : ℕ) (recording : Bool)
+    (a : CommandResult) : Type 0 where
   pub log : RunLog
   pub run : HasRun tree input throttle recording log a
   pub events : log.events ≡ seeded_events tree input workers throttle seed

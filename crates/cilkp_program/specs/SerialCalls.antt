@@ -19,14 +19,16 @@ pub record IsToRunSerially (asked : Option Command) (content : Content) (tree : 
   pub program : IsSourceOf (content source) tree
   pub read : IsInputOf (content input) numbers
 
--- the call has the status, the text and the reports of the program's serial elision, its text was written completely, and there is no run log
+-- the call has the status, the text and the reports of the program's serial elision, its text was written completely, and there is no run
+-- log
 pub record ReturnsElision (tree : SyntaxTree) (numbers : List ℤ) (status written : ℕ) (run_log : Option RunLog) (reports : List Report)
     (taken_before taken_now : Option (List ℕ)) : Type 0 where
   pub text : List ℕ
   pub whole : written ≡ length text
   pub taken : HasTaken written text taken_before taken_now
   pub complete : IsRunStatus status
-  -- a cell has a report exactly if two conflicting accesses to it are parallel in the elision's own dag; it has at most one, and the reports rise by cell
+  -- a cell has a report exactly if two conflicting accesses to it are parallel in the elision's own dag; it has at most one, and the
+  -- reports rise by cell
   pub reported : AreRight (elision_columns tree numbers) (elision_accesses tree numbers) reports
   -- whether races are reported, and what is printed, is as the serial elision says
   pub agrees : AgreesWithElision tree numbers reports status text

@@ -19,7 +19,8 @@ instance_line columns x = instance_text x (number_at columns x) ++ codes "\n"
 -- the lines of work, span and the instances of the heaviest path, the first instance first
 abbrev pub span_text : List (List Node) → Span → List ℕ
 span_text columns s =
-    codes "work " ++ (signed_decimal s.work ++ (codes "\nspan " ++ (signed_decimal s.span ++ (codes "\n" ++ flat_map (instance_line columns) s.path))))
+    codes "work " ++ (signed_decimal s.work ++ (codes "\nspan "
+    ++ (signed_decimal s.span ++ (codes "\n" ++ flat_map (instance_line columns) s.path))))
 
 -- the text has the work, the span and the heaviest path of the program's serial elision. The weight of an instance is its number of steps
 pub record IsSpanText (tree : SyntaxTree) (input : List ℤ) (text : List ℕ) : Type 0 where

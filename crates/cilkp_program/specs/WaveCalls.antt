@@ -20,7 +20,8 @@ use Rattle.cilkp_program.specs.ProgramFiles.{IsInputOf, IsSourceOf}
 use Rattle.cilkp_program.specs.TakenText.{HasTaken}
 use Rattle.cilkp_words.specs.Commands.{Command, Wave}
 
--- the command is `wave` with a source that is accepted as a wave loop, an input of these numbers, any number of workers, and a throttling limit of at most
+-- the command is `wave` with a source that is accepted as a wave loop, an input of these numbers, any number of workers, and a throttling
+-- limit of at most
 -- `limit`
 pub record IsToRunWave (asked : Option Command) (content : Content) (tree : SyntaxTree) (numbers : List ℤ) (limit : ℕ) : Type 0 where
   pub source : List ℕ
@@ -59,7 +60,8 @@ pub record ReturnsGrid (tree : SyntaxTree) (numbers : List ℤ) (limit status wr
   pub complete : IsRunStatus status
   -- the log is that of a finished run, with the run's own columns
   pub run : IsFinishedProgramRun (whole_of (lowered tree) numbers) limit log
-  -- a cell has a report exactly if two conflicting accesses to it are parallel in the run's own dag; it has at most one, and the reports rise by cell
+  -- a cell has a report exactly if two conflicting accesses to it are parallel in the run's own dag; it has at most one, and the reports
+  -- rise by cell
   pub reported : AreRight (columns_after log.events) (accesses_after log.events) reports
   -- whether races are reported, and what is printed, is as the grid says
   pub agrees : AgreesWithGrid tree numbers reports status text

@@ -117,7 +117,8 @@ fn summary_text(
     run: &Measured,
     other: &Measured,
 ) -> Result<Bytes, NoMemory>
-    ensures { IfOk result (λ text. text ≡ summary_text items run.now.instances run.now.workers run.now.last other.now.workers other.now.last) }
+    ensures { IfOk result (λ text. text ≡ summary_text items run.now.instances run.now.workers run.now.last other.now.workers
+        other.now.last) }
 {
     let counts = format!(in alloc; "items {items}\ninstances {}\n", run.instances)?;
     let mut text = counts.into_bytes();

@@ -427,23 +427,27 @@ pub fn cilkp<R: Threads + Wait + Sync, F: Files, S: Sink, G: Gate + Sync>(
     gate: &G,
 ) -> Result<Ended, NoMemory>
     // The headline, for `run` and `play`: for every accepted program, input, number of workers, seed and
-    // limit from the throttling limit of the command on, if the files' content is known and neither count of faults rises, a call that returns `Ok` reports a
+    // limit from the throttling limit of the command on, if the files' content is known and neither count of faults rises, a call that
+    // returns `Ok` reports a
     // cell exactly when the run's own dag has two parallel conflicting accesses to it, reports some
     // cell exactly when the serial elision's dag has such a pair, and otherwise prints exactly the
     // serial elision's output and trap; at most the throttling limit of iterations are alive at any
     // event.
-    ensures headline { IfOk result (λ e. ¬ (CountRose (F.faults files.old) (F.faults files.new)) → ¬ (CountRose (S.faults out.old) (S.faults out.new)) →
+    ensures headline { IfOk result (λ e. ¬ (CountRose (F.faults files.old) (F.faults files.new))
+        → ¬ (CountRose (S.faults out.old) (S.faults out.new)) →
         IfSome (F.holds files.old) (λ content. (tree : SyntaxTree) (numbers : List ℤ) (limit : ℕ) →
         IsToRun (command_of (words_of words.now)) content tree numbers limit →
         ReturnsRun (asks_record (command_of (words_of words.now))) tree numbers limit e.status e.written e.run_log e.reports
         (S.taken out.old) (S.taken out.new))) }
     // The events of a `play` call are the candidates that the choices of its seed name.
-    ensures scheduled { IfOk result (λ e. ¬ (CountRose (F.faults files.old) (F.faults files.new)) → ¬ (CountRose (S.faults out.old) (S.faults out.new)) →
+    ensures scheduled { IfOk result (λ e. ¬ (CountRose (F.faults files.old) (F.faults files.new))
+        → ¬ (CountRose (S.faults out.old) (S.faults out.new)) →
         IfSome (F.holds files.old) (λ content. (tree : SyntaxTree) (numbers : List ℤ) (workers throttle seed : ℕ) →
         IsToPlay (command_of (words_of words.now)) content tree numbers workers throttle seed →
         HasSeededEvents tree numbers workers throttle seed e.run_log)) }
     // A `play` call finishes: the run of its log is finished, whatever the schedule.
-    ensures finishes { IfOk result (λ e. ¬ (CountRose (F.faults files.old) (F.faults files.new)) → ¬ (CountRose (S.faults out.old) (S.faults out.new)) →
+    ensures finishes { IfOk result (λ e. ¬ (CountRose (F.faults files.old) (F.faults files.new))
+        → ¬ (CountRose (S.faults out.old) (S.faults out.new)) →
         IfSome (F.holds files.old) (λ content. (tree : SyntaxTree) (numbers : List ℤ) (workers throttle seed : ℕ) →
         IsToPlay (command_of (words_of words.now)) content tree numbers workers throttle seed →
         IsFinishedLog tree numbers e.run_log)) }
@@ -451,33 +455,39 @@ pub fn cilkp<R: Threads + Wait + Sync, F: Files, S: Sink, G: Gate + Sync>(
     // faults rises, a `serial` call that returns `Ok` reports a cell exactly when the serial
     // elision's dag has two parallel conflicting accesses to it, and otherwise prints exactly the
     // serial elision's output and trap; it returns no run log.
-    ensures serial { IfOk result (λ e. ¬ (CountRose (F.faults files.old) (F.faults files.new)) → ¬ (CountRose (S.faults out.old) (S.faults out.new)) →
+    ensures serial { IfOk result (λ e. ¬ (CountRose (F.faults files.old) (F.faults files.new))
+        → ¬ (CountRose (S.faults out.old) (S.faults out.new)) →
         IfSome (F.holds files.old) (λ content. (tree : SyntaxTree) (numbers : List ℤ) →
         IsToRunSerially (command_of (words_of words.now)) content tree numbers →
         ReturnsElision tree numbers e.status e.written e.run_log e.reports (S.taken out.old) (S.taken out.new))) }
     // For every accepted program, if the files' content is known and neither count of faults rises,
     // a `format` call that returns `Ok` has written the canonical text of the program completely.
-    ensures formatted { IfOk result (λ e. ¬ (CountRose (F.faults files.old) (F.faults files.new)) → ¬ (CountRose (S.faults out.old) (S.faults out.new)) →
+    ensures formatted { IfOk result (λ e. ¬ (CountRose (F.faults files.old) (F.faults files.new))
+        → ¬ (CountRose (S.faults out.old) (S.faults out.new)) →
         IfSome (F.holds files.old) (λ content. (tree : SyntaxTree) → IsToFormat (command_of (words_of words.now)) content tree →
         ReturnsText tree e.status e.written e.run_log e.reports (S.taken out.old) (S.taken out.new))) }
     // For every accepted program, input and record, if the files' content is known and neither count of
     // faults rises, a `check-record` call that returns `Ok` says whether the events of the record are a
     // run of the program, and how far it is, and reports exactly the cells that race in that run's own
     // dag; or it refuses the record, for its first bad line or for the first event that is not allowed.
-    ensures checked { IfOk result (λ e. ¬ (CountRose (F.faults files.old) (F.faults files.new)) → ¬ (CountRose (S.faults out.old) (S.faults out.new)) →
+    ensures checked { IfOk result (λ e. ¬ (CountRose (F.faults files.old) (F.faults files.new))
+        → ¬ (CountRose (S.faults out.old) (S.faults out.new)) →
         IfSome (F.holds files.old) (λ content. (tree : SyntaxTree) (numbers : List ℤ) (throttle : ℕ) (saved : List ℕ) →
         IsToCheck (command_of (words_of words.now)) content tree numbers throttle saved →
-        ReturnsCheck tree numbers throttle saved (content saved) e.status e.written e.run_log e.reports (S.taken out.old) (S.taken out.new))) }
+        ReturnsCheck tree numbers throttle saved (content saved) e.status e.written e.run_log e.reports (S.taken out.old)
+        (S.taken out.new))) }
     // The headline with the grid of a wave loop in the place of the serial elision, for `wave`, every
     // number of workers and every limit from the throttling limit of the command on.
-    ensures grid { IfOk result (λ e. ¬ (CountRose (F.faults files.old) (F.faults files.new)) → ¬ (CountRose (S.faults out.old) (S.faults out.new)) →
+    ensures grid { IfOk result (λ e. ¬ (CountRose (F.faults files.old) (F.faults files.new))
+        → ¬ (CountRose (S.faults out.old) (S.faults out.new)) →
         IfSome (F.holds files.old) (λ content. (tree : SyntaxTree) (numbers : List ℤ) (limit : ℕ) →
         IsToRunWave (command_of (words_of words.now)) content tree numbers limit →
         ReturnsGrid tree numbers limit e.status e.written e.run_log e.reports (S.taken out.old) (S.taken out.new))) }
     // For every accepted program and input, if the files' content is known and neither count of faults
     // rises, a `span` call that returns `Ok` has written the work, the span and the heaviest path of the
     // program's serial elision, whatever races or trap that has.
-    ensures weighed { IfOk result (λ e. ¬ (CountRose (F.faults files.old) (F.faults files.new)) → ¬ (CountRose (S.faults out.old) (S.faults out.new)) →
+    ensures weighed { IfOk result (λ e. ¬ (CountRose (F.faults files.old) (F.faults files.new))
+        → ¬ (CountRose (S.faults out.old) (S.faults out.new)) →
         IfSome (F.holds files.old) (λ content. (tree : SyntaxTree) (numbers : List ℤ) →
         IsToWeigh (command_of (words_of words.now)) content tree numbers →
         ReturnsSpan tree numbers e.status e.written e.run_log e.reports (S.taken out.old) (S.taken out.new))) }

@@ -3,7 +3,8 @@
 ghost use Rattle.std.specs.Prelude.{◌≡◌, ℕ, pos, slice_get, Some, IfOk};
 ghost use Rattle.pipe_model.specs.Texts.{numbered_line};
 ghost use Rattle.cilkp_program.specs.InputLines.{IsInputLine};
-ghost use Rattle.cilkp_program.specs.RefusalLines.{IsCheckLine, IsLexicalLine, IsSyntaxLine, HasPlace, HasPlaceAt, HasWavePlace, IsWaveFaultLine};
+ghost use Rattle.cilkp_program.specs.RefusalLines.{IsCheckLine, IsLexicalLine, IsSyntaxLine, HasPlace, HasPlaceAt, HasWavePlace};
+ghost use Rattle.cilkp_program.specs.RefusalLines.{IsWaveFaultLine};
 
 use crate::text::line;
 use pipe_check::fault::CheckFault;
@@ -59,7 +60,8 @@ pub fn syntax_line(alloc: Global, fault: ParseFault) -> Result<Bytes, NoMemory>
 // A line that ends in the offset of the mark with this number.
 fn placed_line(alloc: Global, before: &str, places: &[i64], mark: u32) -> Result<Bytes, NoMemory>
     requires { HasPlaceAt places.now mark }
-    ensures { IfOk result (λ bytes. (place : ℕ) × (slice_get places.now mark ≡ Some (pos place)) × (bytes ≡ numbered_line before.now place)) }
+    ensures { IfOk result (λ bytes. (place : ℕ) × (slice_get places.now mark ≡ Some (pos place))
+        × (bytes ≡ numbered_line before.now place)) }
 {
     let place = places[mark as usize];
     let text = format!(in alloc; "{before}{place}\n")?;

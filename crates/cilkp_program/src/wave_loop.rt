@@ -45,7 +45,8 @@ fn check_lowered(alloc: Global, program: Program) -> Result<Checked, NoMemory>
 // The lowered form of a wave loop, or the line of the first fault that makes the program none.
 fn lowered_wave(alloc: Global, program: &Checked, places: &Numbers) -> Result<Runnable, NoMemory>
     requires { (source : List ℕ) × IsAcceptedWith source (tree_of program.now) places.now }
-    ensures { IfOk result (λ r. (source : List ℕ) → IsAcceptedWith source (tree_of program.now) places.now → IsRunnableOf source (tree_of program.now) true r) }
+    ensures { IfOk result (λ r. (source : List ℕ) → IsAcceptedWith source (tree_of program.now) places.now
+        → IsRunnableOf source (tree_of program.now) true r) }
 {
     match lower_wave(alloc, program.program()) {
         Ok(lowered) => Ok(Runnable::Program(check_lowered(alloc, lowered)?)),
@@ -61,7 +62,8 @@ fn program_to_run(
     wave: bool,
 ) -> Result<Runnable, NoMemory>
     requires { (source : List ℕ) × IsAcceptedWith source (tree_of program) places.now }
-    ensures { IfOk result (λ r. (source : List ℕ) → IsAcceptedWith source (tree_of program) places.now → IsRunnableOf source (tree_of program) wave r) }
+    ensures { IfOk result (λ r. (source : List ℕ) → IsAcceptedWith source (tree_of program) places.now
+        → IsRunnableOf source (tree_of program) wave r) }
 {
     if wave {
         return lowered_wave(alloc, &program, places);

@@ -1,19 +1,23 @@
 -- The numbers of every command that words ask for are within their ranges.
-use Rattle.std.proofs.Common.{◌≡◌, ◌≤◌, ◌*◌, refl, ℕ, Bool, true, false, List, Option, Some, IfSome, arith, codes, option_and_then, None, if◌then◌else◌}
+use Rattle.std.proofs.Common.{◌≡◌, ◌≤◌, ◌*◌, refl, ℕ, Bool, true, false, List, Option, Some, IfSome, arith, codes, option_and_then, None}
+use Rattle.std.proofs.Common.{if◌then◌else◌}
 use Rattle.std.proofs.lemmas.Bool.Decides.{nat_tests}
 use Rattle.std.proofs.lemmas.Option.{same_Some}
 use Rattle.std.specs.Str.{bytes_eq}
 use Rattle.clap.specs.Walk.{Row, Text, first_of}
 use Rattle.cilkp_words.specs.CommandRanges.{IsInRange}
 use Rattle.cilkp_words.specs.Commands.{Command}
-use Rattle.cilkp_words.specs.CommandWords.{bench_of, check_record_of, command_named, format_of, play_of, run_of, seed_of, serial_of, span_of, throttle_of, wave_of, workers_of}
+use Rattle.cilkp_words.specs.CommandWords.{bench_of, check_record_of, command_named, format_of, play_of, run_of, seed_of, serial_of}
+use Rattle.cilkp_words.specs.CommandWords.{span_of, throttle_of, wave_of, workers_of}
 use Rattle.cilkp_words.specs.OptionNumbers.{number_in, number_or}
-use Rattle.cilkp_words.specs.declared.ranges.TheConstants.{DEFAULT_SEED, DEFAULT_SIZE, DEFAULT_WORKERS, MOST_THROTTLE, MOST_WORKERS, THROTTLE_PER_WORKER}
+use Rattle.cilkp_words.specs.declared.ranges.TheConstants.{DEFAULT_SEED, DEFAULT_SIZE, DEFAULT_WORKERS, MOST_THROTTLE, MOST_WORKERS}
+use Rattle.cilkp_words.specs.declared.ranges.TheConstants.{THROTTLE_PER_WORKER}
 use Rattle.pipe_gen.specs.declared.choices.TheConstants.{MOST_SEED}
 use Rattle.pipe_gen.specs.declared.workload.TheConstants.{MOST_SIZE}
 
 -- what follows a value has a property if it has it for each value
-after : {A B : Type 0} (found : Option A) (f : A → Option B) (P : B → Type 0) → ((a : A) → found ≡ Some a → IfSome (f a) P) → IfSome (option_and_then f found) P
+after : {A B : Type 0} (found : Option A) (f : A → Option B) (P : B → Type 0) → ((a : A) → found ≡ Some a → IfSome (f a) P)
+    → IfSome (option_and_then f found) P
 after None f P each = tt
 after (Some a) f P each = each a refl
 
@@ -27,19 +31,24 @@ number_between : (least most : ℕ) (word : Text) (n : ℕ) → number_in least 
 number_between least most word n found = grind (arith, nat_tests)
 
 -- the number of an option
-option_between : (default least most : ℕ) (word : Option Text) (n : ℕ) → least ≤ default → default ≤ most → number_or default least most word ≡ Some n
+option_between : (default least most : ℕ) (word : Option Text) (n : ℕ) → least ≤ default → default ≤ most
+    → number_or default least most word ≡ Some n
     → (least ≤ n) × (n ≤ most)
-option_between default least most None n low high found = let between : (least ≤ default) × (default ≤ most) = (low, high) in rw (same_Some default n found) at between
+option_between default least most None n low high found = let between : (least ≤ default) × (default ≤ most) = (low, high) in
+    rw (same_Some default n found) at between
 option_between default least most (Some word) n low high found = number_between least most word n found
 
 -- the options that several subcommands have
 workers_between : (rows : List Row) (workers : ℕ) → workers_of rows ≡ Some workers → (1 ≤ workers) × (workers ≤ MOST_WORKERS)
-workers_between rows workers is = option_between DEFAULT_WORKERS 1 MOST_WORKERS (first_of (codes "workers") rows) workers (omega arith) (omega arith) is
+workers_between rows workers is = option_between DEFAULT_WORKERS 1 MOST_WORKERS (first_of (codes "workers") rows) workers (omega arith)
+    (omega arith) is
 
-throttle_between : (rows : List Row) (workers throttle : ℕ) → (1 ≤ workers) × (workers ≤ MOST_WORKERS) → throttle_of workers rows ≡ Some throttle
+throttle_between : (rows : List Row) (workers throttle : ℕ) → (1 ≤ workers) × (workers ≤ MOST_WORKERS)
+    → throttle_of workers rows ≡ Some throttle
     → (1 ≤ throttle) × (throttle ≤ MOST_THROTTLE)
 throttle_between rows workers throttle (some, few) is =
-    option_between (THROTTLE_PER_WORKER * workers) 1 MOST_THROTTLE (first_of (codes "throttle") rows) throttle (omega (arith, some)) (omega (arith, few)) is
+    option_between (THROTTLE_PER_WORKER * workers) 1 MOST_THROTTLE (first_of (codes "throttle") rows) throttle (omega (arith, some))
+    (omega (arith, few)) is
 
 seed_between : (rows : List Row) (seed : ℕ) → seed_of rows ≡ Some seed → seed ≤ MOST_SEED
 seed_between rows seed is = (option_between DEFAULT_SEED 0 MOST_SEED (first_of (codes "seed") rows) seed (omega arith) (omega arith) is).1
@@ -116,6 +125,7 @@ named_between name rows =
     (branches (bytes_eq name (codes "span")) _ _ IsInRange (span_between rows) tt)))))))
 
 -- the command of the subcommand that was given, if one was
-pub command_between : (found : Option Command) (given : Option (Text × List Row)) → found ≡ option_and_then (λ p. command_named p.0 p.1) given
+pub command_between : (found : Option Command) (given : Option (Text × List Row)) → found ≡ option_and_then
+    (λ p. command_named p.0 p.1) given
     → IfSome found IsInRange
 command_between found given is = rw is (after given _ IsInRange (λ p d. named_between p.0 p.1))

@@ -1,5 +1,6 @@
 -- The command of words that the command line accepts, and of words that it refuses.
-use Rattle.std.proofs.Common.{◌≡◌, ◌∙◌, ◌⊎◌, ap, subst, sym, refl, inl, inr, ℕ, List, [], ◌∷◌, length, Bool, true, false, Option, None, option_and_then, if◌then◌else◌}
+use Rattle.std.proofs.Common.{◌≡◌, ◌∙◌, ◌⊎◌, ap, subst, sym, refl, inl, inr, ℕ, List, [], ◌∷◌, length, Bool, true, false, Option, None}
+use Rattle.std.proofs.Common.{option_and_then, if◌then◌else◌}
 use Rattle.std.proofs.Common.{arith}
 use Rattle.std.proofs.lemmas.Bool.Decides.{nat_tests}
 use Rattle.std.specs.Prelude.{◌==◌}
@@ -38,15 +39,18 @@ some_kind [] k h = absurd h
 some_kind (x ∷ xs) k h = grind (arith, nat_tests)
 
 -- the words are accepted, and ask for the command of their subcommand
-pub accepted_words : (a : App) (words : List Text) (found : Option Command) (given : Option (Text × List Row)) {P : Type 0} → a ≡ command_line
+pub accepted_words : (a : App) (words : List Text) (found : Option Command) (given : Option (Text × List Row)) {P : Type 0}
+    → a ≡ command_line
     → (is_simple_and_free a ≡ true → fault_of a words ≡ []) → (is_simple a ≡ true → P × (given ≡ subcommand_of a words))
     → found ≡ option_and_then (λ p. command_named p.0 p.1) given → found ≡ command_of words
 accepted_words a words found given line calm same is =
-    let none : fault_of command_line words ≡ [] = subst (λ x. fault_of x words ≡ []) line (calm (ap is_simple_and_free line ∙ line_is_free)) in
+    let none : fault_of command_line words ≡ [] = subst (λ x. fault_of x words ≡ []) line
+    (calm (ap is_simple_and_free line ∙ line_is_free)) in
     let given_is : given ≡ subcommand_of command_line words =
     subst (λ x. given ≡ subcommand_of x words) line ((same (ap is_simple line ∙ line_is_simple)).1) in
     is ∙ ap (option_and_then (λ p. command_named p.0 p.1)) given_is
-    ∙ without_fault (length (fault_of command_line words) == 0) (option_and_then (λ p. command_named p.0 p.1) (subcommand_of command_line words))
+    ∙ without_fault (length (fault_of command_line words) == 0)
+    (option_and_then (λ p. command_named p.0 p.1) (subcommand_of command_line words))
     (ap (λ ks. length ks == 0) none)
 
 -- the words are refused, and not because memory ran out: they are no command
@@ -57,4 +61,5 @@ refused_words a words k line fault other =
       | inl memory ↦ absurd (other memory)
       | inr among ↦ some_kind (fault_of command_line words) k (subst (λ x. IsAmong k (fault_of x words)) line among)
     ] in
-    with_fault (length (fault_of command_line words) == 0) (option_and_then (λ p. command_named p.0 p.1) (subcommand_of command_line words)) some
+    with_fault (length (fault_of command_line words) == 0)
+    (option_and_then (λ p. command_named p.0 p.1) (subcommand_of command_line words)) some

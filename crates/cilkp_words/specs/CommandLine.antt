@@ -22,12 +22,14 @@ subcommand_shape name rules = record (new_shape name) { rules = rules }
 
 -- run SOURCE INPUT [--workers P] [--throttle K] [--record]
 abbrev pub run_shape : Shape
-run_shape = subcommand_shape (codes "run") (file_rule (codes "source") ∷ file_rule (codes "input") ∷ option_rule (codes "workers") ∷ option_rule
+run_shape = subcommand_shape (codes "run") (file_rule (codes "source") ∷ file_rule (codes "input") ∷ option_rule
+    (codes "workers") ∷ option_rule
     (codes "throttle") ∷ flag_rule (codes "record") ∷ [])
 
 -- play SOURCE INPUT [--workers P] [--throttle K] [--seed n] [--record]
 abbrev pub play_shape : Shape
-play_shape = subcommand_shape (codes "play") (file_rule (codes "source") ∷ file_rule (codes "input") ∷ option_rule (codes "workers") ∷ option_rule
+play_shape = subcommand_shape (codes "play") (file_rule (codes "source") ∷ file_rule (codes "input") ∷ option_rule
+    (codes "workers") ∷ option_rule
     (codes "throttle") ∷ option_rule (codes "seed") ∷ flag_rule (codes "record") ∷ [])
 
 -- serial SOURCE INPUT
@@ -44,12 +46,14 @@ bench_shape = subcommand_shape (codes "bench") (option_rule (codes "seed") ∷ o
 
 -- check-record SOURCE INPUT RECORD [--throttle K]
 abbrev pub check_record_shape : Shape
-check_record_shape = subcommand_shape (codes "check-record") (file_rule (codes "source") ∷ file_rule (codes "input") ∷ file_rule (codes "record")
+check_record_shape = subcommand_shape (codes "check-record")
+    (file_rule (codes "source") ∷ file_rule (codes "input") ∷ file_rule (codes "record")
     ∷ option_rule (codes "throttle") ∷ [])
 
 -- wave SOURCE INPUT [--workers P] [--throttle K]
 abbrev pub wave_shape : Shape
-wave_shape = subcommand_shape (codes "wave") (file_rule (codes "source") ∷ file_rule (codes "input") ∷ option_rule (codes "workers") ∷ option_rule
+wave_shape = subcommand_shape (codes "wave") (file_rule (codes "source") ∷ file_rule (codes "input") ∷ option_rule
+    (codes "workers") ∷ option_rule
     (codes "throttle") ∷ [])
 
 -- span SOURCE INPUT

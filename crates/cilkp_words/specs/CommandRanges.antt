@@ -5,9 +5,11 @@ use Rattle.pipe_gen.specs.declared.workload.TheConstants.{MOST_SIZE}
 use Rattle.cilkp_words.specs.Commands.{Command, Run, Play, Serial, Format, Bench, CheckRecord, Wave, Span}
 use Rattle.cilkp_words.specs.declared.ranges.TheConstants.{MOST_THROTTLE, MOST_WORKERS}
 
--- a command has from 1 to 64 workers, a throttling limit from 1 to 1,024, a seed up to 65,535, and a size from 1 to 40,000, as far as it has them
+-- a command has from 1 to 64 workers, a throttling limit from 1 to 1,024, a seed up to 65,535, and a size from 1 to 40,000, as far as it
+-- has them
 abbrev pub IsInRange : Command → Type 0
-IsInRange (Run source input workers throttle recorded) = ((1 ≤ workers) × (workers ≤ MOST_WORKERS)) × ((1 ≤ throttle) × (throttle ≤ MOST_THROTTLE))
+IsInRange (Run source input workers throttle recorded) = ((1 ≤ workers) × (workers ≤ MOST_WORKERS))
+    × ((1 ≤ throttle) × (throttle ≤ MOST_THROTTLE))
 IsInRange (Play source input workers throttle seed recorded) =
     ((1 ≤ workers) × (workers ≤ MOST_WORKERS)) × (((1 ≤ throttle) × (throttle ≤ MOST_THROTTLE)) × (seed ≤ MOST_SEED))
 IsInRange (Serial source input) = Unit {0}

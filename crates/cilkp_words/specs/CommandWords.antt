@@ -1,5 +1,6 @@
 -- Which command the words of a call ask for: `clap` states which lines it accepts, and which word each argument has.
-use Rattle.std.specs.Prelude.{ℕ, ◌*◌, ◌==◌, Bool, false, List, length, map, codes, String, string_bytes, Option, Some, None, if◌then◌else◌, option_and_then}
+use Rattle.std.specs.Prelude.{ℕ, ◌*◌, ◌==◌, Bool, false, List, length, map, codes, String, string_bytes, Option, Some, None, if◌then◌else◌}
+use Rattle.std.specs.Prelude.{option_and_then}
 use Rattle.std.specs.Option.{option_map_or}
 use Rattle.std.specs.Str.{bytes_eq}
 use Rattle.std.specs.declared.alloc.Global.{Global}
@@ -11,7 +12,8 @@ use Rattle.pipe_gen.specs.declared.workload.TheConstants.{MOST_SIZE}
 use Rattle.cilkp_words.specs.CommandLine.{command_line}
 use Rattle.cilkp_words.specs.Commands.{Command, Run, Play, Serial, Format, Bench, CheckRecord, Wave, Span}
 use Rattle.cilkp_words.specs.OptionNumbers.{number_or}
-use Rattle.cilkp_words.specs.declared.ranges.TheConstants.{DEFAULT_SEED, DEFAULT_SIZE, DEFAULT_WORKERS, MOST_THROTTLE, MOST_WORKERS, THROTTLE_PER_WORKER}
+use Rattle.cilkp_words.specs.declared.ranges.TheConstants.{DEFAULT_SEED, DEFAULT_SIZE, DEFAULT_WORKERS, MOST_THROTTLE, MOST_WORKERS}
+use Rattle.cilkp_words.specs.declared.ranges.TheConstants.{THROTTLE_PER_WORKER}
 
 -- the words of a call, as bytes
 abbrev pub words_of : List (String Global) → List Text
@@ -42,7 +44,8 @@ run_of rows = option_and_then (λ source. option_and_then (λ input.
 
 abbrev pub play_of : List Row → Option Command
 play_of rows = option_and_then (λ source. option_and_then (λ input.
-    option_and_then (λ workers. option_and_then (λ throttle. option_and_then (λ seed. Some (Play source input workers throttle seed (records rows)))
+    option_and_then (λ workers. option_and_then (λ throttle. option_and_then
+    (λ seed. Some (Play source input workers throttle seed (records rows)))
     (seed_of rows)) (throttle_of workers rows)) (workers_of rows))
     (first_of (codes "input") rows)) (first_of (codes "source") rows)
 
@@ -92,4 +95,5 @@ command_named name rows =
 -- the command that the words ask for, if they are one: the command line accepts them, and their subcommand has a command
 abbrev pub command_of : List Text → Option Command
 command_of words =
-    if length (fault_of command_line words) == 0 then option_and_then (λ p. command_named p.0 p.1) (subcommand_of command_line words) else None
+    if length (fault_of command_line words) == 0 then option_and_then (λ p. command_named p.0 p.1)
+    (subcommand_of command_line words) else None

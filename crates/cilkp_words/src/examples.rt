@@ -1,6 +1,7 @@
 //! Worked command lines, which the checker computes from the definitions.
 
-ghost use Rattle.cilkp_words.specs.WordExamples.{CallsForHelp, CheckedLines, FileNames, MisplacedOptions, OptionNumbers, OtherCommands, PlayedLines, RecordedLines, SeparateAndJoinedValues, WaveLines};
+ghost use Rattle.cilkp_words.specs.WordExamples.{CallsForHelp, CheckedLines, FileNames, MisplacedOptions, OptionNumbers, OtherCommands};
+ghost use Rattle.cilkp_words.specs.WordExamples.{PlayedLines, RecordedLines, SeparateAndJoinedValues, WaveLines};
 
 /// The value of an option is the next word or joined by `=`, and options may be anywhere among the
 /// files.

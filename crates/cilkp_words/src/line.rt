@@ -4,7 +4,8 @@ ghost use Rattle.std.specs.Prelude.{◌≡◌, ◌∷◌, [], IfOk, codes, false
 ghost use Rattle.clap.specs.Simple.{app_of, shape_of};
 ghost use Rattle.clap.specs.Walk.{rule_of};
 ghost use Rattle.clap.specs.declared.builder.command.Command.TheViews.{out-Command as fields_of};
-ghost use Rattle.cilkp_words.specs.CommandLine.{bare_line, bench_shape, check_record_shape, command_line, file_rule, flag_rule, format_shape, option_rule, play_shape, run_shape, serial_shape, span_shape, wave_shape};
+ghost use Rattle.cilkp_words.specs.CommandLine.{bare_line, bench_shape, check_record_shape, command_line, file_rule, flag_rule};
+ghost use Rattle.cilkp_words.specs.CommandLine.{format_shape, option_rule, play_shape, run_shape, serial_shape, span_shape, wave_shape};
 
 use clap::{Arg, ArgAction, Command};
 use std::alloc::{AllocError, Global};

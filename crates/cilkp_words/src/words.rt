@@ -6,7 +6,8 @@ ghost use Rattle.clap.specs.Simple.{subcommand_rows_of};
 ghost use Rattle.clap.specs.Walk.{first_of, rows_of};
 ghost use Rattle.cilkp_words.specs.CommandRanges.{IsInRange};
 ghost use Rattle.cilkp_words.specs.Commands.{command_data};
-ghost use Rattle.cilkp_words.specs.CommandWords.{bench_of, check_record_of, command_named, command_of, format_of, play_of, records, run_of, seed_of, serial_of, span_of, throttle_of, wave_of, words_of, workers_of};
+ghost use Rattle.cilkp_words.specs.CommandWords.{bench_of, check_record_of, command_named, command_of, format_of, play_of, records, run_of};
+ghost use Rattle.cilkp_words.specs.CommandWords.{seed_of, serial_of, span_of, throttle_of, wave_of, words_of, workers_of};
 ghost use Rattle.cilkp_words.specs.declared.ranges.TheConstants as ranges;
 
 use crate::commands::Command;

@@ -84,7 +84,8 @@ leads_from_landing columns x i m landing leads lands = record {
   reached = λ k l w. (
       let c = lands.crossed (omega (arith, l, w)) in
       let first : LeadsTo columns x (at (i + 1) landing) =
-      inr (one_more columns x (at i c.0) (at (i + 1) landing) (leads.reached c.0 c.1 (edge_begins_within c.2)) (AcrossEdge i c.0 landing c.2)) in
+      inr (one_more columns x (at i c.0) (at (i + 1) landing) (leads.reached c.0 c.1 (edge_begins_within c.2))
+      (AcrossEdge i c.0 landing c.2)) in
       (down_from columns x (i + 1) landing first).reached k l w);
 }
 

@@ -19,12 +19,14 @@ in_order_is (s ∷ ss) = ap (Then (statement_of s)) (in_order_is ss)
 pub same_statements : (xs ys : List Stmt) → map statement_of xs ≡ map statement_of ys → statements_of xs ≡ statements_of ys
 same_statements xs ys same = sym (in_order_is xs) ∙ (ap in_order same ∙ in_order_is ys)
 
-pub same_if : (e x : Expr) (a b c d : Block) → expression_of e ≡ expression_of x → statements_of a.statements.items ≡ statements_of c.statements.items
+pub same_if : (e x : Expr) (a b c d : Block) → expression_of e ≡ expression_of x → statements_of a.statements.items ≡ statements_of
+    c.statements.items
     → statements_of b.statements.items ≡ statements_of d.statements.items → statement_of (stmts.If e a b) ≡ statement_of (stmts.If x c d)
 same_if e x a b c d same_test same_then same_else =
     if_seen e a b ∙ (ap (λ k. If k (statements_of a.statements.items) (statements_of b.statements.items)) same_test
     ∙ (ap₂ (λ k l. If (expression_of x) k l) same_then same_else ∙ sym (if_seen x c d)))
 
-pub same_while : (e x : Expr) (a b : Block) → expression_of e ≡ expression_of x → statements_of a.statements.items ≡ statements_of b.statements.items
+pub same_while : (e x : Expr) (a b : Block) → expression_of e ≡ expression_of x → statements_of a.statements.items ≡ statements_of
+    b.statements.items
     → statement_of (stmts.While e a) ≡ statement_of (stmts.While x b)
 same_while e x a b same_test same_body = while_seen e a ∙ (ap₂ (λ k l. While k l) same_test same_body ∙ sym (while_seen x b))

@@ -1,5 +1,7 @@
 -- A book has room for each accepted program: its iterations keep to its limits.
-use Rattle.std.proofs.Common.{◌≡◌, ◌∙◌, ◌≤◌, ◌<◌, ◌+◌, ◌-◌, ◌*◌, ◌*ℤ◌, ◌⊎◌, inl, inr, ℕ, ℤ, zero, suc, pos, negsuc, Bool, true, false, not, List, [], ◌∷◌, ◌++◌, Option, Some, None, length, replicate, get_or, ap, sym, refl, subst, arith, int_lt, if◌then◌else◌}
+use Rattle.std.proofs.Common.{◌≡◌, ◌∙◌, ◌≤◌, ◌<◌, ◌+◌, ◌-◌, ◌*◌, ◌*ℤ◌, ◌⊎◌, inl, inr, ℕ, ℤ, zero, suc, pos, negsuc, Bool, true, false, not}
+use Rattle.std.proofs.Common.{List, [], ◌∷◌, ◌++◌, Option, Some, None, length, replicate, get_or, ap, sym, refl, subst, arith, int_lt}
+use Rattle.std.proofs.Common.{if◌then◌else◌}
 use Rattle.std.specs.Prelude.{◌≤ℤ◌}
 use Rattle.std.proofs.lemmas.Bool.{cases_lt}
 use Rattle.std.proofs.lemmas.Bool.Decides.{nat_tests}
@@ -77,7 +79,8 @@ accepted_programs_are_planned tree input accepted = record {
   planned = record {
     proper = proper;
     rows = length-append (replicate n stages) (1 ∷ []) ∙ ap (λ k. k + 1) long;
-    room = λ i within. room i (cases_lt i n) (subst (λ k. i < k) (length-append (replicate n stages) (1 ∷ []) ∙ ap (λ k. k + 1) long) within);
+    room = λ i within. room i (cases_lt i n) (subst (λ k. i < k) (length-append (replicate n stages) (1 ∷ []) ∙ ap (λ k. k + 1) long)
+        within);
   };
   few = (let few = limits.few in omega (arith, few));
   some_iterations = limits.some_iterations;
@@ -102,16 +105,19 @@ accepted_programs_are_planned tree input accepted = record {
     rooms : List ℕ
     rooms = replicate n stages ++ 1 ∷ []
 
-    room : (i : ℕ) → (i < n) ⊎ (n ≤ i) → i < n + 1 → (m : ℕ) × (get_or rooms i 0 ≡ suc m) × NamesAtMost m ((pipeline_of tree input).behaviour i)
+    room : (i : ℕ) → (i < n) ⊎ (n ≤ i) → i < n + 1 → (m : ℕ) × (get_or rooms i 0 ≡ suc m) × NamesAtMost m
+        ((pipeline_of tree input).behaviour i)
     room i (inl less) within =
         let one = limits.one_stage in (
           stages - 1,
           get_or_append_left (replicate n stages) (1 ∷ []) 0 i (rw (long) less) ∙ (get_or-replicate n i stages 0 less ∙ omega (arith, one)),
-          names_at_most ((pipeline_of tree input).behaviour i) (2 * natural tree.limits.steps) (2 * natural tree.limits.steps) (stages - 1) (programs_have_bounded_work tree input i),
+          names_at_most ((pipeline_of tree input).behaviour i) (2 * natural tree.limits.steps) (2 * natural tree.limits.steps) (stages - 1)
+              (programs_have_bounded_work tree input i),
         )
     room i (inr more) within =
         let last : i ≡ n = omega (arith, more, within) in (
           0,
           subst (λ k. get_or rooms k 0 ≡ 1) (long ∙ sym last) (get_or-append_seam (replicate n stages) 1 [] 0),
-          subst (λ k. NamesAtMost 0 ((pipeline_of tree input).behaviour k)) (sym last) (names_none ((pipeline_of tree input).behaviour n) proper.closes),
+          subst (λ k. NamesAtMost 0 ((pipeline_of tree input).behaviour k)) (sym last)
+              (names_none ((pipeline_of tree input).behaviour n) proper.closes),
         )

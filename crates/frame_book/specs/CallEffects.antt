@@ -95,7 +95,11 @@ kept_folded Spent = None
 
 -- iteration i has entered the stage that it had named, and its token is out
 abbrev pub with_entered : BookState → ℕ → BookState
-with_entered v i = record v { log = with_events v.log (kept_now (item_or Spent v.tokens i)) (events.Enter i ∷ []); tokens = slice_set v.tokens i Out }
+with_entered v i = record v {
+  log = with_events v.log (kept_now (item_or Spent v.tokens i)) (events.Enter i ∷ []);
+  tokens =
+      slice_set v.tokens i Out;
+}
 
 abbrev pub after_enter : {M : Type 0} → BookState → Option (FrameToken M) → BookState
 after_enter v None = v
@@ -105,7 +109,11 @@ after_enter v (Some t) = with_entered v t.iteration
 
 -- the token of iteration i is out; if the iteration had named a stage, it has entered it
 abbrev pub with_resumed : BookState → ℕ → BookState
-with_resumed v i = record v { log = with_events v.log (kept_now (item_or Spent v.tokens i)) (resume_events (frame_at (state_of v).frames i) i); tokens = slice_set v.tokens i Out }
+with_resumed v i = record v {
+  log = with_events v.log (kept_now (item_or Spent v.tokens i))
+      (resume_events (frame_at (state_of v).frames i) i);
+  tokens = slice_set v.tokens i Out;
+}
 
 abbrev pub after_rescue : {M : Type 0} → BookState → Rescue M → BookState
 after_rescue v rescue.Stopped = v

@@ -14,7 +14,8 @@ pub record IsOutOf (v : BookState) (t : TokenFields) : Type 0 where
   pub token : IsTokenOf (events_of v.log) t
   pub now : t.now ≤ 2 ^ 62 + length v.log
 
--- a payload that belongs to the book's lists, and is at the start of the instance of iteration i after these replies, for the book's program and input
+-- a payload that belongs to the book's lists, and is at the start of the instance of iteration i after these replies, for the book's
+-- program and input
 pub record IsPayloadOf {M : Type 0} (ReadyAt : SyntaxTree → List ℤ → M → ℕ → List (List ℤ) → Type 0) (tie : M → Tie) (v : BookState)
     (i : ℕ) (replies : List (List ℤ)) (m : M) : Type 0 where
   pub belongs : BelongsTo (tie m) v.lists

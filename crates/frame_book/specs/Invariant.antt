@@ -1,5 +1,6 @@
 -- What always holds of the tables of a book.
-use Rattle.std.specs.Prelude.{◌≡◌, ℕ, ℤ, List, [], ◌∷◌, ◌++◌, ◌+◌, ◌*◌, ◌^◌, ◌<◌, ◌≤◌, ◌↔◌, map, length, Bool, true, false, IsTrue, Some, slice_index_or}
+use Rattle.std.specs.Prelude.{◌≡◌, ℕ, ℤ, List, [], ◌∷◌, ◌++◌, ◌+◌, ◌*◌, ◌^◌, ◌<◌, ◌≤◌, ◌↔◌, map, length, Bool, true, false, IsTrue, Some}
+use Rattle.std.specs.Prelude.{slice_index_or}
 use Rattle.pipe_model.specs.declared.event.Event.{Event}
 use Rattle.pipe_model.specs.declared.node.Node.{Node}
 use Rattle.pipe_model.specs.declared.node.NodeId.{NodeId}
@@ -66,13 +67,16 @@ pub record HasActions (p : Pipeline) (log : List BookEntry) (traces : List (List
 -- ---- all together
 
 -- with these events in its log, their starts, and the state after them
-pub record IsBookAt {M : Type 0} (Whole : SyntaxTree → M → Type 0) (ReadyAt : SyntaxTree → List ℤ → M → ℕ → List (List ℤ) → Type 0) (tie : M → Tie) (b : Tables M) (es : List Event) (starts : List NodeId) (c : State) : Type 0 where
+pub record IsBookAt {M : Type 0} (Whole : SyntaxTree → M → Type 0) (ReadyAt : SyntaxTree → List ℤ → M → ℕ → List (List ℤ) → Type 0)
+    (tie : M → Tie) (b : Tables M) (es : List Event) (starts : List NodeId) (c : State) : Type 0 where
   pub sized : IsSized (pipeline_of (tree_of b.program) b.input) b.rows b.spare b.orders.down.capacity b.orders.right.capacity b.ledger.room
   pub logged : IsLogged b.limit es starts c
   pub rows : HasRows b.rows starts c
   pub actions : HasActions (pipeline_of (tree_of b.program) b.input) b.ledger.log (map (λ r. r.traces) b.rows) c
-  pub counted : (i : ℕ) → IsUnheld c.stopped (token_at b.rows i) → length (end_actions i b.ledger.log) ≡ length (slice_index_or (map (λ r. r.traces) b.rows) i [])
-  pub tokens : HasTokens (Whole (tree_of b.program)) (ReadyAt (tree_of b.program) b.input) tie (identities_of_orders b.orders) b.rows b.pool.home (length b.ledger.log) starts c
+  pub counted : (i : ℕ) → IsUnheld c.stopped (token_at b.rows i) → length (end_actions i b.ledger.log) ≡ length
+      (slice_index_or (map (λ r. r.traces) b.rows) i [])
+  pub tokens : HasTokens (Whole (tree_of b.program)) (ReadyAt (tree_of b.program) b.input) tie
+      (identities_of_orders b.orders) b.rows b.pool.home (length b.ledger.log) starts c
   pub down : b.orders.down.log ≡ down_first_log starts
   pub right : b.orders.right.log ≡ right_first_log (own_columns c) starts
   pub stopped : b.stopped ≡ c.stopped
@@ -86,5 +90,7 @@ pub record IsBookAt {M : Type 0} (Whole : SyntaxTree → M → Type 0) (ReadyAt 
   pub rise : HasRisingTickets b.ledger.log
 
 -- with the events of its log
-abbrev pub IsBook : {M : Type 0} → (SyntaxTree → M → Type 0) → (SyntaxTree → List ℤ → M → ℕ → List (List ℤ) → Type 0) → (M → Tie) → Tables M → Type 0
-IsBook Whole ReadyAt tie b = IsBookAt Whole ReadyAt tie b (events_of b.ledger.log) (starts_of (events_of b.ledger.log)) (state_after (events_of b.ledger.log))
+abbrev pub IsBook : {M : Type 0} → (SyntaxTree → M → Type 0) → (SyntaxTree → List ℤ → M → ℕ → List (List ℤ) → Type 0) → (M → Tie)
+    → Tables M → Type 0
+IsBook Whole ReadyAt tie b = IsBookAt Whole ReadyAt tie b (events_of b.ledger.log) (starts_of (events_of b.ledger.log))
+    (state_after (events_of b.ledger.log))

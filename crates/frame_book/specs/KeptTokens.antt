@@ -14,7 +14,8 @@ use Rattle.frame_book.specs.IterationRows.{IterationRow}
 use Rattle.frame_book.specs.RowsOfFrames.{token_at}
 
 -- the token of iteration i, whose instance has made no access, or which waits
-pub record IsKeptToken {M : Type 0} (ReadyAt : M → ℕ → List (List ℤ) → Type 0) (tie : M → Tie) (lists : ListIdentities) (traces : List (List (List Entry))) (starts : List NodeId) (c : State) (i : ℕ) (f : Frame) (t : FrameToken M) : Type 0 where
+pub record IsKeptToken {M : Type 0} (ReadyAt : M → ℕ → List (List ℤ) → Type 0) (tie : M → Tie) (lists : ListIdentities)
+    (traces : List (List (List Entry))) (starts : List NodeId) (c : State) (i : ℕ) (f : Frame) (t : FrameToken M) : Type 0 where
   pub iteration : t.iteration ≡ i
   pub index : length f.nodes ≡ suc t.index
   pub joined : t.joined ≡ left_joined (own_columns c) i t.index
@@ -30,7 +31,9 @@ pub record IsAtHome {M : Type 0} (Whole : M → Type 0) (tie : M → Tie) (lists
   pub belongs : BelongsTo (tie m) lists
 
 -- the tokens of the rows and the payloads of the pool; of a stopped book only the tickets are kept in bounds
-pub record HasTokens {M : Type 0} (Whole : M → Type 0) (ReadyAt : M → ℕ → List (List ℤ) → Type 0) (tie : M → Tie) (lists : ListIdentities) (rows : List (IterationRow M)) (home : List M) (entries : ℕ) (starts : List NodeId) (c : State) : Type 0 where
-  pub tokens : c.stopped ≡ false → (i : ℕ) (f : Frame) (t : FrameToken M) → frame_at c.frames i ≡ Some f → token_at rows i ≡ Some t → IsKeptToken ReadyAt tie lists (map (λ r. r.traces) rows) starts c i f t
+pub record HasTokens {M : Type 0} (Whole : M → Type 0) (ReadyAt : M → ℕ → List (List ℤ) → Type 0) (tie : M → Tie) (lists : ListIdentities)
+    (rows : List (IterationRow M)) (home : List M) (entries : ℕ) (starts : List NodeId) (c : State) : Type 0 where
+  pub tokens : c.stopped ≡ false → (i : ℕ) (f : Frame) (t : FrameToken M) → frame_at c.frames i ≡ Some f → token_at rows i ≡ Some t
+      → IsKeptToken ReadyAt tie lists (map (λ r. r.traces) rows) starts c i f t
   pub nows : (i : ℕ) (t : FrameToken M) → token_at rows i ≡ Some t → t.now ≤ 2 ^ 62 + entries
   pub at_home : All (IsAtHome Whole tie lists) home

@@ -21,4 +21,14 @@ abbrev pub AcceptedProgramsArePlanned : Type 0
 AcceptedProgramsArePlanned = (tree : SyntaxTree) (input : List ℤ) → BreaksNoRule tree → IsPlannedProgram tree input
 
 abbrev pub new_book : Program → List ℤ → ℕ → ListIdentities → BookState
-new_book p input limit lists = record { program = p; input = input; limit = limit; lists = lists; log = []; traces = []; tokens = []; reads = 0 }
+new_book p input limit lists = record {
+  program = p;
+  input = input;
+  limit = limit;
+  lists = lists;
+  log = [];
+  traces = [];
+  tokens =
+      [];
+  reads = 0;
+}

@@ -1,5 +1,6 @@
 -- The rows of a book as those of the iterations of a state.
-use Rattle.std.specs.Prelude.{◌≡◌, ℕ, zero, suc, List, [], ◌∷◌, ◌<◌, ◌≤◌, ◌⊎◌, map, length, Bool, true, false, not, Option, Some, None, IsSome, slice_index_or}
+use Rattle.std.specs.Prelude.{◌≡◌, ℕ, zero, suc, List, [], ◌∷◌, ◌<◌, ◌≤◌, ◌⊎◌, map, length, Bool, true, false, not, Option, Some, None}
+use Rattle.std.specs.Prelude.{IsSome, slice_index_or}
 use Rattle.pipe_model.specs.declared.marks.Marks.{Marks}
 use Rattle.pipe_model.specs.declared.node.Kind.TheVariants.{Wait}
 use Rattle.pipe_model.specs.declared.node.NodeId.{NodeId}
@@ -62,7 +63,8 @@ no_marks = start_marks 0 0 0
 -- the rows are those of a state after these starts, and have the marks of all instances
 pub record HasRows {M : Type 0} (rows : List (IterationRow M)) (starts : List NodeId) (c : State) : Type 0 where
   pub each : AreRows (not c.stopped) c.frames rows
-  pub marks : (i k : ℕ) → k < length (nodes_at (own_columns c) i) → slice_index_or (slice_index_or (map (λ r. r.marks) rows) i []) k no_marks ≡ instance_marks (own_columns c) starts i k
+  pub marks : (i k : ℕ) → k < length (nodes_at (own_columns c) i) → slice_index_or (slice_index_or (map (λ r. r.marks) rows) i []) k
+      no_marks ≡ instance_marks (own_columns c) starts i k
   pub started : length starts ≡ total (λ r. length r.numbers) rows
 
 -- ---- which iterations may go on

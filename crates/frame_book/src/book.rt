@@ -1,6 +1,7 @@
 //! The book, and its calls.
 
-ghost use Rattle.std.specs.Prelude.{◌≡◌, ◌≢◌, ◌↔◌, ◌+◌, ◌-◌, ◌*◌, ◌<◌, ◌≤◌, ◌^◌, [], ◌∷◌, ◌++◌, true, false, IsTrue, None, cond, ◌||◌, length, All, IfOk, IfSome, ℕ};
+ghost use Rattle.std.specs.Prelude.{◌≡◌, ◌≢◌, ◌↔◌, ◌+◌, ◌-◌, ◌*◌, ◌<◌, ◌≤◌, ◌^◌, [], ◌∷◌, ◌++◌, true, false, IsTrue, None, cond, ◌||◌};
+ghost use Rattle.std.specs.Prelude.{length, All, IfOk, IfSome, ℕ};
 ghost use Rattle.pipe_model.specs.Runs.Allowed.{IsRunning, MayBegin, MayEnter};
 ghost use Rattle.pipe_model.specs.Runs.Run.{IsFinished};
 ghost use Rattle.pipe_model.specs.Pipelines.Behaviour.{Performs, Staged, Ended, closes_at_once};
@@ -14,17 +15,21 @@ ghost use Rattle.pipe_model.specs.Runs.State.{own_columns};
 ghost use Rattle.pipe_model.specs.Language.SyntaxTree.{tree_of};
 ghost use Rattle.pipe_model.specs.declared.event.Event.TheVariants as events;
 ghost use Rattle.pipe_model.specs.Runs.State.{frame_at};
-ghost use Rattle.pipe_frame.specs.CallResults.{resume_events, BeginReturns, AdvanceReturns, NameReturns, EnterReturns, RescueReturns, CanGoOn};
+ghost use Rattle.pipe_frame.specs.CallResults.{resume_events, BeginReturns, AdvanceReturns, NameReturns, EnterReturns, RescueReturns};
+ghost use Rattle.pipe_frame.specs.CallResults.{CanGoOn};
 ghost use Rattle.pipe_frame.specs.StageEndCases.{NamesNextStage};
 ghost use Rattle.pipe_frame.specs.Ties.{KnowsMarks, BelongsTo};
 ghost use Rattle.pipe_frame.specs.TokenFields.{fields_of};
 ghost use Rattle.pipe_frame.specs.ResultTokens.{IfStarted, IfGo, IfNothing, IfToken};
-ghost use Rattle.frame_book.specs.BookStates.{HasRisingTickets, actions_at, events_of, state_of, with_events, with_last_raised, left_of, pipeline_in, replies_at, item_or, last_ticket, IsOut, Spent};
+ghost use Rattle.frame_book.specs.BookStates.{HasRisingTickets, actions_at, events_of, state_of, with_events, with_last_raised, left_of};
+ghost use Rattle.frame_book.specs.BookStates.{pipeline_in, replies_at, item_or, last_ticket, IsOut, Spent};
 ghost use Rattle.pipe_frame.specs.Replies.{IsPerformed, accessed, replies_of};
 ghost use Rattle.order_2d.specs.SeenOrders.{AreOfLists, AreSameLists, HasSeen};
 ghost use Rattle.frame_book.specs.NewBooks.{IsPlannedProgram, new_book};
 ghost use Rattle.program_laws.specs.WorkBounds.{most_instances};
-ghost use Rattle.frame_book.specs.CallEffects.{identities_of_orders, after_stop, after_begin, with_named, with_finished, with_held, with_entered, after_enter, after_advance, folded_after, after_name_next, after_rescue, with_resumed, after_leave_ready, IsReady, kept_folded, stage_end};
+ghost use Rattle.frame_book.specs.CallEffects.{identities_of_orders, after_stop, after_begin, with_named, with_finished, with_held};
+ghost use Rattle.frame_book.specs.CallEffects.{with_entered, after_enter, after_advance, folded_after, after_name_next, after_rescue};
+ghost use Rattle.frame_book.specs.CallEffects.{with_resumed, after_leave_ready, IsReady, kept_folded, stage_end};
 ghost use Rattle.frame_book.specs.GivenTokens.{IsGivenBeside, IsGivenBy, IsOutOf, IsPayloadOf};
 
 use crate::copy::{copy_numbers, copy_program};
@@ -97,7 +102,8 @@ impl<M: Payload<L>, L: ListWriter + Drop> Model for Book<M, L> {
 
     ghost view = { λ b. book_state (tables_of b) };
 
-    ghost invariant = { λ b. IsBook M.whole M.ready_at M.tie (tables_of b) × HasAliveList b.rows.items b.spare.items b.alive.items (vec_capacity b.alive) };
+    ghost invariant = { λ b. IsBook M.whole M.ready_at M.tie (tables_of b) × HasAliveList b.rows.items b.spare.items b.alive.items
+        (vec_capacity b.alive) };
 }
 
 impl<M: Payload<L>, L: ListWriter + Drop> Book<M, L> {
@@ -119,7 +125,8 @@ impl<M: Payload<L>, L: ListWriter + Drop> Book<M, L> {
         requires payloads { length payloads.items ≡ throttle }
         requires whole { All (λ m. M.whole (tree_of program.now) m × BelongsTo (M.tie m) (identities_of_orders orders)) payloads.items }
         requires started { (orders.down.log ≡ []) × (orders.right.log ≡ []) }
-        requires room { (2 * most_instances (tree_of program.now) < orders.down.capacity) × (2 * most_instances (tree_of program.now) < orders.right.capacity) }
+        requires room { (2 * most_instances (tree_of program.now) < orders.down.capacity)
+            × (2 * most_instances (tree_of program.now) < orders.right.capacity) }
         ensures tree { IfOk result (λ book. tree_of book.program ≡ tree_of program.now) }
         ensures book { IfOk result (λ book. book ≡ new_book book.program input.now throttle (identities_of_orders orders)) }
     {
@@ -142,7 +149,8 @@ impl<M: Payload<L>, L: ListWriter + Drop> Book<M, L> {
         requires payloads { length payloads.items ≡ throttle }
         requires whole { All (λ m. M.whole (tree_of program) m × BelongsTo (M.tie m) (identities_of_orders orders)) payloads.items }
         requires started { (orders.down.log ≡ []) × (orders.right.log ≡ []) }
-        requires room { (2 * most_instances (tree_of program) < orders.down.capacity) × (2 * most_instances (tree_of program) < orders.right.capacity) }
+        requires room { (2 * most_instances (tree_of program) < orders.down.capacity)
+            × (2 * most_instances (tree_of program) < orders.right.capacity) }
         ensures { IfOk result (λ book. book ≡ new_book program input throttle (identities_of_orders orders)) }
     {
         let stages = program.limits.stages as usize;
@@ -186,7 +194,8 @@ impl<M: Payload<L>, L: ListWriter + Drop> Book<M, L> {
     /// Returns the two order lists, which are those of the starts in the log.
     pub fn orders(&self) -> &TwoOrders<L>
         ensures down { result.now.down.log ≡ down_first_log (starts_of (events_of self.now.log)) }
-        ensures right { result.now.right.log ≡ right_first_log (columns_after (events_of self.now.log)) (starts_of (events_of self.now.log)) }
+        ensures right { result.now.right.log ≡ right_first_log (columns_after (events_of self.now.log))
+            (starts_of (events_of self.now.log)) }
         ensures lists { identities_of_orders result.now ≡ self.now.lists }
     {
         &self.orders
@@ -274,7 +283,8 @@ impl<M: Payload<L>, L: ListWriter + Drop> Book<M, L> {
         requires going { (state_of self.old).stopped ≡ false }
         requires out { IsOutOf self.old (fields_of token) }
         requires performs { Performs (left_of self.old token.iteration) (accessed trace ++ Staged kind number ∷ []) }
-        requires payload { IsPayloadOf M.ready_at M.tie self.old token.iteration (replies_at self.old token.iteration ++ replies_of trace ∷ []) token.payload }
+        requires payload { IsPayloadOf M.ready_at M.tie self.old token.iteration
+            (replies_at self.old token.iteration ++ replies_of trace ∷ []) token.payload }
         ensures { self.new ≡ with_named self.old (fields_of token) (events.Advance token.iteration kind number) trace }
     {
         let iteration = token.iteration;
@@ -361,11 +371,13 @@ impl<M: Payload<L>, L: ListWriter + Drop> Book<M, L> {
         requires whole { M.whole (tree_of self.old.program) token.payload }
         requires belongs { BelongsTo (M.tie token.payload) self.old.lists }
         requires performs { IsPerformed (pipeline_in self.old) token.iteration (replies_at self.old token.iteration) trace end }
-        requires ready { NamesNextStage end → M.ready_at (tree_of self.old.program) self.old.input token.payload token.iteration (replies_at self.old token.iteration ++ replies_of trace ∷ []) }
+        requires ready { NamesNextStage end → M.ready_at (tree_of self.old.program) self.old.input token.payload token.iteration
+            (replies_at self.old token.iteration ++ replies_of trace ∷ []) }
         requires stopped { end ≡ StageEnd.Stopped → (state_of self.old).stopped ≡ true }
         ensures returned { AdvanceReturns (state_of self.old) token.iteration token.index end result }
         ensures book { self.new ≡ after_advance self.old (fields_of token) end trace result }
-        ensures token { IfGo result (λ t. IsGivenBy M.ready_at M.tie self.new t × (t.folded ≡ folded_after self.old (fields_of token) end)) }
+        ensures token { IfGo result (λ t. IsGivenBy M.ready_at M.tie self.new t
+            × (t.folded ≡ folded_after self.old (fields_of token) end)) }
         ensures now { IfGo result (λ t. t.now ≡ last_ticket self.new.log) }
     {
         if self.stopped {
@@ -397,10 +409,12 @@ impl<M: Payload<L>, L: ListWriter + Drop> Book<M, L> {
         requires out { IsOutOf self.old (fields_of token) }
         requires kind { kind ≢ Kind.Zero }
         requires performs { Performs (left_of self.old token.iteration) (accessed trace ++ Staged kind number ∷ []) }
-        requires payload { IsPayloadOf M.ready_at M.tie self.old token.iteration (replies_at self.old token.iteration ++ replies_of trace ∷ []) token.payload }
+        requires payload { IsPayloadOf M.ready_at M.tie self.old token.iteration
+            (replies_at self.old token.iteration ++ replies_of trace ∷ []) token.payload }
         ensures returned { AdvanceReturns (state_of self.old) token.iteration token.index (stage_end kind number) result }
         ensures book { self.new ≡ after_advance self.old (fields_of token) (stage_end kind number) trace result }
-        ensures token { IfGo result (λ t. IsGivenBy M.ready_at M.tie self.new t × (t.folded ≡ folded_after self.old (fields_of token) (stage_end kind number))) }
+        ensures token { IfGo result (λ t. IsGivenBy M.ready_at M.tie self.new t
+            × (t.folded ≡ folded_after self.old (fields_of token) (stage_end kind number))) }
         ensures now { IfGo result (λ t. t.now ≡ last_ticket self.new.log) }
     {
         let iteration = token.iteration;
@@ -423,7 +437,8 @@ impl<M: Payload<L>, L: ListWriter + Drop> Book<M, L> {
         requires whole { M.whole (tree_of self.old.program) token.payload }
         requires belongs { BelongsTo (M.tie token.payload) self.old.lists }
         requires performs { IsPerformed (pipeline_in self.old) token.iteration (replies_at self.old token.iteration) trace end }
-        requires ready { NamesNextStage end → M.ready_at (tree_of self.old.program) self.old.input token.payload token.iteration (replies_at self.old token.iteration ++ replies_of trace ∷ []) }
+        requires ready { NamesNextStage end → M.ready_at (tree_of self.old.program) self.old.input token.payload token.iteration
+            (replies_at self.old token.iteration ++ replies_of trace ∷ []) }
         requires stopped { end ≡ StageEnd.Stopped → (state_of self.old).stopped ≡ true }
         ensures returned { NameReturns (state_of self.old) end result }
         ensures book { self.new ≡ after_name_next self.old (fields_of token) end trace result }
@@ -498,7 +513,8 @@ impl<M: Payload<L>, L: ListWriter + Drop> Book<M, L> {
         ensures returned { RescueReturns self.old.limit (state_of self.old) (IsReady self.old) result }
         ensures book { self.new ≡ after_rescue self.old result }
         ensures token { IfToken result (IsGivenBy M.ready_at M.tie self.new) }
-        ensures now { IfToken result (λ t. IsGivenBeside (resume_events (frame_at (state_of self.old).frames t.iteration) t.iteration) self.old self.new (fields_of t)) }
+        ensures now { IfToken result (λ t. IsGivenBeside (resume_events (frame_at (state_of self.old).frames t.iteration) t.iteration)
+            self.old self.new (fields_of t)) }
         ensures folded { IfToken result (λ t. t.folded ≡ kept_folded (item_or Spent self.old.tokens t.iteration)) }
         ensures nothing { IfNothing result ((i : ℕ) × IsOut self.old i) }
     {
@@ -562,7 +578,8 @@ impl<M: Payload<L>, L: ListWriter + Drop> Book<M, L> {
         ensures iteration { result.iteration ≡ iteration }
         ensures book { self.new ≡ with_resumed self.old iteration }
         ensures token { IsGivenBy M.ready_at M.tie self.new result }
-        ensures now { IsGivenBeside (resume_events (frame_at (state_of self.old).frames iteration) iteration) self.old self.new (fields_of result) }
+        ensures now { IsGivenBeside (resume_events (frame_at (state_of self.old).frames iteration) iteration) self.old self.new
+            (fields_of result) }
         ensures folded { result.folded ≡ kept_folded (item_or Spent self.old.tokens iteration) }
     {
         let row = &mut self.rows[iteration as usize];
@@ -620,7 +637,8 @@ impl<M: Payload<OmWriter>> Book<M, OmWriter> {
         requires { AreOfLists passes.old self.old.lists.down self.old.lists.right }
         ensures same { self.new ≡ self.old }
         ensures down { passes.new.down_log ≡ down_first_log (starts_of (events_of self.old.log)) }
-        ensures right { passes.new.right_log ≡ right_first_log (columns_after (events_of self.old.log)) (starts_of (events_of self.old.log)) }
+        ensures right { passes.new.right_log ≡ right_first_log (columns_after (events_of self.old.log))
+            (starts_of (events_of self.old.log)) }
         ensures lists { AreSameLists passes.new passes.old }
         ensures later { HasSeen passes.new passes.old }
         ensures logs { IsLog 1 passes.new.down_log × IsLog 1 passes.new.right_log }

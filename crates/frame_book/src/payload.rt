@@ -21,7 +21,8 @@ pub trait Payload<L: ListWriter + Drop>: Stands + Drop {
     fn started(&mut self, orders: &mut TwoOrders<L>)
         requires { BelongsTo (Self.tie self.old) (identities_of_orders orders.old) }
         ensures whole { (tree : SyntaxTree) → Self.whole tree self.old → Self.whole tree self.new }
-        ensures ready { (tree : SyntaxTree) (input : List ℤ) (i : ℕ) (replies : List (List ℤ)) → Self.ready_at tree input self.old i replies → Self.ready_at tree input self.new i replies }
+        ensures ready { (tree : SyntaxTree) (input : List ℤ) (i : ℕ) (replies : List (List ℤ))
+            → Self.ready_at tree input self.old i replies → Self.ready_at tree input self.new i replies }
         ensures tie { SameTieButLogs (Self.tie self.new) (Self.tie self.old) orders.old }
         ensures orders { orders.new ≡ orders.old };
 }

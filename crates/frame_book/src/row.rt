@@ -1,6 +1,7 @@
 //! The row of an iteration: its instances, its status, and its token if the book keeps it.
 
-ghost use Rattle.std.specs.Prelude.{◌≡◌, ◌+◌, ◌-◌, ◌<◌, ◌≤◌, ◌^◌, [], ◌∷◌, ◌++◌, length, IfOk, Some, None, ◌↔◌, IsTrue, IsSome, slice_index_or, pos};
+ghost use Rattle.std.specs.Prelude.{◌≡◌, ◌+◌, ◌-◌, ◌<◌, ◌≤◌, ◌^◌, [], ◌∷◌, ◌++◌, length, IfOk, Some, None, ◌↔◌, IsTrue, IsSome};
+ghost use Rattle.std.specs.Prelude.{slice_index_or, pos};
 ghost use Rattle.pipe_model.specs.Runs.State.{is_completed};
 ghost use Rattle.frame_book.specs.IterationRows.{RowEndedFirst, empty_row, row_counter, suspended_row, with_instance, with_trace};
 

@@ -1,6 +1,7 @@
 //! Questions about the rows of all iterations.
 
-ghost use Rattle.std.specs.Prelude.{◌≡◌, ◌↔◌, ◌+◌, ◌-◌, ◌<◌, ◌≤◌, ◌≢◌, ◌^◌, zero, [], ◌∷◌, ◌++◌, length, IsTrue, Some, None, ℕ, Bool, List, slice_index_or, IfSome, IfNone, ◌≤ℤ◌, pos};
+ghost use Rattle.std.specs.Prelude.{◌≡◌, ◌↔◌, ◌+◌, ◌-◌, ◌<◌, ◌≤◌, ◌≢◌, ◌^◌, zero, [], ◌∷◌, ◌++◌, length, IsTrue, Some, None, ℕ, Bool, List};
+ghost use Rattle.std.specs.Prelude.{slice_index_or, IfSome, IfNone, ◌≤ℤ◌, pos};
 ghost use Rattle.pipe_model.specs.Runs.State.{Frame};
 ghost use Rattle.pipe_model.specs.Runs.Allowed.{LeftHasPassed, IsClosed, LastEndedFirstInstance};
 ghost use Rattle.frame_book.specs.RowsOfFrames.{AreRows, IsFree, RowGoesOn};
@@ -94,7 +95,8 @@ pub fn begins_alive<M>(rows: &[Iteration<M>], alive: &[u32]) -> bool {
 /// Looks only at the listed ones, in order.
 pub fn first_to_go_on<M>(rows: &[Iteration<M>], alive: &[u32]) -> Option<u32>
     requires { ListsAlive rows.now alive.now }
-    ensures some { (going : Bool) (fs : List Frame) → AreRows going fs rows.now → IfSome result (λ i. RowGoesOn fs rows.now i × ((j : ℕ) → j < i → RowGoesOn fs rows.now j → ⊥)) }
+    ensures some { (going : Bool) (fs : List Frame) → AreRows going fs rows.now → IfSome result
+        (λ i. RowGoesOn fs rows.now i × ((j : ℕ) → j < i → RowGoesOn fs rows.now j → ⊥)) }
     ensures none { (going : Bool) (fs : List Frame) → AreRows going fs rows.now → IfNone result ((j : ℕ) → RowGoesOn fs rows.now j → ⊥) }
 {
     for iteration in alive {

@@ -1,6 +1,7 @@
 //! Starts of instances, in the order lists and for their payloads.
 
-ghost use Rattle.std.specs.Prelude.{◌≡◌, ◌+◌, ◌-◌, ◌<◌, ◌≤◌, ◌≢◌, ◌^◌, ℕ, ℤ, List, zero, pos, [], length, IfSome, IfNone, IsSome, Some, None, ◌⊎◌, slice_index_or};
+ghost use Rattle.std.specs.Prelude.{◌≡◌, ◌+◌, ◌-◌, ◌<◌, ◌≤◌, ◌≢◌, ◌^◌, ℕ, ℤ, List, zero, pos, [], length, IfSome, IfNone, IsSome, Some};
+ghost use Rattle.std.specs.Prelude.{None, ◌⊎◌, slice_index_or};
 ghost use Rattle.left_parent.specs.LastNumber.{IsLastUpTo};
 ghost use Rattle.order_2d.specs.OrderPairs.{with_start, marks_after, down_taken, right_taken, HasRoom, AreInserted};
 ghost use Rattle.frame_book.specs.IterationRows.{row_at, head_marks, left_numbers, WaitsAt, IsSearchable, HasMarks, marks_at, left_marks};
@@ -26,9 +27,11 @@ pub fn start_head<M: Payload<L>, L: ListWriter + Drop>(
     requires inserted { AreInserted (length orders.old.down.log) None (head_marks rows.now) }
     requires room { HasRoom orders.old }
     requires belongs { BelongsTo (M.tie payload.old) (identities_of_orders orders.old) }
-    ensures marks { result ≡ marks_after (length orders.old.down.log) (down_taken None (head_marks rows.now)) (right_taken None (head_marks rows.now)) }
+    ensures marks { result ≡ marks_after (length orders.old.down.log) (down_taken None (head_marks rows.now))
+        (right_taken None (head_marks rows.now)) }
     ensures lists { orders.new ≡ with_start orders.old (down_taken None (head_marks rows.now)) (right_taken None (head_marks rows.now)) }
-    ensures ready { (tree : SyntaxTree) (input : List ℤ) (i : ℕ) (replies : List (List ℤ)) → M.ready_at tree input payload.old i replies → M.ready_at tree input payload.new i replies }
+    ensures ready { (tree : SyntaxTree) (input : List ℤ) (i : ℕ) (replies : List (List ℤ)) → M.ready_at tree input payload.old i replies
+        → M.ready_at tree input payload.new i replies }
     ensures tie { SameTieButLogs (M.tie payload.new) (M.tie payload.old) orders.new }
 {
     let marks = insert_head(rows, orders);
@@ -41,7 +44,8 @@ fn insert_head<M, L: ListWriter + Drop>(rows: &[Iteration<M>], orders: &mut TwoO
     requires there { (r : _) → row_at rows.now (length rows.now - 1) ≡ Some r → 0 < length r.marks }
     requires inserted { AreInserted (length orders.old.down.log) None (head_marks rows.now) }
     requires room { HasRoom orders.old }
-    ensures marks { result ≡ marks_after (length orders.old.down.log) (down_taken None (head_marks rows.now)) (right_taken None (head_marks rows.now)) }
+    ensures marks { result ≡ marks_after (length orders.old.down.log) (down_taken None (head_marks rows.now))
+        (right_taken None (head_marks rows.now)) }
     ensures lists { orders.new ≡ with_start orders.old (down_taken None (head_marks rows.now)) (right_taken None (head_marks rows.now)) }
 {
     if rows.is_empty() {
@@ -64,7 +68,8 @@ pub fn left_place<M>(
     requires left { WaitsAt kind iteration → IsSearchable (left_numbers rows.now iteration) }
     ensures none { (WaitsAt kind iteration → ⊥) → result ≡ None }
     ensures some { WaitsAt kind iteration → IfSome result (λ j. (joined < j) × IsLastUpTo (left_numbers rows.now iteration) j number) }
-    ensures nothing { WaitsAt kind iteration → IfNone result ((j : ℕ) → IsLastUpTo (left_numbers rows.now iteration) j number → j ≤ joined) }
+    ensures nothing { WaitsAt kind iteration → IfNone result
+        ((j : ℕ) → IsLastUpTo (left_numbers rows.now iteration) j number → j ≤ joined) }
 {
     if iteration == 0 {
         return None;
@@ -91,12 +96,18 @@ pub fn start_below<M: Payload<L>, L: ListWriter + Drop>(
 ) -> Marks
     requires up { HasMarks rows.now iteration index }
     requires left { (j : ℕ) → left ≡ Some j → (0 < iteration) × HasMarks rows.now (iteration - 1) j }
-    requires inserted { AreInserted (length orders.old.down.log) (Some (marks_at rows.now iteration index)) (left_marks rows.now iteration left) }
+    requires inserted { AreInserted (length orders.old.down.log) (Some (marks_at rows.now iteration index))
+        (left_marks rows.now iteration left) }
     requires room { HasRoom orders.old }
     requires belongs { BelongsTo (M.tie payload.old) (identities_of_orders orders.old) }
-    ensures marks { result ≡ marks_after (length orders.old.down.log) (down_taken (Some (marks_at rows.now iteration index)) (left_marks rows.now iteration left)) (right_taken (Some (marks_at rows.now iteration index)) (left_marks rows.now iteration left)) }
-    ensures lists { orders.new ≡ with_start orders.old (down_taken (Some (marks_at rows.now iteration index)) (left_marks rows.now iteration left)) (right_taken (Some (marks_at rows.now iteration index)) (left_marks rows.now iteration left)) }
-    ensures ready { (tree : SyntaxTree) (input : List ℤ) (i : ℕ) (replies : List (List ℤ)) → M.ready_at tree input payload.old i replies → M.ready_at tree input payload.new i replies }
+    ensures marks { result ≡ marks_after (length orders.old.down.log)
+        (down_taken (Some (marks_at rows.now iteration index)) (left_marks rows.now iteration left))
+        (right_taken (Some (marks_at rows.now iteration index)) (left_marks rows.now iteration left)) }
+    ensures lists { orders.new ≡ with_start orders.old
+        (down_taken (Some (marks_at rows.now iteration index)) (left_marks rows.now iteration left))
+        (right_taken (Some (marks_at rows.now iteration index)) (left_marks rows.now iteration left)) }
+    ensures ready { (tree : SyntaxTree) (input : List ℤ) (i : ℕ) (replies : List (List ℤ)) → M.ready_at tree input payload.old i replies
+        → M.ready_at tree input payload.new i replies }
     ensures tie { SameTieButLogs (M.tie payload.new) (M.tie payload.old) orders.new }
 {
     let marks = insert_below(rows, orders, iteration, index, left);
@@ -114,10 +125,15 @@ fn insert_below<M, L: ListWriter + Drop>(
 ) -> Marks
     requires up { HasMarks rows.now iteration index }
     requires left { (j : ℕ) → left ≡ Some j → (0 < iteration) × HasMarks rows.now (iteration - 1) j }
-    requires inserted { AreInserted (length orders.old.down.log) (Some (marks_at rows.now iteration index)) (left_marks rows.now iteration left) }
+    requires inserted { AreInserted (length orders.old.down.log) (Some (marks_at rows.now iteration index))
+        (left_marks rows.now iteration left) }
     requires room { HasRoom orders.old }
-    ensures marks { result ≡ marks_after (length orders.old.down.log) (down_taken (Some (marks_at rows.now iteration index)) (left_marks rows.now iteration left)) (right_taken (Some (marks_at rows.now iteration index)) (left_marks rows.now iteration left)) }
-    ensures lists { orders.new ≡ with_start orders.old (down_taken (Some (marks_at rows.now iteration index)) (left_marks rows.now iteration left)) (right_taken (Some (marks_at rows.now iteration index)) (left_marks rows.now iteration left)) }
+    ensures marks { result ≡ marks_after (length orders.old.down.log)
+        (down_taken (Some (marks_at rows.now iteration index)) (left_marks rows.now iteration left))
+        (right_taken (Some (marks_at rows.now iteration index)) (left_marks rows.now iteration left)) }
+    ensures lists { orders.new ≡ with_start orders.old
+        (down_taken (Some (marks_at rows.now iteration index)) (left_marks rows.now iteration left))
+        (right_taken (Some (marks_at rows.now iteration index)) (left_marks rows.now iteration left)) }
 {
     let row = &rows[iteration as usize];
     let up = row.marks_at(index as usize);

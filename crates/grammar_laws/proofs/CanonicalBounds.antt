@@ -1,5 +1,6 @@
 -- The canonical symbols of a program are at most as many as any symbols that derive it, and open at most as many brackets at a time.
-use Rattle.std.proofs.Common.{◌≡◌, ◌∙◌, ap, sym, refl, subst, ℕ, suc, ◌+◌, ◌-◌, ◌≤◌, Bool, true, false, List, [], ◌∷◌, ◌++◌, append_assoc, append-nil, length, length-append, arith, nat_le, if◌then◌else◌, ◌==◌, cond}
+use Rattle.std.proofs.Common.{◌≡◌, ◌∙◌, ap, sym, refl, subst, ℕ, suc, ◌+◌, ◌-◌, ◌≤◌, Bool, true, false, List, [], ◌∷◌, ◌++◌, append_assoc}
+use Rattle.std.proofs.Common.{append-nil, length, length-append, arith, nat_le, if◌then◌else◌, ◌==◌, cond}
 use Rattle.std.specs.List.{count_by}
 use Rattle.std.proofs.lemmas.Bool.{false≢true}
 use Rattle.std.proofs.lemmas.Bool.Decides.{nat_tests}
@@ -8,8 +9,10 @@ use Rattle.pipe_model.specs.declared.symbol.Symbol.{Symbol}
 use Rattle.pipe_model.specs.declared.symbol.Symbol.TheVariants as symbols
 use Rattle.grammar_laws.proofs.CanonicalSymbols.{unary_symbol, symbols_at_level, binary_symbols, expression_symbols}
 use Rattle.pipe_model.specs.Language.CanonicalText.{level_in}
-use Rattle.pipe_model.specs.Language.SyntaxTree.{Expression, Number, Name, Element, And, Or, Binary, Unary, More, Take, Iter, binary_expression}
-use Rattle.pipe_model.specs.Language.Grammar.{any_expression, operand_level, level_of, Derives, Numeral, Named, Indexed, CallsMore, CallsTake, CallsIter, Negative, Not, Bracketed, Tighter, Joined}
+use Rattle.pipe_model.specs.Language.SyntaxTree.{Expression, Number, Name, Element, And, Or, Binary, Unary, More, Take, Iter}
+use Rattle.pipe_model.specs.Language.SyntaxTree.{binary_expression}
+use Rattle.pipe_model.specs.Language.Grammar.{any_expression, operand_level, level_of, Derives, Numeral, Named, Indexed, CallsMore}
+use Rattle.pipe_model.specs.Language.Grammar.{CallsTake, CallsIter, Negative, Not, Bracketed, Tighter, Joined}
 use Rattle.pipe_model.specs.Language.Spelling.{is_opening_bracket, is_closing_bracket, open_brackets, IsShallow}
 use Rattle.pipe_model.specs.Language.Words.{minus, exclamation, open_round, close_round, open_square, close_square}
 
@@ -27,7 +30,8 @@ greater a b = if nat_le a b then b else a
 -- the most brackets that are open at any point of the symbols, after `opened` opening and `closed` closing brackets
 abbrev pub most_open : (opened closed : ℕ) → List Symbol → ℕ
 most_open opened closed [] = opened - closed
-most_open opened closed (t ∷ ts) = greater (opened - closed) (most_open (opened + ones (is_opening_bracket t)) (closed + ones (is_closing_bracket t)) ts)
+most_open opened closed (t ∷ ts) = greater (opened - closed)
+    (most_open (opened + ones (is_opening_bracket t)) (closed + ones (is_closing_bracket t)) ts)
 
 -- the same if n brackets are open before the symbols; the count is taken bracket by bracket
 abbrev pub peak : ℕ → List Symbol → ℕ
@@ -69,15 +73,18 @@ peak_close : (n : ℕ) (a b : Symbol) (ts : List Symbol) → IsPair a b → peak
 peak_close n a b ts h = let x = h.ends in let y = h.closes in let e : (suc n + 0) - 1 ≡ n = omega arith in rw (x, y, e) refl
 
 most_plain : (o c : ℕ) (t : Symbol) (ts : List Symbol) → IsUnjoined t → most_open o c (t ∷ ts) ≡ greater (o - c) (most_open o c ts)
-most_plain o c t ts h = let a = h.no_opening in let b = h.no_closing in let e : o + 0 ≡ o = omega arith in let f : c + 0 ≡ c = omega arith in
+most_plain o c t ts h = let a = h.no_opening in let b = h.no_closing in let e : o + 0 ≡ o = omega arith in
+    let f : c + 0 ≡ c = omega arith in
     rw (a, b, e, f) refl
 
 most_open_one : (o c : ℕ) (a b : Symbol) (ts : List Symbol) → IsPair a b → most_open o c (a ∷ ts) ≡ greater (o - c) (most_open (suc o) c ts)
 most_open_one o c a b ts h = let x = h.opens in let y = h.stays in let e : o + 1 ≡ suc o = omega arith in let f : c + 0 ≡ c = omega arith in
     rw (x, y, e, f) refl
 
-most_close_one : (o c : ℕ) (a b : Symbol) (ts : List Symbol) → IsPair a b → most_open o c (b ∷ ts) ≡ greater (o - c) (most_open o (suc c) ts)
-most_close_one o c a b ts h = let x = h.ends in let y = h.closes in let e : o + 0 ≡ o = omega arith in let f : c + 1 ≡ suc c = omega arith in
+most_close_one : (o c : ℕ) (a b : Symbol) (ts : List Symbol) → IsPair a b → most_open o c (b ∷ ts) ≡ greater (o - c)
+    (most_open o (suc c) ts)
+most_close_one o c a b ts h = let x = h.ends in let y = h.closes in let e : o + 0 ≡ o = omega arith in
+    let f : c + 1 ≡ suc c = omega arith in
     rw (x, y, e, f) refl
 
 -- ---- symbols that open no more at a time than others
@@ -122,7 +129,8 @@ more_deep {us} {ts} t p d = record {
 
 pub both_deep : {us ts vs ws : List Symbol} → NoDeeper us ts → NoDeeper vs ws → NoDeeper (us ++ vs) (ts ++ ws)
 both_deep {us} {ts} {vs} {ws} d e = record {
-  deep = λ n rest other h. rw (append_assoc us vs rest, append_assoc ts ws other) (d.deep n (vs ++ rest) (ws ++ other) (e.deep n rest other h));
+  deep = λ n rest other h. rw (append_assoc us vs rest, append_assoc ts ws other)
+      (d.deep n (vs ++ rest) (ws ++ other) (e.deep n rest other h));
 }
 
 -- a closing bracket before both
@@ -135,11 +143,18 @@ close_below n a b rest other p h c =
 pub nested_deep : {us ts : List Symbol} (a b : Symbol) → IsPair a b → NoDeeper us ts → NoDeeper (a ∷ (us ++ b ∷ [])) (a ∷ (ts ++ b ∷ []))
 nested_deep {us} {ts} a b p d = record { deep = inside }
   where
-    inside : (n : ℕ) (rest other : List Symbol) → Below n rest other → Below n ((a ∷ (us ++ b ∷ [])) ++ rest) ((a ∷ (ts ++ b ∷ [])) ++ other)
+    inside : (n : ℕ) (rest other : List Symbol) → Below n rest other → Below n ((a ∷ (us ++ b ∷ [])) ++ rest)
+        ((a ∷ (ts ++ b ∷ [])) ++ other)
     inside n rest other h c =
         let e : suc (n + c) ≡ suc n + c = omega arith in
         let i = d.deep (suc n) (b ∷ rest) (b ∷ other) (close_below n a b rest other p h) c in
-        rw (append_assoc us (b ∷ []) rest, append_assoc ts (b ∷ []) other, peak_open n a b (us ++ b ∷ rest) p, most_open_one (n + c) c a b (ts ++ b ∷ other) p)
+        rw (
+          append_assoc us (b ∷ []) rest,
+          append_assoc ts (b ∷ []) other,
+          peak_open n a b (us ++ b ∷ rest) p,
+          most_open_one (n + c) c a b
+              (ts ++ b ∷ other) p,
+        )
         (greater_both n (peak (suc n) (us ++ b ∷ rest)) ((n + c) - c) (most_open (suc (n + c)) c (ts ++ b ∷ other)) (omega arith) (rw e i))
 
 -- ---- symbols one bracket deeper
@@ -159,7 +174,8 @@ plain_lifts {us} t p l = record {
 
 both_lift : {us vs : List Symbol} → Lifts us → Lifts vs → Lifts (us ++ vs)
 both_lift {us} {vs} l m = record {
-  lift = λ n rest other h. rw (append_assoc us vs rest, append_assoc us vs other) (l.lift n (vs ++ rest) (vs ++ other) (m.lift n rest other h));
+  lift = λ n rest other h. rw (append_assoc us vs rest, append_assoc us vs other)
+      (l.lift n (vs ++ rest) (vs ++ other) (m.lift n rest other h));
 }
 
 nested_lifts : {us : List Symbol} (a b : Symbol) → IsPair a b → Lifts us → Lifts (a ∷ (us ++ b ∷ []))
@@ -169,8 +185,15 @@ nested_lifts {us} a b p l = record { lift = inside }
         → peak n ((a ∷ (us ++ b ∷ [])) ++ rest) ≤ peak (suc n) ((a ∷ (us ++ b ∷ [])) ++ other)
     inside n rest other h =
         let following : peak (suc n) (b ∷ rest) ≤ peak (suc (suc n)) (b ∷ other) =
-        rw (peak_close n a b rest p, peak_close (suc n) a b other p) (greater_both (suc n) (peak n rest) (suc (suc n)) (peak (suc n) other) (omega arith) h) in
-        rw (append_assoc us (b ∷ []) rest, append_assoc us (b ∷ []) other, peak_open n a b (us ++ b ∷ rest) p, peak_open (suc n) a b (us ++ b ∷ other) p)
+        rw (peak_close n a b rest p, peak_close (suc n) a b other p)
+        (greater_both (suc n) (peak n rest) (suc (suc n)) (peak (suc n) other) (omega arith) h) in
+        rw (
+          append_assoc us (b ∷ []) rest,
+          append_assoc us (b ∷ []) other,
+          peak_open n a b (us ++ b ∷ rest) p,
+          peak_open (suc n) a b
+              (us ++ b ∷ other) p,
+        )
         (greater_both n (peak (suc n) (us ++ b ∷ rest)) (suc n) (peak (suc (suc n)) (us ++ b ∷ other)) (omega arith)
         (l.lift (suc n) (b ∷ rest) (b ∷ other) following))
 
@@ -185,7 +208,8 @@ fewer_deep {us} {ts} a b p l d = record { deep = inside }
         let up : peak n rest ≤ peak (suc n) (b ∷ rest) = rw (peak_close n a b rest p) (greater_right (suc n) (peak n rest)) in
         let j = l.lift n rest (b ∷ rest) up in
         let most = greater_right ((n + c) - c) (most_open (suc (n + c)) c (ts ++ b ∷ other)) in
-        let k : most_open (suc n + c) c (ts ++ b ∷ other) ≤ greater ((n + c) - c) (most_open (suc (n + c)) c (ts ++ b ∷ other)) = rw (← e) most in
+        let k : most_open (suc n + c) c (ts ++ b ∷ other) ≤ greater ((n + c) - c) (most_open (suc (n + c)) c (ts ++ b ∷ other)) =
+        rw (← e) most in
         rw (append_assoc ts (b ∷ []) other, most_open_one (n + c) c a b (ts ++ b ∷ other) p) (omega (arith, i, j, k))
 
 -- ---- expressions
@@ -224,9 +248,12 @@ expression_lifts (Or a b) = sides_lift 1 (level_in a) (level_in b) _ _ (expressi
 expression_lifts (And a b) = sides_lift 2 (level_in a) (level_in b) _ _ (expression_lifts a) (expression_lifts b)
 expression_lifts (Binary code a b) = sides_lift code (level_in a) (level_in b) _ _ (expression_lifts a) (expression_lifts b)
 expression_lifts (Unary code a) = plain_lifts _ (one_plain code) (levelled_lifts 7 (level_in a) _ (expression_lifts a))
-expression_lifts More = plain_lifts _ (record { no_opening = refl; no_closing = refl }) (nested_lifts open_round close_round round_pair none_lifts)
-expression_lifts Take = plain_lifts _ (record { no_opening = refl; no_closing = refl }) (nested_lifts open_round close_round round_pair none_lifts)
-expression_lifts Iter = plain_lifts _ (record { no_opening = refl; no_closing = refl }) (nested_lifts open_round close_round round_pair none_lifts)
+expression_lifts More = plain_lifts _ (record { no_opening = refl; no_closing = refl })
+    (nested_lifts open_round close_round round_pair none_lifts)
+expression_lifts Take = plain_lifts _ (record { no_opening = refl; no_closing = refl })
+    (nested_lifts open_round close_round round_pair none_lifts)
+expression_lifts Iter = plain_lifts _ (record { no_opening = refl; no_closing = refl })
+    (nested_lifts open_round close_round round_pair none_lifts)
 
 -- `us` has at most as many symbols as `ts`, and never more brackets open
 pub record NoMore (us ts : List Symbol) : Type 0 where
@@ -319,7 +346,8 @@ pub record IsJoined (code : ℕ) (a b e : Expression) : Type 0 where
 joined : (code : ℕ) (a b : Expression) → IsJoined code a b (binary_expression code a b)
 joined code a b = by_code (code == 1) (code == 2) (λ e. grind (arith, nat_tests, e)) (λ e. grind (arith, nat_tests, e))
   where
-    by_code : (x y : Bool) → (x ≡ true → code ≡ 1) → (y ≡ true → code ≡ 2) → IsJoined code a b (if x then Or a b else (if y then And a b else Binary code a b))
+    by_code : (x y : Bool) → (x ≡ true → code ≡ 1) → (y ≡ true → code ≡ 2) → IsJoined code a b
+        (if x then Or a b else (if y then And a b else Binary code a b))
     by_code true y f g = (let e = f refl in rw e (record { level = refl; same = refl }))
     by_code false true f g = (let e = g refl in rw e (record { level = refl; same = refl }))
     by_code false false f g = record { level = refl; same = refl }
@@ -361,14 +389,24 @@ least l CallsIter = record {
   own = omega arith;
   no_more = plain_more _ (record { no_opening = refl; no_closing = refl }) (nested_more open_round close_round round_pair none_more);
 }
-least l (Negative {ts} {e} d) = (let r = least (omega arith) d in record { own = omega arith; no_more = plain_more minus (one_plain 1) r.no_more })
-least l (Not {ts} {e} d) = (let r = least (omega arith) d in record { own = omega arith; no_more = plain_more exclamation (one_plain 2) r.no_more })
+least l (Negative {ts} {e} d) = (let r = least (omega arith) d in
+    record { own = omega arith; no_more = plain_more minus (one_plain 1) r.no_more })
+least l (Not {ts} {e} d) = (let r = least (omega arith) d in
+    record { own = omega arith; no_more = plain_more exclamation (one_plain 2) r.no_more })
 least l (Bracketed {inside} {e} d) =
     let r = least (omega arith) d in
-    record { own = r.own; no_more = bracketed_more operand_level (level_in e) (expression_symbols e) inside (expression_lifts e) (in_full e inside r) }
+    record {
+      own = r.own;
+      no_more = bracketed_more operand_level (level_in e) (expression_symbols e) inside (expression_lifts e)
+          (in_full e inside r);
+    }
 least l (Tighter {level} {ts} {e} d) =
     let r = least (omega (arith, l)) d in
-    record { own = r.own; no_more = lower_more level (suc level) (level_in e) (expression_symbols e) ts (omega arith) (expression_lifts e) r.no_more }
+    record {
+      own = r.own;
+      no_more = lower_more level (suc level) (level_in e) (expression_symbols e) ts (omega arith)
+          (expression_lifts e) r.no_more;
+    }
 least l (Joined {level} {left} {right} {a} {b} code eq x y) =
     joined_least level code left right a b (binary_expression code a b) eq l (joined code a b) (least l x) (least (omega (arith, l)) y)
 
@@ -402,15 +440,18 @@ most_within bound o c (t ∷ ts) h =
         → (o + count_by is_opening_bracket (t ∷ before)) - (c + count_by is_closing_bracket (t ∷ before)) ≤ bound
         → ((o + ones (is_opening_bracket t)) + count_by is_opening_bracket before) -
         ((c + ones (is_closing_bracket t)) + count_by is_closing_bracket before) ≤ bound
-    following before after e g = let x = counted is_opening_bracket t before in let y = counted is_closing_bracket t before in omega (arith, g, x, y)
+    following before after e g = let x = counted is_opening_bracket t before in let y = counted is_closing_bracket t before in
+        omega (arith, g, x, y)
 
 -- the count after each prefix is at most the peak
-within_peak : (n : ℕ) (before after : List Symbol) → (n + count_by is_opening_bracket before) - count_by is_closing_bracket before ≤ peak n (before ++ after)
+within_peak : (n : ℕ) (before after : List Symbol) → (n + count_by is_opening_bracket before) - count_by is_closing_bracket before ≤ peak n
+    (before ++ after)
 within_peak n [] after = at_front n after
   where
     at_front : (m : ℕ) (ts : List Symbol) → (m + 0) - 0 ≤ peak m ts
     at_front m [] = omega arith
-    at_front m (t ∷ ts) = (let x = greater_left m (peak ((m + ones (is_opening_bracket t)) - ones (is_closing_bracket t)) ts) in omega (arith, x))
+    at_front m (t ∷ ts) = (let x = greater_left m (peak ((m + ones (is_opening_bracket t)) - ones (is_closing_bracket t)) ts) in
+        omega (arith, x))
 within_peak n (t ∷ before) after =
     let i = within_peak ((n + ones (is_opening_bracket t)) - ones (is_closing_bracket t)) before after in
     let g = greater_right n (peak ((n + ones (is_opening_bracket t)) - ones (is_closing_bracket t)) (before ++ after)) in

@@ -1,16 +1,26 @@
 -- The pieces of the canonical text derive the program.
-use Rattle.std.proofs.Common.{◌≡◌, ℕ, zero, suc, ◌+◌, ◌≤◌, ℤ, pos, negsuc, List, [], ◌∷◌, ◌++◌, refl, arith, subst, Bool, true, false, nat_le, if◌then◌else◌, inl, inr, ◌⊎◌, Option, Some, None, ◌==◌}
+use Rattle.std.proofs.Common.{◌≡◌, ℕ, zero, suc, ◌+◌, ◌≤◌, ℤ, pos, negsuc, List, [], ◌∷◌, ◌++◌, refl, arith, subst, Bool, true, false}
+use Rattle.std.proofs.Common.{nat_le, if◌then◌else◌, inl, inr, ◌⊎◌, Option, Some, None, ◌==◌}
 use Rattle.std.proofs.lemmas.Bool.Decides.{nat_tests}
 use Rattle.pipe_model.specs.declared.tree.StageKind.{StageKind}
 use Rattle.pipe_model.specs.declared.tree.StageKind.TheVariants as kinds
 use Rattle.pipe_model.specs.declared.symbol.Symbol.{Symbol}
 use Rattle.pipe_model.specs.declared.symbol.Symbol.TheVariants as symbols
 use Rattle.pipe_model.specs.declared.tree.Declaration.{Declaration}
-use Rattle.grammar_laws.proofs.CanonicalSymbols.{unary_symbol, symbols_at_level, binary_symbols, expression_symbols, part_pieces, statement_pieces, statements_pieces, size_pieces, value_pieces, cells_pieces, program_pieces, IsWritable, IsWritableStatement, AreWritable, IsWritableProgram}
+use Rattle.grammar_laws.proofs.CanonicalSymbols.{unary_symbol, symbols_at_level, binary_symbols, expression_symbols, part_pieces}
+use Rattle.grammar_laws.proofs.CanonicalSymbols.{statement_pieces, statements_pieces, size_pieces, value_pieces, cells_pieces}
+use Rattle.grammar_laws.proofs.CanonicalSymbols.{program_pieces, IsWritable, IsWritableStatement, AreWritable, IsWritableProgram}
 use Rattle.pipe_model.proofs.LevelLaws.{below_operands, looser}
 use Rattle.pipe_model.specs.Language.CanonicalText.{level_in}
-use Rattle.pipe_model.specs.Language.SyntaxTree.{Expression, Number, Name, Element, And, Or, Binary, Unary, More, Take, Iter, binary_expression, Statement, Let, Assign, AssignElement, Emit, If, While, Stage, NextStage, Statements, Empty, Then, SyntaxTree}
-use Rattle.pipe_model.specs.Language.Grammar.{any_expression, operand_level, level_of, Derives, Numeral, Named, Indexed, CallsMore, CallsTake, CallsIter, Negative, Not, Bracketed, Joined, Piece, DerivesStatement, LetIs, AssignIs, AssignElementIs, EmitIs, IfIs, WhileIs, WaitIs, WaitNextIs, ContinueIs, ContinueNextIs, DerivesStatements, NoStatement, OneMore, BlockIs, DerivesPart, NoPart, PartIs, DerivesSize, NoSize, SizeIs, DerivesValue, ValueIs, NegativeValueIs, DerivesCells, NoCell, CellIs, DerivesProgram, ProgramIs}
+use Rattle.pipe_model.specs.Language.SyntaxTree.{Expression, Number, Name, Element, And, Or, Binary, Unary, More, Take, Iter}
+use Rattle.pipe_model.specs.Language.SyntaxTree.{binary_expression, Statement, Let, Assign, AssignElement, Emit, If, While, Stage}
+use Rattle.pipe_model.specs.Language.SyntaxTree.{NextStage, Statements, Empty, Then, SyntaxTree}
+use Rattle.pipe_model.specs.Language.Grammar.{any_expression, operand_level, level_of, Derives, Numeral, Named, Indexed, CallsMore}
+use Rattle.pipe_model.specs.Language.Grammar.{CallsTake, CallsIter, Negative, Not, Bracketed, Joined, Piece, DerivesStatement, LetIs}
+use Rattle.pipe_model.specs.Language.Grammar.{AssignIs, AssignElementIs, EmitIs, IfIs, WhileIs, WaitIs, WaitNextIs, ContinueIs}
+use Rattle.pipe_model.specs.Language.Grammar.{ContinueNextIs, DerivesStatements, NoStatement, OneMore, BlockIs, DerivesPart, NoPart, PartIs}
+use Rattle.pipe_model.specs.Language.Grammar.{DerivesSize, NoSize, SizeIs, DerivesValue, ValueIs, NegativeValueIs, DerivesCells, NoCell}
+use Rattle.pipe_model.specs.Language.Grammar.{CellIs, DerivesProgram, ProgramIs}
 
 -- ---- expressions
 
@@ -45,7 +55,8 @@ level_from More h = omega arith
 level_from Take h = omega arith
 level_from Iter h = omega arith
 
-bracketed_by : (b : Bool) (needed own : ℕ) (e : Expression) (ts : List Symbol) → (b ≡ true → needed ≤ own) → needed ≤ operand_level → 1 ≤ own → Derives own ts e
+bracketed_by : (b : Bool) (needed own : ℕ) (e : Expression) (ts : List Symbol) → (b ≡ true → needed ≤ own) → needed ≤ operand_level
+    → 1 ≤ own → Derives own ts e
     → Derives needed (if b then ts else symbols.Sign 40 ∷ (ts ++ symbols.Sign 41 ∷ [])) e
 bracketed_by true needed own e ts h k l d = looser needed (h refl) d
 bracketed_by false needed own e ts h k l d = looser needed k (Bracketed (looser any_expression l d))
@@ -92,7 +103,8 @@ expression_derived (Binary code a b) h =
     subst (λ x. Derives (level_of code) (expression_symbols (Binary code a b)) x) (joined_as code a b h.0)
     (binary_derived code a b (expression_symbols a) (expression_symbols b) la lb (expression_derived a h.2) (expression_derived b h.3))
 expression_derived (Unary code a) h =
-    let l = level_from a h.1 in unary_derived code a _ h.0 (at_level_derives operand_level (level_in a) a (expression_symbols a) (omega arith) l
+    let l = level_from a h.1 in unary_derived code a _ h.0
+    (at_level_derives operand_level (level_in a) a (expression_symbols a) (omega arith) l
     (expression_derived a h.1))
 expression_derived More h = CallsMore
 expression_derived Take h = CallsTake
@@ -103,7 +115,8 @@ full e h = let l = level_from e h in looser any_expression l (expression_derived
 
 -- ---- statements
 
-part_derived : (word : ℕ) (ss : Statements) (ps : List Piece) → DerivesStatements ps ss → DerivesPart (symbols.Word word) (part_pieces word ss ps) ss
+part_derived : (word : ℕ) (ss : Statements) (ps : List Piece) → DerivesStatements ps ss → DerivesPart (symbols.Word word)
+    (part_pieces word ss ps) ss
 part_derived word Empty ps d = NoPart
 part_derived word (Then s ss) ps d = PartIs (BlockIs d)
 
@@ -152,4 +165,5 @@ pub program_derived : (tree : SyntaxTree) → IsWritableProgram tree → Derives
 program_derived tree h =
     ProgramIs tree.limits.iterations tree.limits.stages tree.limits.steps tree.limits.emits (cells_derived tree.cells)
     (part_derived 7 tree.init (statements_pieces tree.init) (statements_derived tree.init h.init)) (full tree.test h.test)
-    (BlockIs (statements_derived tree.body h.body)) (part_derived 11 tree.last (statements_pieces tree.last) (statements_derived tree.last h.last))
+    (BlockIs (statements_derived tree.body h.body)) (part_derived 11 tree.last (statements_pieces tree.last)
+    (statements_derived tree.last h.last))

@@ -1,5 +1,7 @@
 -- The canonical text is written symbol by symbol: its tokens are the symbols of the canonical pieces.
-use Rattle.std.proofs.Common.{◌≡◌, ◌∙◌, ap, sym, refl, subst, ℕ, zero, suc, ◌+◌, ◌-◌, ◌<◌, ◌≤◌, ◌^◌, ◌≤ℤ◌, ℤ, pos, Bool, true, false, List, [], ◌∷◌, ◌++◌, append_assoc, append-nil, length, ◌==◌, ◌⊎◌, inl, inr, Option, Some, None, arith, codes, nat_le, if◌then◌else◌, replicate}
+use Rattle.std.proofs.Common.{◌≡◌, ◌∙◌, ap, sym, refl, subst, ℕ, zero, suc, ◌+◌, ◌-◌, ◌<◌, ◌≤◌, ◌^◌, ◌≤ℤ◌, ℤ, pos, Bool, true, false, List}
+use Rattle.std.proofs.Common.{[], ◌∷◌, ◌++◌, append_assoc, append-nil, length, ◌==◌, ◌⊎◌, inl, inr, Option, Some, None, arith, codes}
+use Rattle.std.proofs.Common.{nat_le, if◌then◌else◌, replicate}
 use Rattle.std.specs.Fmt.{decimal, signed_decimal}
 use Rattle.std.specs.List.{flat_map}
 use Rattle.std.proofs.lemmas.Int.{ints}
@@ -8,15 +10,26 @@ use Rattle.pipe_model.specs.declared.tree.StageKind.TheVariants as kinds
 use Rattle.pipe_model.specs.declared.symbol.Symbol.{Symbol}
 use Rattle.pipe_model.specs.declared.symbol.Symbol.TheVariants as symbols
 use Rattle.pipe_model.specs.declared.tree.Declaration.{Declaration}
-use Rattle.grammar_laws.proofs.CanonicalSymbols.{unary_symbol, symbols_at_level, binary_symbols, expression_symbols, block_pieces, part_pieces, statement_pieces, statements_pieces, size_pieces, value_pieces, cells_pieces, program_pieces, IsName, IsNumeral, Numeral, IsDeclaredValue, Positive, Negative, IsWritable, IsWritableStatement, AreWritable, IsWritableSize, AreWritableCells, IsWritableProgram}
-use Rattle.pipe_model.specs.Language.CanonicalText.{operator_text, unary_text, level_in, at_level, binary_text, expression_text, line, else_text, statement_text, statements_text, limits_text, size_text, cell_text, part_text, loop_text, program_text}
+use Rattle.grammar_laws.proofs.CanonicalSymbols.{unary_symbol, symbols_at_level, binary_symbols, expression_symbols, block_pieces}
+use Rattle.grammar_laws.proofs.CanonicalSymbols.{part_pieces, statement_pieces, statements_pieces, size_pieces, value_pieces, cells_pieces}
+use Rattle.grammar_laws.proofs.CanonicalSymbols.{program_pieces, IsName, IsNumeral, Numeral, IsDeclaredValue, Positive, Negative}
+use Rattle.grammar_laws.proofs.CanonicalSymbols.{IsWritable, IsWritableStatement, AreWritable, IsWritableSize, AreWritableCells}
+use Rattle.grammar_laws.proofs.CanonicalSymbols.{IsWritableProgram}
+use Rattle.pipe_model.specs.Language.CanonicalText.{operator_text, unary_text, level_in, at_level, binary_text, expression_text, line}
+use Rattle.pipe_model.specs.Language.CanonicalText.{else_text, statement_text, statements_text, limits_text, size_text, cell_text}
+use Rattle.pipe_model.specs.Language.CanonicalText.{part_text, loop_text, program_text}
 use Rattle.pipe_model.specs.Language.Lexis.{is_name_byte, symbol_of}
-use Rattle.pipe_model.specs.Language.SyntaxTree.{Expression, Number, Name, Element, And, Or, Binary, Unary, More, Take, Iter, Statement, Let, Assign, AssignElement, Emit, If, While, Stage, NextStage, Statements, Empty, Then, SyntaxTree}
+use Rattle.pipe_model.specs.Language.SyntaxTree.{Expression, Number, Name, Element, And, Or, Binary, Unary, More, Take, Iter, Statement}
+use Rattle.pipe_model.specs.Language.SyntaxTree.{Let, Assign, AssignElement, Emit, If, While, Stage, NextStage, Statements, Empty, Then}
+use Rattle.pipe_model.specs.Language.SyntaxTree.{SyntaxTree}
 use Rattle.pipe_model.specs.Language.Grammar.{level_of, operand_level, Piece, Single, FullExpression, flat}
-use Rattle.pipe_model.specs.Language.Words.{word_limits, word_iterations, word_stages, word_steps, word_emits, word_pipe_while, word_if, word_while, word_cell, minus, open_round, close_round, comma, semicolon, equals, open_square, close_square, open_brace, close_brace}
+use Rattle.pipe_model.specs.Language.Words.{word_limits, word_iterations, word_stages, word_steps, word_emits, word_pipe_while, word_if}
+use Rattle.pipe_model.specs.Language.Words.{word_while, word_cell, minus, open_round, close_round, comma, semicolon, equals, open_square}
+use Rattle.pipe_model.specs.Language.Words.{close_square, open_brace, close_brace}
 use Rattle.grammar_laws.proofs.Pieces.{flat_append}
 use Rattle.grammar_laws.proofs.Writings.{IsWritingOf, Writes, Done, Space, Puts, written_source}
-use Rattle.grammar_laws.proofs.WrittenTokens.{begins_letter, Opens, name_opens, decimal_opens, word_token, name_token, number_token, closed_token, spaced_token, not_token, operator_token}
+use Rattle.grammar_laws.proofs.WrittenTokens.{begins_letter, Opens, name_opens, decimal_opens, word_token, name_token, number_token}
+use Rattle.grammar_laws.proofs.WrittenTokens.{closed_token, spaced_token, not_token, operator_token}
 
 -- the next byte cannot be part of a name
 abbrev pub SymbolEdge : List ℕ → Type 0
@@ -32,10 +45,12 @@ pub record Writing (Follows : List ℕ → Type 0) (text : List ℕ) (ts : List 
   pub writes : (rest : List ℕ) (found : List Symbol) → Follows rest → Writes rest found → Writes (text ++ rest) (ts ++ found)
 
 -- one text after another
-both : {F G : List ℕ → Type 0} {t u : List ℕ} {ts us : List Symbol} → Writing F t ts → Writing G u us → ((rest : List ℕ) → G rest → F (u ++ rest))
+both : {F G : List ℕ → Type 0} {t u : List ℕ} {ts us : List Symbol} → Writing F t ts → Writing G u us
+    → ((rest : List ℕ) → G rest → F (u ++ rest))
     → Writing G (t ++ u) (ts ++ us)
 both {F} {G} {t} {u} {ts} {us} w v f = record {
-  writes = λ rest found h d. rw (append_assoc t u rest, append_assoc ts us found) (w.writes (u ++ rest) (us ++ found) (f rest h) (v.writes rest found h d));
+  writes = λ rest found h d. rw (append_assoc t u rest, append_assoc ts us found)
+      (w.writes (u ++ rest) (us ++ found) (f rest h) (v.writes rest found h d));
 }
 
 -- one text after another, with no condition on what follows the first
@@ -66,14 +81,16 @@ small_number n h = omega (arith, ints)
 numeral : (n : ℕ) → n < 2 ^ 63 → Writing SymbolEdge (decimal n) (symbols.Number (pos n) ∷ [])
 numeral n small = record { writes = put }
   where
-    put : (rest : List ℕ) (found : List Symbol) → SymbolEdge rest → Writes rest found → Writes (decimal n ++ rest) (symbols.Number (pos n) ∷ found)
+    put : (rest : List ℕ) (found : List Symbol) → SymbolEdge rest → Writes rest found → Writes (decimal n ++ rest)
+        (symbols.Number (pos n) ∷ found)
     put [] found h d = absurd h
     put (c ∷ rest) found h d = Puts (decimal n) (symbols.Number (pos n)) (number_token n c rest (omega arith) h) (small_number n small) d
 
 number : (z : ℤ) → IsNumeral z → Writing SymbolEdge (signed_decimal z) (symbols.Number z ∷ [])
 number z (Numeral n h) = numeral n h
 
-word : (text : List ℕ) (k : ℕ) → begins_letter text ≡ true → symbol_of text ≡ Some (symbols.Word k) → Writing SymbolEdge text (symbols.Word k ∷ [])
+word : (text : List ℕ) (k : ℕ) → begins_letter text ≡ true → symbol_of text ≡ Some (symbols.Word k)
+    → Writing SymbolEdge text (symbols.Word k ∷ [])
 word text k l t = record { writes = put }
   where
     put : (rest : List ℕ) (found : List Symbol) → SymbolEdge rest → Writes rest found → Writes (text ++ rest) (symbols.Word k ∷ found)
@@ -81,9 +98,13 @@ word text k l t = record { writes = put }
     put (c ∷ rest) found h d = Puts text (symbols.Word k) (word_token text (symbols.Word k) c rest l t h) tt d
 
 -- a sign that is no prefix of a longer symbol
-sign : (b : ℕ) → symbol_of (b ∷ []) ≡ Some (symbols.Sign b) → ((c : ℕ) (more : List ℕ) → symbol_of (b ∷ c ∷ more) ≡ None) → (b == 47) ≡ false
+sign : (b : ℕ) → symbol_of (b ∷ []) ≡ Some (symbols.Sign b) → ((c : ℕ) (more : List ℕ) → symbol_of (b ∷ c ∷ more) ≡ None)
+    → (b == 47) ≡ false
     → Writing Any (b ∷ []) (symbols.Sign b ∷ [])
-sign b t closed slash = record { writes = λ rest found h d. Puts (b ∷ []) (symbols.Sign b) (closed_token b rest (symbols.Sign b) t closed slash) tt d }
+sign b t closed slash = record {
+  writes = λ rest found h d. Puts (b ∷ []) (symbols.Sign b)
+      (closed_token b rest (symbols.Sign b) t closed slash) tt d;
+}
 
 round : Writing Any (codes "(") (open_round ∷ [])
 round = sign 40 refl (λ c more. refl) refl
@@ -122,7 +143,8 @@ is = record {
 }
 
 -- a word, a space, and the text after them
-word_then : {G : List ℕ → Type 0} {u : List ℕ} {us : List Symbol} (text : List ℕ) (k : ℕ) → begins_letter text ≡ true → symbol_of text ≡ Some (symbols.Word k)
+word_then : {G : List ℕ → Type 0} {u : List ℕ} {us : List Symbol} (text : List ℕ) (k : ℕ) → begins_letter text ≡ true
+    → symbol_of text ≡ Some (symbols.Word k)
     → Writing G u us → Writing G (text ++ (codes " " ++ u)) (symbols.Word k ∷ us)
 word_then text k l t v = both (word text k l t) (next space v) (λ rest h. refl)
 
@@ -132,7 +154,8 @@ levelled : (needed own : ℕ) (text : List ℕ) (ts : List Symbol) → Writing S
     → Writing SymbolEdge (at_level needed own text) (symbols_at_level needed own ts)
 levelled needed own text ts w = by_test (nat_le needed own)
   where
-    by_test : (b : Bool) → Writing SymbolEdge (if b then text else codes "(" ++ (text ++ codes ")")) (if b then ts else open_round ∷ (ts ++ close_round ∷ []))
+    by_test : (b : Bool) → Writing SymbolEdge (if b then text else codes "(" ++ (text ++ codes ")"))
+        (if b then ts else open_round ∷ (ts ++ close_round ∷ []))
     by_test true = w
     by_test false = any_edge (next round (both w round_end (λ rest h. refl)))
 
@@ -142,7 +165,8 @@ between : {G : List ℕ → Type 0} {u : List ℕ} {us : List Symbol} (code : �
 between {G} {u} {us} code l h w = record {
   writes = λ rest found f d.
       Space 32 refl (rw (append_assoc (operator_text code) (32 ∷ u) rest)
-      (Puts (operator_text code) (symbols.Operator code) (operator_token code (u ++ rest) l h) tt (Space 32 refl (w.writes rest found f d))));
+      (Puts (operator_text code) (symbols.Operator code) (operator_token code (u ++ rest) l h) tt
+      (Space 32 refl (w.writes rest found f d))));
 }
 
 two_sides : (code la lb : ℕ) (a b : List ℕ) (ta tb : List Symbol) → 1 ≤ code → code ≤ 13 → Writing SymbolEdge a ta → Writing SymbolEdge b tb
@@ -161,7 +185,8 @@ levelled_opens needed own text rest o = by_test (nat_le needed own)
 sides_open : (code la lb : ℕ) (a b rest : List ℕ) → ((more : List ℕ) → Opens (a ++ more)) → Opens (binary_text code la lb a b ++ rest)
 sides_open code la lb a b rest o =
     let following = codes " " ++ (operator_text code ++ (codes " " ++ at_level (level_of code + 1) lb b)) in
-    subst Opens (sym (append_assoc (at_level (level_of code) la a) following rest)) (levelled_opens (level_of code) la a (following ++ rest) o)
+    subst Opens (sym (append_assoc (at_level (level_of code) la a) following rest))
+    (levelled_opens (level_of code) la a (following ++ rest) o)
 
 -- an expression does not begin with an equals sign
 expression_opens : (e : Expression) → IsWritable e → (rest : List ℕ) → Opens (expression_text e ++ rest)
@@ -172,9 +197,12 @@ expression_opens (Number n) h rest = by_number n h
 expression_opens (Name x) h rest = name_opens x rest h
 expression_opens (Element x i) h rest =
     subst Opens (sym (append_assoc x (codes "[" ++ (expression_text i ++ codes "]")) rest)) (name_opens x _ h.0)
-expression_opens (Or a b) h rest = sides_open 1 (level_in a) (level_in b) (expression_text a) (expression_text b) rest (expression_opens a h.0)
-expression_opens (And a b) h rest = sides_open 2 (level_in a) (level_in b) (expression_text a) (expression_text b) rest (expression_opens a h.0)
-expression_opens (Binary code a b) h rest = sides_open code (level_in a) (level_in b) (expression_text a) (expression_text b) rest (expression_opens a h.2)
+expression_opens (Or a b) h rest = sides_open 1 (level_in a) (level_in b) (expression_text a) (expression_text b) rest
+    (expression_opens a h.0)
+expression_opens (And a b) h rest = sides_open 2 (level_in a) (level_in b) (expression_text a) (expression_text b) rest
+    (expression_opens a h.0)
+expression_opens (Binary code a b) h rest = sides_open code (level_in a) (level_in b) (expression_text a) (expression_text b) rest
+    (expression_opens a h.2)
 expression_opens (Unary code a) h rest = by_code code h.0
   where
     by_code : (k : ℕ) → (k ≡ 1) ⊎ (k ≡ 2) → Opens ((unary_text k ++ at_level operand_level (level_in a) (expression_text a)) ++ rest)
@@ -184,7 +212,8 @@ expression_opens More h rest = refl
 expression_opens Take h rest = refl
 expression_opens Iter h rest = refl
 
-one_sided : (code : ℕ) (text : List ℕ) (ts : List Symbol) → (code ≡ 1) ⊎ (code ≡ 2) → Writing SymbolEdge text ts → ((more : List ℕ) → Opens (text ++ more))
+one_sided : (code : ℕ) (text : List ℕ) (ts : List Symbol) → (code ≡ 1) ⊎ (code ≡ 2) → Writing SymbolEdge text ts
+    → ((more : List ℕ) → Opens (text ++ more))
     → Writing SymbolEdge (unary_text code ++ text) (unary_symbol code ∷ ts)
 one_sided code text ts (inl e) w o = rw e (next minus_sign w)
 one_sided code text ts (inr e) w o = rw e (record {
@@ -199,9 +228,12 @@ call text k l t = any_edge (both (word text k l t) (next round round_end) (λ re
 pub expression_writing : (e : Expression) → IsWritable e → Writing SymbolEdge (expression_text e) (expression_symbols e)
 expression_writing (Number n) h = number n h
 expression_writing (Name x) h = name x h
-expression_writing (Element x i) h = any_edge (both (name x h.0) (next index (both (expression_writing i h.1) index_end (λ rest f. refl))) (λ rest f. refl))
-expression_writing (Or a b) h = two_sides 1 (level_in a) (level_in b) _ _ _ _ (omega arith) (omega arith) (expression_writing a h.0) (expression_writing b h.1)
-expression_writing (And a b) h = two_sides 2 (level_in a) (level_in b) _ _ _ _ (omega arith) (omega arith) (expression_writing a h.0) (expression_writing b h.1)
+expression_writing (Element x i) h = any_edge (both (name x h.0) (next index (both (expression_writing i h.1) index_end (λ rest f. refl)))
+    (λ rest f. refl))
+expression_writing (Or a b) h = two_sides 1 (level_in a) (level_in b) _ _ _ _ (omega arith) (omega arith) (expression_writing a h.0)
+    (expression_writing b h.1)
+expression_writing (And a b) h = two_sides 2 (level_in a) (level_in b) _ _ _ _ (omega arith) (omega arith) (expression_writing a h.0)
+    (expression_writing b h.1)
 expression_writing (Binary code a b) h =
     two_sides code (level_in a) (level_in b) _ _ _ _ (omega (arith, h.0)) h.1 (expression_writing a h.2) (expression_writing b h.3)
 expression_writing (Unary code a) h =
@@ -242,7 +274,8 @@ opens_block : Writing Any (codes ") {") (close_round ∷ open_brace ∷ [])
 opens_block = next round_end (next space brace)
 
 -- the opening line of a test: a word, the test in brackets, an opening brace
-test_line : (n : ℕ) (text : List ℕ) (k : ℕ) (e : Expression) → begins_letter text ≡ true → symbol_of text ≡ Some (symbols.Word k) → IsWritable e
+test_line : (n : ℕ) (text : List ℕ) (k : ℕ) (e : Expression) → begins_letter text ≡ true → symbol_of text ≡ Some (symbols.Word k)
+    → IsWritable e
     → Writing Any (line n (text ++ (codes " (" ++ (expression_text e ++ codes ") {"))))
     (symbols.Word k ∷ open_round ∷ (expression_symbols e ++ close_round ∷ open_brace ∷ []))
 test_line n text k e l t h =
@@ -267,7 +300,8 @@ choice_symbols es a more =
     let inner : flat ((a ++ Single close_brace ∷ []) ++ more) ≡ flat a ++ (close_brace ∷ flat more) =
     flat_append (a ++ Single close_brace ∷ []) more ∙ ap (λ x. x ++ flat more) (flat_append a (Single close_brace ∷ []))
     ∙ append_assoc (flat a) (close_brace ∷ []) (flat more) in
-    append_assoc es (close_round ∷ open_brace ∷ []) (flat a ++ (close_brace ∷ flat more)) ∙ ap (λ x. es ++ close_round ∷ open_brace ∷ x) (sym inner)
+    append_assoc es (close_round ∷ open_brace ∷ []) (flat a ++ (close_brace ∷ flat more)) ∙ ap (λ x. es ++ close_round ∷ open_brace ∷ x)
+    (sym inner)
 
 block_symbols : (es : List Symbol) (a : List Piece)
     → (es ++ close_round ∷ open_brace ∷ []) ++ (flat a ++ close_brace ∷ []) ≡ es ++ close_round ∷ flat (block_pieces a)
@@ -278,9 +312,11 @@ block_symbols es a =
 stage_writing : (n : ℕ) (kind : StageKind) (e : Expression) → IsWritable e
     → Writing Any (statement_text n (Stage kind e)) (flat (statement_pieces (Stage kind e)))
 stage_writing n kinds.Wait e h =
-    line_writing n (any_edge (both (word (codes "pipe_wait") 9 refl refl) (next round (closed e h (next round_end end) (λ rest f. refl))) (λ rest f. refl)))
+    line_writing n (any_edge (both (word (codes "pipe_wait") 9 refl refl) (next round (closed e h (next round_end end) (λ rest f. refl)))
+    (λ rest f. refl)))
 stage_writing n kinds.Continue e h =
-    line_writing n (any_edge (both (word (codes "pipe_continue") 10 refl refl) (next round (closed e h (next round_end end) (λ rest f. refl)))
+    line_writing n (any_edge (both (word (codes "pipe_continue") 10 refl refl)
+    (next round (closed e h (next round_end end) (λ rest f. refl)))
     (λ rest f. refl)))
 
 next_stage_writing : (n : ℕ) (kind : StageKind) → Writing Any (statement_text n (NextStage kind)) (flat (statement_pieces (NextStage kind)))
@@ -296,10 +332,12 @@ mutual
       line_writing n (any_edge (word_then (codes "let") 12 refl refl (both (name x h.0) (next is (ended e h.1)) (λ rest f. refl))))
   statement_writing n (Assign x e) h = line_writing n (any_edge (both (name x h.0) (next is (ended e h.1)) (λ rest f. refl)))
   statement_writing n (AssignElement x i e) h =
-      line_writing n (any_edge (both (name x h.0) (next index (closed i h.1 (next index_end (next is (ended e h.2))) (λ rest f. refl))) (λ rest f. refl)))
+      line_writing n (any_edge (both (name x h.0) (next index (closed i h.1 (next index_end (next is (ended e h.2))) (λ rest f. refl)))
+      (λ rest f. refl)))
   statement_writing n (Emit e) h = line_writing n (any_edge (word_then (codes "emit") 16 refl refl (ended e h)))
   statement_writing n (If e a b) h =
-      same (ap (λ x. word_if ∷ open_round ∷ x) (choice_symbols (expression_symbols e) (statements_pieces a) (part_pieces 14 b (statements_pieces b))))
+      same (ap (λ x. word_if ∷ open_round ∷ x) (choice_symbols (expression_symbols e) (statements_pieces a)
+      (part_pieces 14 b (statements_pieces b))))
       (next (test_line n (codes "if") 13 e refl refl h.0) (next (statements_writing (n + 2) a h.1)
       (else_writing n b (statements_text (n + 2) b) (statements_pieces b) (statements_writing (n + 2) b h.2))))
   statement_writing n (While e a) h =
@@ -317,7 +355,8 @@ mutual
 -- ---- programs
 
 -- a field of the limits
-field : {u : List ℕ} {us : List Symbol} (text : List ℕ) (k : ℕ) (z : ℤ) → begins_letter text ≡ true → symbol_of text ≡ Some (symbols.Word k) → IsNumeral z
+field : {u : List ℕ} {us : List Symbol} (text : List ℕ) (k : ℕ) (z : ℤ) → begins_letter text ≡ true
+    → symbol_of text ≡ Some (symbols.Word k) → IsNumeral z
     → Writing Any u us → ((rest : List ℕ) → SymbolEdge (u ++ rest))
     → Writing Any (text ++ (codes " " ++ (signed_decimal z ++ u))) (symbols.Word k ∷ symbols.Number z ∷ us)
 field text k z l t h w f = word_then text k l t (both (number z h) w (λ rest g. f rest))
@@ -325,7 +364,8 @@ field text k z l t h w f = word_then text k l t (both (number z h) w (λ rest g.
 -- the line of limits
 limits_writing : (tree : SyntaxTree) → IsWritableProgram tree
     → Writing Any (limits_text tree.limits)
-    (word_limits ∷ word_iterations ∷ symbols.Number tree.limits.iterations ∷ comma ∷ word_stages ∷ symbols.Number tree.limits.stages ∷ comma ∷ word_steps
+    (word_limits ∷ word_iterations ∷ symbols.Number tree.limits.iterations ∷ comma ∷ word_stages ∷ symbols.Number
+    tree.limits.stages ∷ comma ∷ word_steps
     ∷ symbols.Number tree.limits.steps ∷ comma ∷ word_emits ∷ symbols.Number tree.limits.emits ∷ semicolon ∷ [])
 limits_writing tree h =
     line_writing 0 (any_edge (word_then (codes "limits") 1 refl refl
@@ -349,25 +389,30 @@ size_writing (Some z) h w = next (next index (both (number z h) index_end (λ re
 
 -- a declaration
 cell_writing : (d : Declaration) → IsName d.name → IsWritableSize d.size → IsDeclaredValue d.value
-    → Writing Any (cell_text d) (word_cell ∷ symbols.Name d.name ∷ (flat (size_pieces d.size) ++ (equals ∷ (flat (value_pieces d.value) ++ semicolon ∷ []))))
+    → Writing Any (cell_text d) (word_cell ∷ symbols.Name
+    d.name ∷ (flat (size_pieces d.size) ++ (equals ∷ (flat (value_pieces d.value) ++ semicolon ∷ []))))
 cell_writing d n s v =
     line_writing 0 (any_edge (word_then (codes "cell") 6 refl refl
     (both (name d.name n) (size_writing d.size s (next is (value_writing d.value v end (λ rest. refl))))
     (λ rest g. edge_after d.size rest))))
   where
-    edge_after : (size : Option ℤ) (rest : List ℕ) → SymbolEdge ((size_text size ++ (codes " = " ++ (signed_decimal d.value ++ codes ";"))) ++ rest)
+    edge_after : (size : Option ℤ) (rest : List ℕ) → SymbolEdge
+        ((size_text size ++ (codes " = " ++ (signed_decimal d.value ++ codes ";"))) ++ rest)
     edge_after None rest = refl
     edge_after (Some z) rest = refl
 
 -- the pieces of a declaration, before the pieces of others
 cell_symbols : (d : Declaration) (more : List Piece)
-    → word_cell ∷ symbols.Name d.name ∷ ((flat (size_pieces d.size) ++ (equals ∷ (flat (value_pieces d.value) ++ semicolon ∷ []))) ++ flat more)
-    ≡ flat (Single word_cell ∷ Single (symbols.Name d.name) ∷ (size_pieces d.size ++ Single equals ∷ (value_pieces d.value ++ Single semicolon ∷ more)))
+    → word_cell ∷ symbols.Name d.name ∷ ((flat (size_pieces d.size) ++ (equals ∷ (flat (value_pieces d.value) ++ semicolon ∷ []))) ++ flat
+    more)
+    ≡ flat (Single word_cell ∷ Single (symbols.Name d.name) ∷ (size_pieces d.size ++ Single
+    equals ∷ (value_pieces d.value ++ Single semicolon ∷ more)))
 cell_symbols d more =
     ap (λ x. word_cell ∷ symbols.Name d.name ∷ x)
     (append_assoc (flat (size_pieces d.size)) (equals ∷ (flat (value_pieces d.value) ++ semicolon ∷ [])) (flat more)
     ∙ ap (λ x. flat (size_pieces d.size) ++ (equals ∷ x))
-    (append_assoc (flat (value_pieces d.value)) (semicolon ∷ []) (flat more) ∙ sym (flat_append (value_pieces d.value) (Single semicolon ∷ more)))
+    (append_assoc (flat (value_pieces d.value)) (semicolon ∷ []) (flat more)
+    ∙ sym (flat_append (value_pieces d.value) (Single semicolon ∷ more)))
     ∙ sym (flat_append (size_pieces d.size) (Single equals ∷ (value_pieces d.value ++ Single semicolon ∷ more))))
 
 cells_writing : (ds : List Declaration) → AreWritableCells ds → Writing Any (flat_map cell_text ds) (flat (cells_pieces ds))
@@ -375,7 +420,8 @@ cells_writing [] h = nothing
 cells_writing (d ∷ ds) h = same (cell_symbols d (cells_pieces ds)) (next (cell_writing d h.0 h.1 h.2) (cells_writing ds h.3))
 
 -- a part, if it is not empty
-part_writing : (text : List ℕ) (k : ℕ) (ss : Statements) → begins_letter text ≡ true → symbol_of text ≡ Some (symbols.Word k) → AreWritable ss
+part_writing : (text : List ℕ) (k : ℕ) (ss : Statements) → begins_letter text ≡ true → symbol_of text ≡ Some (symbols.Word k)
+    → AreWritable ss
     → Writing Any (part_text text ss) (flat (part_pieces k ss (statements_pieces ss)))
 part_writing text k Empty l t h = nothing
 part_writing text k (Then s ss) l t h =
@@ -383,7 +429,8 @@ part_writing text k (Then s ss) l t h =
     (next (line_writing 0 (any_edge (word_then text k l t brace))) (next (statements_writing 2 (Then s ss) h) (closing_line 0)))
 
 loop_writing : (test : Expression) (body : Statements) → IsWritable test → AreWritable body
-    → Writing Any (loop_text test body) (word_pipe_while ∷ open_round ∷ (expression_symbols test ++ close_round ∷ flat (block_pieces (statements_pieces body))))
+    → Writing Any (loop_text test body) (word_pipe_while ∷ open_round ∷ (expression_symbols test ++ close_round ∷ flat
+    (block_pieces (statements_pieces body))))
 loop_writing test body h b =
     same (ap (λ x. word_pipe_while ∷ open_round ∷ x) (block_symbols (expression_symbols test) (statements_pieces body)))
     (next (test_line 0 (codes "pipe_while") 8 test refl refl h) (next (statements_writing 2 body b) (closing_line 0)))
@@ -395,7 +442,8 @@ program_symbols : (cs is bs ls : List Piece) (ts : List Symbol)
 program_symbols cs is bs ls ts =
     ap (λ x. flat cs ++ (flat is ++ word_pipe_while ∷ open_round ∷ x)) (append_assoc ts (close_round ∷ flat bs) (flat ls) ∙ ap
     (λ x. ts ++ close_round ∷ x) (sym (flat_append bs ls)))
-    ∙ ap (λ x. flat cs ++ x) (sym (flat_append is (Single word_pipe_while ∷ Single open_round ∷ FullExpression ts ∷ Single close_round ∷ (bs ++ ls))))
+    ∙ ap (λ x. flat cs ++ x) (sym (flat_append is (Single word_pipe_while ∷ Single open_round ∷ FullExpression ts ∷ Single
+    close_round ∷ (bs ++ ls))))
     ∙ sym (flat_append cs (is ++ Single word_pipe_while ∷ Single open_round ∷ FullExpression ts ∷ Single close_round ∷ (bs ++ ls)))
 
 -- the text of a program is written as its symbols
@@ -404,7 +452,8 @@ program_writing tree h =
     same (ap (λ x. word_limits ∷ word_iterations ∷ symbols.Number tree.limits.iterations ∷ comma ∷ word_stages ∷ symbols.Number
     tree.limits.stages ∷ comma ∷ word_steps
     ∷ symbols.Number tree.limits.steps ∷ comma ∷ word_emits ∷ symbols.Number tree.limits.emits ∷ semicolon ∷ x)
-    (program_symbols (cells_pieces tree.cells) (part_pieces 7 tree.init (statements_pieces tree.init)) (block_pieces (statements_pieces tree.body))
+    (program_symbols (cells_pieces tree.cells) (part_pieces 7 tree.init (statements_pieces tree.init))
+    (block_pieces (statements_pieces tree.body))
     (part_pieces 11 tree.last (statements_pieces tree.last)) (expression_symbols tree.test)))
     (next (limits_writing tree h) (next (cells_writing tree.cells h.cells) (next (part_writing (codes "init") 7 tree.init refl refl h.init)
     (next (loop_writing tree.test tree.body h.test h.body) (part_writing (codes "final") 11 tree.last refl refl h.last)))))

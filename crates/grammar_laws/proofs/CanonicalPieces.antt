@@ -4,12 +4,18 @@ use Rattle.std.proofs.Math.IntN.{neg_ℤ}
 use Rattle.pipe_model.specs.declared.symbol.Symbol.{Symbol}
 use Rattle.pipe_model.specs.declared.symbol.Symbol.TheVariants as symbols
 use Rattle.pipe_model.specs.declared.tree.Declaration.{Declaration}
-use Rattle.grammar_laws.proofs.CanonicalSymbols.{expression_symbols, block_pieces, part_pieces, statement_pieces, statements_pieces, size_pieces, value_pieces, cells_pieces, program_pieces}
+use Rattle.grammar_laws.proofs.CanonicalSymbols.{expression_symbols, block_pieces, part_pieces, statement_pieces, statements_pieces}
+use Rattle.grammar_laws.proofs.CanonicalSymbols.{size_pieces, value_pieces, cells_pieces, program_pieces}
 use Rattle.pipe_model.specs.Language.SyntaxTree.{Expression, Statement, Statements, Empty, Then, SyntaxTree}
-use Rattle.pipe_model.specs.Language.Grammar.{any_expression, Derives, Piece, Single, FullExpression, flat, DerivesStatement, LetIs, AssignIs, AssignElementIs, EmitIs, IfIs, WhileIs, WaitIs, WaitNextIs, ContinueIs, ContinueNextIs, DerivesStatements, NoStatement, OneMore, DerivesBlock, BlockIs, DerivesPart, NoPart, PartIs, DerivesSize, NoSize, SizeIs, DerivesValue, ValueIs, NegativeValueIs, DerivesCells, NoCell, CellIs, DerivesProgram, ProgramIs, limits_before}
+use Rattle.pipe_model.specs.Language.Grammar.{any_expression, Derives, Piece, Single, FullExpression, flat, DerivesStatement, LetIs}
+use Rattle.pipe_model.specs.Language.Grammar.{AssignIs, AssignElementIs, EmitIs, IfIs, WhileIs, WaitIs, WaitNextIs, ContinueIs}
+use Rattle.pipe_model.specs.Language.Grammar.{ContinueNextIs, DerivesStatements, NoStatement, OneMore, DerivesBlock, BlockIs, DerivesPart}
+use Rattle.pipe_model.specs.Language.Grammar.{NoPart, PartIs, DerivesSize, NoSize, SizeIs, DerivesValue, ValueIs, NegativeValueIs}
+use Rattle.pipe_model.specs.Language.Grammar.{DerivesCells, NoCell, CellIs, DerivesProgram, ProgramIs, limits_before}
 use Rattle.pipe_model.specs.Language.Spelling.{AreShort, is_opening_bracket, is_closing_bracket}
 use Rattle.pipe_model.specs.Language.Words.{minus, open_round, close_round, open_square, close_square, open_brace, close_brace}
-use Rattle.grammar_laws.proofs.CanonicalBounds.{IsUnjoined, IsPair, NoDeeper, none_deep, plain_deep, front_deep, more_deep, both_deep, nested_deep, unbracketed_deep, none_lifts, full_least}
+use Rattle.grammar_laws.proofs.CanonicalBounds.{IsUnjoined, IsPair, NoDeeper, none_deep, plain_deep, front_deep, more_deep, both_deep}
+use Rattle.grammar_laws.proofs.CanonicalBounds.{nested_deep, unbracketed_deep, none_lifts, full_least}
 use Rattle.grammar_laws.proofs.Pieces.{flat_append, short_append, short_front, short_back}
 
 -- if the full expressions of `ps` are short, so are those of `us`, and `us` never has more brackets open
@@ -20,8 +26,13 @@ pub record Leaner (us ps : List Piece) : Type 0 where
 no_piece : Leaner [] []
 no_piece = record { short = λ h. h; deep = none_deep }
 
-plain : {us ps : List Piece} (t : Symbol) → is_opening_bracket t ≡ false → is_closing_bracket t ≡ false → Leaner us ps → Leaner (Single t ∷ us) (Single t ∷ ps)
-plain t a b l = record { short = l.short; deep = plain_deep t t (record { no_opening = a; no_closing = b }) (record { no_opening = a; no_closing = b }) l.deep }
+plain : {us ps : List Piece} (t : Symbol) → is_opening_bracket t ≡ false → is_closing_bracket t ≡ false → Leaner us ps
+    → Leaner (Single t ∷ us) (Single t ∷ ps)
+plain t a b l = record {
+  short = l.short;
+  deep = plain_deep t t (record { no_opening = a; no_closing = b })
+      (record { no_opening = a; no_closing = b }) l.deep;
+}
 
 full : {us ps : List Piece} {ts : List Symbol} {e : Expression} → Derives any_expression ts e → Leaner us ps
     → Leaner (FullExpression (expression_symbols e) ∷ us) (FullExpression ts ∷ ps)
@@ -36,7 +47,8 @@ both {us} {ps} {vs} {qs} l m = record {
       (subst (λ x. NoDeeper (flat us ++ flat vs) x) (sym (flat_append ps qs)) (both_deep l.deep m.deep));
 }
 
-nested : {us ps : List Piece} (a b : Symbol) → IsPair a b → Leaner us ps → Leaner (Single a ∷ (us ++ Single b ∷ [])) (Single a ∷ (ps ++ Single b ∷ []))
+nested : {us ps : List Piece} (a b : Symbol) → IsPair a b → Leaner us ps → Leaner (Single a ∷ (us ++ Single b ∷ []))
+    (Single a ∷ (ps ++ Single b ∷ []))
 nested {us} {ps} a b p l = record {
   short = λ h. short_append 256 us (Single b ∷ []) (l.short (short_front 256 ps (Single b ∷ []) h)) tt;
   deep = subst (λ x. NoDeeper (a ∷ x) (a ∷ flat (ps ++ Single b ∷ []))) (sym (flat_append us (Single b ∷ [])))
@@ -54,7 +66,8 @@ index : {us ps : List Piece} {ts : List Symbol} {e : Expression} → Derives any
     (Single open_square ∷ FullExpression ts ∷ Single close_square ∷ ps)
 index d l = both (nested open_square close_square (record { opens = refl; stays = refl; ends = refl; closes = refl }) (full d no_piece)) l
 
-calls : {us ps : List Piece} → Leaner us ps → Leaner (Single open_round ∷ Single close_round ∷ us) (Single open_round ∷ Single close_round ∷ ps)
+calls : {us ps : List Piece} → Leaner us ps → Leaner (Single open_round ∷ Single close_round ∷ us)
+    (Single open_round ∷ Single close_round ∷ ps)
 calls l = both (nested open_round close_round (record { opens = refl; stays = refl; ends = refl; closes = refl }) no_piece) l
 
 braces : {us ps : List Piece} → Leaner us ps → Leaner (block_pieces us) (block_pieces ps)
@@ -106,7 +119,8 @@ minus_plain = record { no_opening = refl; no_closing = refl }
 leaner_size : {ps : List Piece} {size : Option ℤ} → DerivesSize ps size → Leaner (size_pieces size) ps
 leaner_size NoSize = no_piece
 leaner_size (SizeIs n) =
-    nested open_square close_square (record { opens = refl; stays = refl; ends = refl; closes = refl }) (plain (symbols.Number n) refl refl no_piece)
+    nested open_square close_square (record { opens = refl; stays = refl; ends = refl; closes = refl })
+    (plain (symbols.Number n) refl refl no_piece)
 
 written_value : (z : ℤ) → Leaner (value_pieces z) (Single (symbols.Number z) ∷ [])
 written_value (pos n) = plain _ refl refl no_piece
@@ -116,7 +130,11 @@ written_value (negsuc n) = record {
 }
 
 written_negative : (n : ℕ) → Leaner (value_pieces (neg_ℤ (pos n))) (Single minus ∷ Single (symbols.Number (pos n)) ∷ [])
-written_negative zero = record { short = λ h. tt; deep = front_deep minus minus_plain (plain_deep _ _ (number_plain (pos 0)) (number_plain (pos 0)) none_deep) }
+written_negative zero = record {
+  short = λ h. tt;
+  deep =
+      front_deep minus minus_plain (plain_deep _ _ (number_plain (pos 0)) (number_plain (pos 0)) none_deep);
+}
 written_negative (suc n) = plain _ refl refl (plain _ refl refl no_piece)
 
 leaner_value : {ps : List Piece} {value : ℤ} → DerivesValue ps value → Leaner (value_pieces value) ps
@@ -126,12 +144,14 @@ leaner_value (NegativeValueIs n) = written_negative n
 leaner_cells : {ps : List Piece} {ds : List Declaration} → DerivesCells ps ds → Leaner (cells_pieces ds) ps
 leaner_cells NoCell = no_piece
 leaner_cells (CellIs name s v c) =
-    plain _ refl refl (plain _ refl refl (both (leaner_size s) (plain _ refl refl (both (leaner_value v) (plain _ refl refl (leaner_cells c))))))
+    plain _ refl refl (plain _ refl refl (both (leaner_size s)
+    (plain _ refl refl (both (leaner_value v) (plain _ refl refl (leaner_cells c))))))
 
 limits_leaner : {us ps : List Piece} (iterations stages steps emits : ℤ) → Leaner us ps
     → Leaner (limits_before iterations stages steps emits us) (limits_before iterations stages steps emits ps)
 limits_leaner iterations stages steps emits l =
-    plain _ refl refl (plain _ refl refl (plain _ refl refl (plain _ refl refl (plain _ refl refl (plain _ refl refl (plain _ refl refl (plain _ refl refl
+    plain _ refl refl (plain _ refl refl (plain _ refl refl
+    (plain _ refl refl (plain _ refl refl (plain _ refl refl (plain _ refl refl (plain _ refl refl
     (plain _ refl refl (plain _ refl refl (plain _ refl refl (plain _ refl refl (plain _ refl refl l))))))))))))
 
 -- the canonical pieces of a program, compared with other pieces that derive it

@@ -37,4 +37,5 @@ canonical_spells source tree h short =
 -- so the program read from the canonical text has the same text
 pub same_text : (source : List ℕ) (tree other : SyntaxTree) → SourceSpells source tree → length (program_text tree) ≤ 1048576
     → SourceSpells (program_text tree) other → program_text other ≡ program_text tree
-same_text source tree other h short o = ap program_text (one_source_spelling (program_text tree) other tree o (canonical_spells source tree h short))
+same_text source tree other h short o = ap program_text
+    (one_source_spelling (program_text tree) other tree o (canonical_spells source tree h short))

@@ -1,5 +1,6 @@
 -- The symbols of the canonical text: round brackets only where the tree needs them, and the pieces of a program.
-use Rattle.std.specs.Prelude.{◌≡◌, ℕ, suc, ◌+◌, ◌≤◌, ◌<◌, ◌^◌, ℤ, pos, negsuc, List, [], ◌∷◌, ◌++◌, length, nat_le, ◌==◌, if◌then◌else◌, Option, Some, None, ◌⊎◌}
+use Rattle.std.specs.Prelude.{◌≡◌, ℕ, suc, ◌+◌, ◌≤◌, ◌<◌, ◌^◌, ℤ, pos, negsuc, List, [], ◌∷◌, ◌++◌, length, nat_le, ◌==◌, if◌then◌else◌}
+use Rattle.std.specs.Prelude.{Option, Some, None, ◌⊎◌}
 use Rattle.pipe_model.specs.declared.tree.StageKind.{StageKind}
 use Rattle.pipe_model.specs.declared.tree.StageKind.TheVariants as kinds
 use Rattle.pipe_model.specs.declared.symbol.Symbol.{Symbol}
@@ -7,9 +8,13 @@ use Rattle.pipe_model.specs.declared.symbol.Symbol.TheVariants as symbols
 use Rattle.pipe_model.specs.declared.tree.Declaration.{Declaration}
 use Rattle.pipe_model.specs.Language.CanonicalText.{level_in}
 use Rattle.pipe_model.specs.Language.Lexis.{symbol_of}
-use Rattle.pipe_model.specs.Language.SyntaxTree.{Expression, Number, Name, Element, And, Or, Binary, Unary, More, Take, Iter, Statement, Let, Assign, AssignElement, Emit, If, While, Stage, NextStage, Statements, Empty, Then, SyntaxTree}
+use Rattle.pipe_model.specs.Language.SyntaxTree.{Expression, Number, Name, Element, And, Or, Binary, Unary, More, Take, Iter, Statement}
+use Rattle.pipe_model.specs.Language.SyntaxTree.{Let, Assign, AssignElement, Emit, If, While, Stage, NextStage, Statements, Empty, Then}
+use Rattle.pipe_model.specs.Language.SyntaxTree.{SyntaxTree}
 use Rattle.pipe_model.specs.Language.Grammar.{level_of, operand_level, Piece, Single, FullExpression, limits_before}
-use Rattle.pipe_model.specs.Language.Words.{word_cell, word_pipe_while, word_pipe_wait, word_pipe_continue, word_let, word_if, word_while, word_emit, word_more, word_take, word_iter, minus, exclamation, open_round, close_round, semicolon, equals, open_square, close_square, open_brace, close_brace}
+use Rattle.pipe_model.specs.Language.Words.{word_cell, word_pipe_while, word_pipe_wait, word_pipe_continue, word_let, word_if, word_while}
+use Rattle.pipe_model.specs.Language.Words.{word_emit, word_more, word_take, word_iter, minus, exclamation, open_round, close_round}
+use Rattle.pipe_model.specs.Language.Words.{semicolon, equals, open_square, close_square, open_brace, close_brace}
 
 -- ---- expressions
 
@@ -67,7 +72,8 @@ abbrev mutual
       Single word_if ∷ Single open_round ∷ FullExpression (expression_symbols e) ∷ Single close_round
       ∷ (block_pieces (statements_pieces a) ++ part_pieces 14 b (statements_pieces b))
   statement_pieces (While e a) =
-      Single word_while ∷ Single open_round ∷ FullExpression (expression_symbols e) ∷ Single close_round ∷ block_pieces (statements_pieces a)
+      Single word_while ∷ Single open_round ∷ FullExpression (expression_symbols e) ∷ Single close_round ∷ block_pieces
+      (statements_pieces a)
   statement_pieces (Stage kind e) = stage_pieces kind (FullExpression (expression_symbols e) ∷ [])
   statement_pieces (NextStage kind) = stage_pieces kind []
 
@@ -90,7 +96,8 @@ value_pieces (negsuc n) = Single minus ∷ Single (symbols.Number (pos (suc n)))
 abbrev pub cells_pieces : List Declaration → List Piece
 cells_pieces [] = []
 cells_pieces (d ∷ ds) =
-    Single word_cell ∷ Single (symbols.Name d.name) ∷ (size_pieces d.size ++ Single equals ∷ (value_pieces d.value ++ Single semicolon ∷ cells_pieces ds))
+    Single word_cell ∷ Single (symbols.Name d.name) ∷ (size_pieces d.size ++ Single
+    equals ∷ (value_pieces d.value ++ Single semicolon ∷ cells_pieces ds))
 
 abbrev pub program_pieces : SyntaxTree → List Piece
 program_pieces tree =

@@ -1,11 +1,14 @@
 -- If the machine of expressions runs over symbols, some expression begins with them.
-use Rattle.std.proofs.Common.{◌≡◌, ℕ, ◌≤◌, List, [], ◌∷◌, ◌++◌, refl, sym, ap, ◌∙◌, append_assoc, append-nil, arith, subst, ◌⊎◌, inl, inr, Option, Some, None, Bool, true, false, ◌==◌, pos, if◌then◌else◌}
+use Rattle.std.proofs.Common.{◌≡◌, ℕ, ◌≤◌, List, [], ◌∷◌, ◌++◌, refl, sym, ap, ◌∙◌, append_assoc, append-nil, arith, subst, ◌⊎◌, inl, inr}
+use Rattle.std.proofs.Common.{Option, Some, None, Bool, true, false, ◌==◌, pos, if◌then◌else◌}
 use Rattle.std.proofs.lemmas.Bool.{cases_eq}
 use Rattle.pipe_model.specs.declared.symbol.Symbol.{Symbol}
 use Rattle.pipe_model.specs.declared.symbol.Symbol.TheVariants as symbols
 use Rattle.pipe_model.specs.Language.SyntaxTree.{Expression}
-use Rattle.pipe_model.specs.Language.Grammar.{any_expression, operand_level, Derives, Numeral, Named, Indexed, CallsMore, CallsTake, CallsIter, Negative, Not, Bracketed, level_of}
-use Rattle.grammar_laws.specs.ExpressionMachine.{Want, Sign, Operand, Index, Tail, Move, Takes, Skips, Refuses, move, step, stepped, run, and_run, is_operator, is_call, may_end}
+use Rattle.pipe_model.specs.Language.Grammar.{any_expression, operand_level, Derives, Numeral, Named, Indexed, CallsMore, CallsTake}
+use Rattle.pipe_model.specs.Language.Grammar.{CallsIter, Negative, Not, Bracketed, level_of}
+use Rattle.grammar_laws.specs.ExpressionMachine.{Want, Sign, Operand, Index, Tail, Move, Takes, Skips, Refuses, move, step, stepped, run}
+use Rattle.grammar_laws.specs.ExpressionMachine.{and_run, is_operator, is_call, may_end}
 use Rattle.grammar_laws.proofs.ExpressionGrowth.{grown}
 use Rattle.pipe_model.proofs.LevelLaws.{looser}
 
@@ -71,7 +74,8 @@ joined_first left us ts code w = record {
   completes = w.completes;
 }
 
-tail_first : {wants : List Want} (left : List Symbol) {ts : List Symbol} {e : Expression} → Derives any_expression left e → Completes (Tail ∷ wants) ts
+tail_first : {wants : List Want} (left : List Symbol) {ts : List Symbol} {e : Expression} → Derives any_expression left e
+    → Completes (Tail ∷ wants) ts
     → First wants left ts
 tail_first left {e = e} d (OfNoTail {ts = ts} s) = record {
   taken = [];
@@ -116,7 +120,8 @@ closed_by : {wants : List Want} {sign : ℕ} (inside : List Symbol) {e : Express
     → ts ≡ inside ++ rest
     → Completes (Sign sign ∷ wants) rest
     → Closed wants sign ts
-closed_by inside {e = e} d h (OfSign {ts = rest} sign s) = record { inside = inside; rest = rest; e = e; derived = d; split = h; completes = s }
+closed_by inside {e = e} d h (OfSign {ts = rest} sign s) =
+    record { inside = inside; rest = rest; e = e; derived = d; split = h; completes = s }
 
 closed_first : {wants : List Want} {sign : ℕ} {ts : List Symbol} → Completes (Operand ∷ Tail ∷ Sign sign ∷ wants) ts → Closed wants sign ts
 closed_first s = let w = first s in closed_by w.taken w.derived w.split w.completes
@@ -129,12 +134,15 @@ bracket_back c =
 index_back : {wants : List Want} {ts : List Symbol} → Closed wants 93 ts → Completes (Index ∷ wants) (symbols.Sign 91 ∷ ts)
 index_back c = moved (ap (λ x. symbols.Sign 91 ∷ x) c.split) (OfIndex c.derived c.completes)
 
-name_back : {wants : List Want} {ts : List Symbol} (name : List ℕ) → Completes (Index ∷ wants) ts → Completes (Operand ∷ wants) (symbols.Name name ∷ ts)
+name_back : {wants : List Want} {ts : List Symbol} (name : List ℕ) → Completes (Index ∷ wants) ts
+    → Completes (Operand ∷ wants) (symbols.Name name ∷ ts)
 name_back name (OfNoIndex s) = OfOperand (Named name) s
 name_back name (OfIndex {us = us} {ts = ts} d s) =
-    moved (ap (λ x. symbols.Name name ∷ symbols.Sign 91 ∷ x) (sym (append_assoc us (symbols.Sign 93 ∷ []) ts))) (OfOperand (Indexed name d) s)
+    moved (ap (λ x. symbols.Name name ∷ symbols.Sign 91 ∷ x) (sym (append_assoc us (symbols.Sign 93 ∷ []) ts)))
+    (OfOperand (Indexed name d) s)
 
-negative_back : {wants : List Want} {ts : List Symbol} → Completes (Operand ∷ wants) ts → Completes (Operand ∷ wants) (symbols.Operator 10 ∷ ts)
+negative_back : {wants : List Want} {ts : List Symbol} → Completes (Operand ∷ wants) ts → Completes (Operand ∷ wants)
+    (symbols.Operator 10 ∷ ts)
 negative_back (OfOperand d s) = OfOperand (Negative d) s
 
 not_back : {wants : List Want} {ts : List Symbol} → Completes (Operand ∷ wants) ts → Completes (Operand ∷ wants) (symbols.Sign 33 ∷ ts)
@@ -144,7 +152,8 @@ tail_back : {wants : List Want} {ts : List Symbol} (code : ℕ) → is_operator 
     → Completes (Tail ∷ wants) (symbols.Operator code ∷ ts)
 tail_back code h (OfOperand d s) = OfTail code h d s
 
-call_back : {wants : List Want} {ts : List Symbol} (word : ℕ) → ((word ≡ 17) ⊎ ((word ≡ 18) ⊎ (word ≡ 19))) → Completes (Sign 40 ∷ Sign 41 ∷ wants) ts
+call_back : {wants : List Want} {ts : List Symbol} (word : ℕ) → ((word ≡ 17) ⊎ ((word ≡ 18) ⊎ (word ≡ 19)))
+    → Completes (Sign 40 ∷ Sign 41 ∷ wants) ts
     → Completes (Operand ∷ wants) (symbols.Word word ∷ ts)
 call_back word (inl h) (OfSign sign (OfSign sign' s)) = rw h (OfOperand CallsMore s)
 call_back word (inr (inl h)) (OfSign sign (OfSign sign' s)) = rw h (OfOperand CallsTake s)
@@ -181,7 +190,8 @@ operand_sign_back b =
 
 -- each entry of the table is sound
 back : (want : Want) (t : Symbol) → MovesBack (move want t) want t
-back (Sign sign) (symbols.Sign b) = either (b == sign) (Takes []) Refuses (Sign sign) (symbols.Sign b) (λ h wants ts s. same_sign sign b h s) (λ h. tt)
+back (Sign sign) (symbols.Sign b) = either (b == sign) (Takes []) Refuses (Sign sign) (symbols.Sign b)
+    (λ h wants ts s. same_sign sign b h s) (λ h. tt)
 back (Sign sign) (symbols.Name name) = tt
 back (Sign sign) (symbols.Word word) = tt
 back (Sign sign) (symbols.Number n) = tt
@@ -189,7 +199,8 @@ back (Sign sign) (symbols.Operator code) = tt
 back Operand (symbols.Number n) = λ wants ts s. OfOperand (Numeral n) s
 back Operand (symbols.Name name) = λ wants ts s. name_back name s
 back Operand (symbols.Word word) =
-    either (is_call word) (Takes (Sign 40 ∷ Sign 41 ∷ [])) Refuses Operand (symbols.Word word) (λ h wants ts s. call_back word (which_call word h) s)
+    either (is_call word) (Takes (Sign 40 ∷ Sign 41 ∷ [])) Refuses Operand (symbols.Word word)
+    (λ h wants ts s. call_back word (which_call word h) s)
     (λ h. tt)
 back Operand (symbols.Operator code) =
     either (code == 10) (Takes (Operand ∷ [])) Refuses Operand (symbols.Operator code)
@@ -231,9 +242,11 @@ run_back_on None wants t before ts left e f h = absurd (cc (h))
 run_back_on (Some mid) wants t before ts left e f h = step_back wants t mid (before ++ ts) e (f mid h)
 
 -- the same for a run of the machine
-pub run_back : (before ts : List Symbol) (wants left : List Want) → run before wants ≡ Some left → Completes left ts → Completes wants (before ++ ts)
+pub run_back : (before ts : List Symbol) (wants left : List Want) → run before wants ≡ Some left → Completes left ts
+    → Completes wants (before ++ ts)
 run_back [] ts wants left h s = let e : wants ≡ left = cc (h) in rw e s
-run_back (t ∷ before) ts wants left h s = run_back_on (step wants t) wants t before ts left refl (λ mid i. run_back before ts mid left i s) h
+run_back (t ∷ before) ts wants left h s = run_back_on (step wants t) wants t before ts left refl
+    (λ mid i. run_back before ts mid left i s) h
 
 -- ---- completing a prefix to an expression
 
@@ -249,10 +262,15 @@ pub run_completed : (before more : List Symbol) (left : List Want) → run befor
     → IsExpression (before ++ more)
 run_completed before more left h s =
     let w = first (run_back before more (Operand ∷ Tail ∷ []) left h s) in
-    record { e = w.e; derived = subst (λ x. Derives any_expression x w.e) (sym (nothing_more (before ++ more) w.taken w.rest w.split w.completes)) w.derived }
+    record {
+      e = w.e;
+      derived = subst (λ x. Derives any_expression x w.e)
+          (sym (nothing_more (before ++ more) w.taken w.rest w.split w.completes)) w.derived;
+    }
 
 -- if the run may end, the symbols are an expression
-pub run_ended : (before : List Symbol) (left : List Want) → run before (Operand ∷ Tail ∷ []) ≡ Some left → may_end left ≡ true → IsExpression before
+pub run_ended : (before : List Symbol) (left : List Want) → run before (Operand ∷ Tail ∷ []) ≡ Some left → may_end left ≡ true
+    → IsExpression before
 run_ended before left h i =
     let x = run_completed before [] left h (completes_end left i) in
     record { e = x.e; derived = subst (λ ts. Derives any_expression ts x.e) (append-nil before) x.derived }

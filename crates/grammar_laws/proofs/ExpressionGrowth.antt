@@ -4,7 +4,8 @@ use Rattle.std.proofs.lemmas.Bool.{cases_lt}
 use Rattle.pipe_model.specs.declared.symbol.Symbol.{Symbol}
 use Rattle.pipe_model.specs.declared.symbol.Symbol.TheVariants as symbols
 use Rattle.pipe_model.specs.Language.SyntaxTree.{Expression, binary_expression}
-use Rattle.pipe_model.specs.Language.Grammar.{operand_level, Derives, Numeral, Named, Indexed, CallsMore, CallsTake, CallsIter, Negative, Not, Bracketed, Tighter, Joined, level_of}
+use Rattle.pipe_model.specs.Language.Grammar.{operand_level, Derives, Numeral, Named, Indexed, CallsMore, CallsTake, CallsIter, Negative}
+use Rattle.pipe_model.specs.Language.Grammar.{Not, Bracketed, Tighter, Joined, level_of}
 use Rattle.pipe_model.proofs.LevelLaws.{below_operands, looser}
 
 -- symbols followed by more symbols derive some expression
@@ -25,10 +26,15 @@ right_grown level {left} {right} {more} {a} code h d x = record {
       (Joined code h d x.derived);
 }
 
-grown_here : (level code : ℕ) {ts us : List Symbol} {a b : Expression} → level_of code ≡ level → Derives level ts a → Derives operand_level us b
+grown_here : (level code : ℕ) {ts us : List Symbol} {a b : Expression} → level_of code ≡ level → Derives level ts a
+    → Derives operand_level us b
     → Grown ts (symbols.Operator code ∷ us) level
 grown_here level code {a = a} {b = b} h d d' =
-    record { e = binary_expression code a b; derived = Joined code h d (looser (suc level) (let l = below_operands code in omega (arith, h, l)) d') }
+    record {
+      e = binary_expression code a b;
+      derived =
+          Joined code h d (looser (suc level) (let l = below_operands code in omega (arith, h, l)) d');
+    }
 
 -- the operator has this level or a higher one
 chosen : (level code : ℕ) {ts us : List Symbol} {a b : Expression} → level ≤ level_of code → Derives level ts a → Derives operand_level us b
@@ -54,4 +60,5 @@ grown code o (Negative d) l = no_operand code l
 grown code o (Not d) l = no_operand code l
 grown code o (Bracketed d) l = no_operand code l
 grown code o (Tighter {level} d) l = chosen level code l (Tighter d) o (λ h. tighter_grown level (grown code o d h))
-grown code o (Joined {level} code' e d d') l = chosen level code l (Joined code' e d d') o (λ h. right_grown level code' e d (grown code o d' h))
+grown code o (Joined {level} code' e d d') l = chosen level code l (Joined code' e d d') o
+    (λ h. right_grown level code' e d (grown code o d' h))

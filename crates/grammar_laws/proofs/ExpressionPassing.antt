@@ -4,7 +4,8 @@ use Rattle.pipe_model.specs.declared.symbol.Symbol.{Symbol}
 use Rattle.pipe_model.specs.declared.symbol.Symbol.TheVariants as symbols
 use Rattle.pipe_model.specs.Language.SyntaxTree.{Expression}
 use Rattle.pipe_model.specs.Language.Grammar.{any_expression, operand_level, level_of}
-use Rattle.grammar_laws.specs.Reading.{Reads, ReadsNumeral, ReadsName, ReadsElement, ReadsMore, ReadsTake, ReadsIter, ReadsNegative, ReadsNot, ReadsBracketed, ReadsChain, Extends, Ends, Joins, NoSign, next_level}
+use Rattle.grammar_laws.specs.Reading.{Reads, ReadsNumeral, ReadsName, ReadsElement, ReadsMore, ReadsTake, ReadsIter, ReadsNegative}
+use Rattle.grammar_laws.specs.Reading.{ReadsNot, ReadsBracketed, ReadsChain, Extends, Ends, Joins, NoSign, next_level}
 use Rattle.grammar_laws.proofs.ExpressionReading.{level_at_front, no_next_level}
 use Rattle.grammar_laws.specs.ExpressionMachine.{Want, Sign, Operand, Index, Tail, ending, is_operator}
 
@@ -30,7 +31,8 @@ record Passes (level : ℕ) (ts rest : List Symbol) : Type 0 where
   chain : 1 ≤ level → (wants : List Want) → ending ts (Operand ∷ Tail ∷ wants) ≡ ending rest (Tail ∷ wants)
 
 -- an operand, whatever follows
-operand_passes : {ts rest : List Symbol} → ((wants : List Want) → ending ts (Operand ∷ wants) ≡ ending rest wants) → Passes operand_level ts rest
+operand_passes : {ts rest : List Symbol} → ((wants : List Want) → ending ts (Operand ∷ wants) ≡ ending rest wants)
+    → Passes operand_level ts rest
 operand_passes p = record { operand = λ e. p; chain = λ l wants. p (Tail ∷ wants) }
 
 mutual
@@ -50,7 +52,8 @@ mutual
   }
 
   -- operators with their right operands
-  pub passes_extension : {level : ℕ} {ts rest : List Symbol} {a e : Expression} → Extends level a ts e rest → (wants : List Want) → 1 ≤ level
+  pub passes_extension : {level : ℕ} {ts rest : List Symbol} {a e : Expression} → Extends level a ts e rest → (wants : List Want)
+      → 1 ≤ level
       → ending ts (Tail ∷ wants) ≡ ending rest (Tail ∷ wants)
   passes_extension (Ends ts h) wants l = refl
   passes_extension (Joins {level} {ts = ts} {mid = mid} code h r g) wants l =

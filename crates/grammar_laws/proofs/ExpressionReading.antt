@@ -3,10 +3,13 @@ use Rattle.std.proofs.Common.{◌≡◌, ◌≢◌, ℕ, suc, ◌<◌, List, [],
 use Rattle.pipe_model.specs.declared.symbol.Symbol.{Symbol}
 use Rattle.pipe_model.specs.declared.symbol.Symbol.TheVariants as symbols
 use Rattle.pipe_model.specs.Language.SyntaxTree.{Expression, Element, Unary, binary_expression}
-use Rattle.pipe_model.specs.Language.Grammar.{any_expression, operand_level, Derives, Numeral, Named, Indexed, CallsMore, CallsTake, CallsIter, Negative, Not, Bracketed, Tighter, Joined, level_of}
-use Rattle.grammar_laws.specs.Reading.{Reads, ReadsNumeral, ReadsName, ReadsElement, ReadsMore, ReadsTake, ReadsIter, ReadsNegative, ReadsNot, ReadsBracketed, ReadsChain, Extends, Ends, Joins, NoSign, next_level}
+use Rattle.pipe_model.specs.Language.Grammar.{any_expression, operand_level, Derives, Numeral, Named, Indexed, CallsMore, CallsTake}
+use Rattle.pipe_model.specs.Language.Grammar.{CallsIter, Negative, Not, Bracketed, Tighter, Joined, level_of}
+use Rattle.grammar_laws.specs.Reading.{Reads, ReadsNumeral, ReadsName, ReadsElement, ReadsMore, ReadsTake, ReadsIter, ReadsNegative}
+use Rattle.grammar_laws.specs.Reading.{ReadsNot, ReadsBracketed, ReadsChain, Extends, Ends, Joins, NoSign, next_level}
 use Rattle.pipe_model.proofs.LevelLaws.{below_operands}
-use Rattle.pipe_model.specs.Language.Words.{word_more, word_take, word_iter, minus, exclamation, open_round, close_round, open_square, close_square}
+use Rattle.pipe_model.specs.Language.Words.{word_more, word_take, word_iter, minus, exclamation, open_round, close_round, open_square}
+use Rattle.pipe_model.specs.Language.Words.{close_square}
 
 -- ---- what was read is derived
 
@@ -22,7 +25,8 @@ record Extended (level : ℕ) (left ts : List Symbol) (e : Expression) (rest : L
   split : ts ≡ taken ++ rest
   derived : Derives level (left ++ taken) e
 
-bracketed : {e : Expression} (ts rest : List Symbol) → Took any_expression ts e (close_round ∷ rest) → Took operand_level (open_round ∷ ts) e rest
+bracketed : {e : Expression} (ts rest : List Symbol) → Took any_expression ts e (close_round ∷ rest)
+    → Took operand_level (open_round ∷ ts) e rest
 bracketed ts rest t = record {
   taken = open_round ∷ (t.taken ++ close_round ∷ []);
   split = ap (λ x. open_round ∷ x) (t.split ∙ sym (append_assoc t.taken (close_round ∷ []) rest));
@@ -78,7 +82,12 @@ mutual
 
   extended : {level : ℕ} {ts rest : List Symbol} {a e : Expression} (left : List Symbol) → Extends level a ts e rest → Derives level left a
       → Extended level left ts e rest
-  extended left (Ends {level} {a} ts h) d = record { taken = []; split = refl; derived = subst (λ x. Derives level x a) (sym (append-nil left)) d }
+  extended left (Ends {level} {a} ts h) d = record {
+    taken = [];
+    split = refl;
+    derived = subst (λ x. Derives level x a)
+        (sym (append-nil left)) d;
+  }
   extended left (Joins {ts = ts} {mid = mid} {rest = rest} code h r g) d =
       let t = sound r in joined left ts mid rest code t (extended (left ++ symbols.Operator code ∷ t.taken) g (Joined code h d t.derived))
 
@@ -108,7 +117,8 @@ Loose level rest = NoSign 91 rest × (next_level rest < level)
 -- the symbols are read and then extended by what follows, if that is no index and no operator of a higher level
 abbrev Found : ℕ → List Symbol → Expression → Type 0
 Found level ts e =
-    (rest : List Symbol) (whole : Expression) (end : List Symbol) → Loose (suc level) rest → Extends level e rest whole end → Reads level (ts ++ rest) whole end
+    (rest : List Symbol) (whole : Expression) (end : List Symbol) → Loose (suc level) rest → Extends level e rest whole end
+    → Reads level (ts ++ rest) whole end
 
 -- symbols that derive an expression are read if no operator of its levels follows
 pub found_alone : (level : ℕ) (ts : List Symbol) (e : Expression) → Found level ts e → (rest : List Symbol) → Loose level rest
@@ -135,7 +145,8 @@ moved : (level : ℕ) {a b : List Symbol} {e : Expression} (rest : List Symbol) 
 moved level {e = e} rest h r = subst (λ x. Reads level x e rest) h r
 
 -- two operands with an operator between them are read, if no operator of a higher level follows
-found_joined : (level : ℕ) (left right : List Symbol) (a b : Expression) (code : ℕ) → level_of code ≡ level → Found level left a → Found (suc level) right b
+found_joined : (level : ℕ) (left right : List Symbol) (a b : Expression) (code : ℕ) → level_of code ≡ level → Found level left a
+    → Found (suc level) right b
     → Found level (left ++ symbols.Operator code ∷ right) (binary_expression code a b)
 found_joined level left right a b code h f g rest whole end loose goes =
     moved level end (sym (append_assoc left (symbols.Operator code ∷ right) rest))
@@ -158,7 +169,8 @@ found_closed sign inside rest e f h =
     (found_alone any_expression inside e f (symbols.Sign sign ∷ rest) (loose_sign sign rest h))
 
 -- an operand is read if no index follows
-operand_alone : (ts : List Symbol) (e : Expression) → Found operand_level ts e → (rest : List Symbol) → NoSign 91 rest → Reads operand_level (ts ++ rest) e rest
+operand_alone : (ts : List Symbol) (e : Expression) → Found operand_level ts e → (rest : List Symbol) → NoSign 91 rest
+    → Reads operand_level (ts ++ rest) e rest
 operand_alone ts e f rest h = found_alone operand_level ts e f rest (h, level_at_front rest)
 
 -- symbols that derive an expression are read
@@ -190,7 +202,8 @@ pub record SameReading (A : Type 0) (a b : A) (rest rest' : List Symbol) : Type 
   pub left : rest ≡ rest'
 
 -- an extension depends only on what it extends and on the symbols
-extends_from : (level : ℕ) {a a' e : Expression} {ts ts' rest : List Symbol} → a ≡ a' → ts ≡ ts' → Extends level a' ts' e rest → Extends level a ts e rest
+extends_from : (level : ℕ) {a a' e : Expression} {ts ts' rest : List Symbol} → a ≡ a' → ts ≡ ts' → Extends level a' ts' e rest
+    → Extends level a ts e rest
 extends_from level {a = a} {e = e} {ts' = ts'} {rest = rest} h i g =
     subst (λ x. Extends level a x e rest) (sym i) (subst (λ x. Extends level x ts' e rest) (sym h) g)
 
@@ -202,14 +215,16 @@ mutual
   one_reading (ReadsName n rest h) (ReadsName m rest' h') = record { tree = refl; left = refl }
   one_reading (ReadsName n rest h) (ReadsElement m r') = absurd (h refl)
   one_reading (ReadsElement n r) (ReadsName m rest' h') = absurd (h' refl)
-  one_reading (ReadsElement n r) (ReadsElement m r') = let s = one_reading r r' in record { tree = ap (Element n) s.tree; left = cc (s.left) }
+  one_reading (ReadsElement n r) (ReadsElement m r') = let s = one_reading r r' in
+      record { tree = ap (Element n) s.tree; left = cc (s.left) }
   one_reading (ReadsMore rest) (ReadsMore rest') = record { tree = refl; left = refl }
   one_reading (ReadsTake rest) (ReadsTake rest') = record { tree = refl; left = refl }
   one_reading (ReadsIter rest) (ReadsIter rest') = record { tree = refl; left = refl }
   one_reading (ReadsNegative r) (ReadsNegative r') = let s = one_reading r r' in record { tree = ap (Unary 1) s.tree; left = s.left }
   one_reading (ReadsNot r) (ReadsNot r') = let s = one_reading r r' in record { tree = ap (Unary 2) s.tree; left = s.left }
   one_reading (ReadsBracketed r) (ReadsBracketed r') = let s = one_reading r r' in record { tree = s.tree; left = cc (s.left) }
-  one_reading (ReadsChain {level} r g) (ReadsChain r' g') = let s = one_reading r r' in one_extension g (extends_from level s.tree s.left g')
+  one_reading (ReadsChain {level} r g) (ReadsChain r' g') = let s = one_reading r r' in one_extension g
+      (extends_from level s.tree s.left g')
   one_reading (ReadsNumeral n rest) (ReadsChain r g) = absurd (no_next_level r)
   one_reading (ReadsName n rest h) (ReadsChain r g) = absurd (no_next_level r)
   one_reading (ReadsElement n r) (ReadsChain r' g) = absurd (no_next_level r')

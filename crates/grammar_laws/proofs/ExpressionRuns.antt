@@ -3,7 +3,8 @@ use Rattle.std.proofs.Common.{◌≡◌, ℕ, List, [], ◌∷◌, ◌++◌, ref
 use Rattle.pipe_model.specs.declared.symbol.Symbol.{Symbol}
 use Rattle.grammar_laws.specs.ExpressionMachine.{Want, step, run, and_run, may_end, Done, Stuck, ended, ending, ending_on}
 
-run_part_on : (o : Option (List Want)) (ts us : List Symbol) → ((wants : List Want) → run (ts ++ us) wants ≡ and_run (run ts wants) (run us))
+run_part_on : (o : Option (List Want)) (ts us : List Symbol)
+    → ((wants : List Want) → run (ts ++ us) wants ≡ and_run (run ts wants) (run us))
     → and_run o (run (ts ++ us)) ≡ and_run (and_run o (run ts)) (run us)
 run_part_on None ts us h = refl
 run_part_on (Some wants) ts us h = h wants
@@ -32,7 +33,8 @@ pub record Stopped (ts : List Symbol) (wants : List Want) : Type 0 where
   pub refused : Refused left rest
   pub ends : ending ts wants ≡ ended (may_end left) rest
 
-stopped_on : (t : Symbol) (ts : List Symbol) (wants : List Want) (o : Option (List Want)) → step wants t ≡ o → ((mid : List Want) → Stopped ts mid)
+stopped_on : (t : Symbol) (ts : List Symbol) (wants : List Want) (o : Option (List Want)) → step wants t ≡ o
+    → ((mid : List Want) → Stopped ts mid)
     → Stopped (t ∷ ts) wants
 stopped_on t ts wants None e f = record {
   before = [];

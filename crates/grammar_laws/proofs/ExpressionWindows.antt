@@ -1,9 +1,12 @@
--- If a reading of the first symbols leaves one of them, or a reader gets stuck with one of them left, then the same happens if more symbols follow.
-use Rattle.std.proofs.Common.{◌≡◌, ◌≢◌, ℕ, ◌+◌, ◌<◌, List, [], ◌∷◌, ◌++◌, length, length-append, refl, sym, ap, ◌∙◌, arith, Option, Some, None, Bool, true, false}
+-- If a reading of the first symbols leaves one of them, or a reader gets stuck with one of them left, then the same happens if more symbols
+-- follow.
+use Rattle.std.proofs.Common.{◌≡◌, ◌≢◌, ℕ, ◌+◌, ◌<◌, List, [], ◌∷◌, ◌++◌, length, length-append, refl, sym, ap, ◌∙◌, arith, Option, Some}
+use Rattle.std.proofs.Common.{None, Bool, true, false}
 use Rattle.pipe_model.specs.declared.symbol.Symbol.{Symbol}
 use Rattle.pipe_model.specs.declared.symbol.Symbol.TheVariants as symbols
 use Rattle.pipe_model.specs.Language.SyntaxTree.{Expression}
-use Rattle.grammar_laws.specs.Reading.{Reads, ReadsNumeral, ReadsName, ReadsElement, ReadsMore, ReadsTake, ReadsIter, ReadsNegative, ReadsNot, ReadsBracketed, ReadsChain, Extends, Ends, Joins, NoSign, next_level}
+use Rattle.grammar_laws.specs.Reading.{Reads, ReadsNumeral, ReadsName, ReadsElement, ReadsMore, ReadsTake, ReadsIter, ReadsNegative}
+use Rattle.grammar_laws.specs.Reading.{ReadsNot, ReadsBracketed, ReadsChain, Extends, Ends, Joins, NoSign, next_level}
 use Rattle.grammar_laws.specs.ExpressionMachine.{Want, step, may_end, Stuck, ended, ending, ending_on, IsStuck}
 
 sign_window : (ts more : List Symbol) → ts ≢ [] → NoSign 91 ts → NoSign 91 (ts ++ more)
@@ -58,7 +61,8 @@ ended_more false ts more n h =
 
 stuck_on : (o : Option (List Want)) (b : Bool) (t : Symbol) (ts more : List Symbol) (n : ℕ)
     → ((mid : List Want) → ending ts mid ≡ Stuck n → ending (ts ++ more) mid ≡ Stuck (n + length more))
-    → ending_on o (ended b (t ∷ ts)) (ending ts) ≡ Stuck n → ending_on o (ended b (t ∷ (ts ++ more))) (ending (ts ++ more)) ≡ Stuck (n + length more)
+    → ending_on o (ended b (t ∷ ts)) (ending ts) ≡ Stuck n → ending_on o (ended b (t ∷ (ts ++ more))) (ending (ts ++ more)) ≡ Stuck
+    (n + length more)
 stuck_on None b t ts more n f h = ended_more b (t ∷ ts) more n h
 stuck_on (Some mid) b t ts more n f h = f mid h
 
@@ -66,10 +70,12 @@ stuck_at_end : (b : Bool) (n : ℕ) → 0 < n → ended b [] ≡ Stuck n → ⊥
 stuck_at_end true n l h = cc (h)
 stuck_at_end false n l h = let e : 0 ≡ n = cc (h) in absurd (omega (arith, e, l))
 
-ending_more : (ts more : List Symbol) (wants : List Want) (n : ℕ) → 0 < n → ending ts wants ≡ Stuck n → ending (ts ++ more) wants ≡ Stuck (n + length more)
+ending_more : (ts more : List Symbol) (wants : List Want) (n : ℕ) → 0 < n → ending ts wants ≡ Stuck n
+    → ending (ts ++ more) wants ≡ Stuck (n + length more)
 ending_more [] more wants n l h = absurd (stuck_at_end (may_end wants) n l h)
 ending_more (t ∷ ts) more wants n l h = stuck_on (step wants t) (may_end wants) t ts more n (λ mid i. ending_more ts more mid n l i) h
 
 -- a reader that gets stuck with a symbol left gets stuck there with more symbols after
-pub stuck_more : (wants : List Want) (ts more : List Symbol) (n : ℕ) → 0 < n → IsStuck wants ts n → IsStuck wants (ts ++ more) (n + length more)
+pub stuck_more : (wants : List Want) (ts more : List Symbol) (n : ℕ) → 0 < n → IsStuck wants ts n
+    → IsStuck wants (ts ++ more) (n + length more)
 stuck_more wants ts more n l s = record { stuck = λ below. ending_more ts more (wants ++ below) n l (s.stuck below) }

@@ -1,10 +1,12 @@
 -- The first symbol that breaks a rule, from the verdict of the machine and the number of open brackets; a program has no such symbol.
-use Rattle.std.proofs.Common.{◌≡◌, ◌≢◌, ℕ, suc, ◌<◌, ◌≤◌, ◌+◌, List, [], ◌∷◌, ◌++◌, length, refl, sym, ap, ◌∙◌, append_assoc, append-nil, length-append, arith, subst, ◌⊎◌, inl, inr}
+use Rattle.std.proofs.Common.{◌≡◌, ◌≢◌, ℕ, suc, ◌<◌, ◌≤◌, ◌+◌, List, [], ◌∷◌, ◌++◌, length, refl, sym, ap, ◌∙◌, append_assoc, append-nil}
+use Rattle.std.proofs.Common.{length-append, arith, subst, ◌⊎◌, inl, inr}
 use Rattle.std.proofs.lemmas.Bool.{cases_lt}
 use Rattle.pipe_model.specs.declared.symbol.Symbol.{Symbol}
 use Rattle.pipe_model.specs.Language.SyntaxTree.{SyntaxTree}
 use Rattle.pipe_model.specs.Language.Grammar.{Piece, FullExpression, flat, DerivesProgram}
-use Rattle.pipe_model.specs.Language.Spelling.{Spells, IsProgramPrefix, EndsTooLong, IsShallow, BreaksNoGrammarRule, FirstFault, UnexpectedSymbol, UnexpectedEnd, FirstTooDeep, FirstTooLong, open_brackets, GrammarRule}
+use Rattle.pipe_model.specs.Language.Spelling.{Spells, IsProgramPrefix, EndsTooLong, IsShallow, BreaksNoGrammarRule, FirstFault}
+use Rattle.pipe_model.specs.Language.Spelling.{UnexpectedSymbol, UnexpectedEnd, FirstTooDeep, FirstTooLong, open_brackets, GrammarRule}
 use Rattle.pipe_model.specs.Language.Spelling as spelling
 use Rattle.grammar_laws.specs.ProgramMachine.{Outside, Verdict, Accepted, Unexpected, TooLong, judge, program}
 use Rattle.grammar_laws.proofs.FirstFaults.{IsUnexpected, is_unexpected, is_too_long, NoneTooLong, none_too_long, too_long_found}
@@ -44,7 +46,8 @@ some_left : (t : Symbol) (ts : List Symbol) → t ∷ ts ≢ []
 some_left t ts = λ e. absurd (cc (e))
 
 -- the symbols before a symbol are shallow
-front_shallow : (ts before : List Symbol) (t : Symbol) (after : List Symbol) → IsShallowBefore ts → ts ≡ before ++ t ∷ after → IsShallow before
+front_shallow : (ts before : List Symbol) (t : Symbol) (after : List Symbol) → IsShallowBefore ts → ts ≡ before ++ t ∷ after
+    → IsShallow before
 front_shallow ts before t after h s = record {
   shallow = λ b a e. h.shallow b (a ++ t ∷ after) (s ∙ ap (λ x. x ++ t ∷ after) e ∙ append_assoc b a (t ∷ after)) (not_empty a);
 }
@@ -54,7 +57,8 @@ front_shallow ts before t after h s = record {
     not_empty (x ∷ a) = some_left x (a ++ t ∷ after)
 
 -- the same symbols followed by more
-put_after : (ts before : List Symbol) (t : Symbol) (after more : List Symbol) → ts ≡ before ++ t ∷ after → ts ++ more ≡ before ++ t ∷ (after ++ more)
+put_after : (ts before : List Symbol) (t : Symbol) (after more : List Symbol) → ts ≡ before ++ t ∷ after
+    → ts ++ more ≡ before ++ t ∷ (after ++ more)
 put_after ts before t after more h = ap (λ x. x ++ more) h ∙ append_assoc before (t ∷ after) more
 
 fault_moved : {ts us : List Symbol} {rule : GrammarRule} {k m : ℕ} → ts ≡ us → k ≡ m → FirstFault us rule m → FirstFault ts rule k
@@ -62,7 +66,8 @@ fault_moved {ts} {us} {rule} {k} {m} h i f = subst (λ x. FirstFault x rule k) (
 
 -- ---- the first fault by the verdict
 
-unexpected_at : (cut more : List Symbol) (n k : ℕ) → (u : IsUnexpected cut n) → (rest : List Symbol) → u.rest ≡ rest → 0 < n → k + n ≡ length cut
+unexpected_at : (cut more : List Symbol) (n k : ℕ) → (u : IsUnexpected cut n) → (rest : List Symbol) → u.rest ≡ rest → 0 < n
+    → k + n ≡ length cut
     → IsShallowBefore cut
     → FirstFault (cut ++ more) spelling.Unexpected k
 unexpected_at cut more n k u [] e l m h = absurd (omega (arith, l, u.many, ap length e))
@@ -85,7 +90,8 @@ no_symbols [] h = refl
 no_symbols (t ∷ ts) h = absurd (omega (arith, h))
 
 -- the symbols end too early
-pub first_unexpected_end : (ts : List Symbol) → judge 256 ts (Outside program) ≡ Unexpected 0 → IsShallow ts → FirstFault ts spelling.Unexpected (length ts)
+pub first_unexpected_end : (ts : List Symbol) → judge 256 ts (Outside program) ≡ Unexpected 0 → IsShallow ts
+    → FirstFault ts spelling.Unexpected (length ts)
 first_unexpected_end ts v h =
     let u = is_unexpected ts 0 v in
     let none = no_symbols u.rest u.many in
@@ -110,7 +116,8 @@ first_too_long cut more n k v c m h =
     (record { front = x.front; shallow = front_shallow cut x.before x.t x.after h x.split; short = x.short })
     (shallow_here cut n c (x.before ++ x.t ∷ []) x.after x.many here h) x.ends)
   where
-    shallow_here : (cut : List Symbol) (n : ℕ) → (1 < n) ⊎ (open_brackets cut ≤ 64) → (b a : List Symbol) → n ≡ suc (length a) → cut ≡ b ++ a
+    shallow_here : (cut : List Symbol) (n : ℕ) → (1 < n) ⊎ (open_brackets cut ≤ 64) → (b a : List Symbol) → n ≡ suc (length a)
+        → cut ≡ b ++ a
         → IsShallowBefore cut → open_brackets b ≤ 64
     shallow_here cut n c b (t ∷ a) e s h = h.shallow b (t ∷ a) s (some_left t a)
     shallow_here cut n (inl l) b [] e s h = absurd (omega (arith, l, e))
@@ -141,7 +148,8 @@ last_count (Unexpected m) n c h = absurd (cc (h))
 last_count (TooLong m) n c h = let e : m ≡ n = cc (h) in omega (arith, e, c)
 
 -- a symbol that opens one bracket too many
-pub first_too_deep : (before : List Symbol) (t : Symbol) (more : List Symbol) (v : Verdict) → judge 256 (before ++ t ∷ []) (Outside program) ≡ v
+pub first_too_deep : (before : List Symbol) (t : Symbol) (more : List Symbol) (v : Verdict)
+    → judge 256 (before ++ t ∷ []) (Outside program) ≡ v
     → ComesToLast v → IsShallowBefore (before ++ t ∷ []) → 64 < open_brackets (before ++ t ∷ [])
     → FirstFault (before ++ t ∷ more) spelling.TooDeep (length before)
 first_too_deep before t more v e c h l =
@@ -163,7 +171,8 @@ spelled_accepted s = ap (λ x. judge 256 x (Outside program)) s.split ∙ accept
 pub one_spelled : {ts : List Symbol} {p q : SyntaxTree} → Spells ts p → Spells ts q → p ≡ q
 one_spelled {p = p} {q = q} s r = one_program s.pieces r.pieces p q s.derived r.derived (sym s.split ∙ r.split)
 
-spelled_front : {ts : List Symbol} {p : SyntaxTree} → Spells ts p → (before after : List Symbol) → ts ≡ before ++ after → IsProgramPrefix before
+spelled_front : {ts : List Symbol} {p : SyntaxTree} → Spells ts p → (before after : List Symbol) → ts ≡ before ++ after
+    → IsProgramPrefix before
 spelled_front {p = p} s before after h = record { after = after; pieces = s.pieces; tree = p; derived = s.derived; split = sym h ∙ s.split }
 
 -- symbols that spell a program break no rule
@@ -227,10 +236,34 @@ record Broken (ts : List Symbol) (rule : GrammarRule) (k : ℕ) : Type 0 where
   breaks : Breaks rule before rest
 
 broken : {ts : List Symbol} {rule : GrammarRule} {k : ℕ} → FirstFault ts rule k → Broken ts rule k
-broken (UnexpectedSymbol before t after b only) = record { before = before; rest = t ∷ after; split = refl; many = refl; obeys = b; breaks = only }
+broken (UnexpectedSymbol before t after b only) = record {
+  before = before;
+  rest = t ∷ after;
+  split = refl;
+  many = refl;
+  obeys =
+      b;
+  breaks = only;
+}
 broken (UnexpectedEnd ts b ends) = record { before = ts; rest = []; split = append-nil ts; many = refl; obeys = b; breaks = ends }
-broken (FirstTooDeep before t after b front l) = record { before = before; rest = t ∷ after; split = refl; many = refl; obeys = b; breaks = (front, l) }
-broken (FirstTooLong before t after b l ends) = record { before = before; rest = t ∷ after; split = refl; many = refl; obeys = b; breaks = (l, ends) }
+broken (FirstTooDeep before t after b front l) = record {
+  before = before;
+  rest = t ∷ after;
+  split = refl;
+  many = refl;
+  obeys = b;
+  breaks =
+      (front, l);
+}
+broken (FirstTooLong before t after b l ends) = record {
+  before = before;
+  rest = t ∷ after;
+  split = refl;
+  many = refl;
+  obeys = b;
+  breaks =
+      (l, ends);
+}
 
 -- a symbol breaks no rule if longer symbols break none
 not_before : (rule : GrammarRule) (before : List Symbol) (x : Symbol) (more after : List Symbol) → BreaksNoGrammarRule (before ++ x ∷ more)
@@ -262,12 +295,14 @@ one_rule spelling.TooLong spelling.TooLong before rest b c = refl
 not_earlier : {ts : List Symbol} {r r' : GrammarRule} {k k' : ℕ} → Broken ts r k → Broken ts r' k' → k < k' → ⊥
 not_earlier {r = r} a b l =
     let m = longer a.before a.rest b.before b.rest (a.split ∙ sym b.split) (omega (arith, l, a.many, b.many)) in
-    not_before r a.before m.x m.more (m.more ++ b.rest) (subst BreaksNoGrammarRule m.front b.obeys) (subst (λ x. Breaks r a.before x) m.rest a.breaks)
+    not_before r a.before m.x m.more (m.more ++ b.rest) (subst BreaksNoGrammarRule m.front b.obeys)
+    (subst (λ x. Breaks r a.before x) m.rest a.breaks)
 
 one_broken : {ts : List Symbol} {r r' : GrammarRule} {k k' : ℕ} → Broken ts r k → Broken ts r' k' → k ≡ k' → r ≡ r'
 one_broken {r = r} {r' = r'} a b e =
     let p = as_long a.before a.rest b.before b.rest (a.split ∙ sym b.split) (a.many ∙ e ∙ sym b.many) in
-    one_rule r r' a.before a.rest a.breaks (subst (λ x. Breaks r' x a.rest) (sym p.0) (subst (λ x. Breaks r' b.before x) (sym p.1) b.breaks))
+    one_rule r r' a.before a.rest a.breaks (subst (λ x. Breaks r' x a.rest) (sym p.0)
+    (subst (λ x. Breaks r' b.before x) (sym p.1) b.breaks))
 
 -- symbols have at most one first fault
 pub one_fault : {ts : List Symbol} {r r' : GrammarRule} {k k' : ℕ} → FirstFault ts r k → FirstFault ts r' k' → (k ≡ k') × (r ≡ r')

@@ -1,17 +1,22 @@
 -- The verdict of the machine of programs names the first symbol that breaks a rule, as the grammar alone defines it.
-use Rattle.std.proofs.Common.{◌≡◌, ◌≢◌, ℕ, suc, ◌<◌, ◌≤◌, List, [], ◌∷◌, ◌++◌, length, refl, sym, ap, ◌∙◌, append_assoc, append-nil, length-append, arith, subst, ◌⊎◌, inl, inr, Option, Some, None, Bool, true, false, nat_le, if◌then◌else◌}
+use Rattle.std.proofs.Common.{◌≡◌, ◌≢◌, ℕ, suc, ◌<◌, ◌≤◌, List, [], ◌∷◌, ◌++◌, length, refl, sym, ap, ◌∙◌, append_assoc, append-nil}
+use Rattle.std.proofs.Common.{length-append, arith, subst, ◌⊎◌, inl, inr, Option, Some, None, Bool, true, false, nat_le, if◌then◌else◌}
 use Rattle.std.proofs.lemmas.Bool.{cases_lt}
 use Rattle.pipe_model.specs.declared.symbol.Symbol.{Symbol}
 use Rattle.pipe_model.specs.declared.symbol.Symbol.TheVariants as symbols
 use Rattle.pipe_model.specs.Language.SyntaxTree.{Expression, SyntaxTree}
-use Rattle.pipe_model.specs.Language.Grammar.{any_expression, Derives, Numeral, Named, Indexed, CallsMore, CallsTake, CallsIter, Negative, Not, Bracketed, Tighter, Joined, Piece, Single, FullExpression, flat, DerivesProgram}
+use Rattle.pipe_model.specs.Language.Grammar.{any_expression, Derives, Numeral, Named, Indexed, CallsMore, CallsTake, CallsIter, Negative}
+use Rattle.pipe_model.specs.Language.Grammar.{Not, Bracketed, Tighter, Joined, Piece, Single, FullExpression, flat, DerivesProgram}
 use Rattle.pipe_model.specs.Language.Spelling.{IsProgramPrefix, EndsTooLong}
 use Rattle.grammar_laws.specs.Reading.{NoSign}
 use Rattle.grammar_laws.specs.ExpressionMachine as expression
 use Rattle.grammar_laws.specs.ProgramMachine as machine
-use Rattle.grammar_laws.specs.ProgramMachine.{Want, Sign, MachineState, Outside, Inside, Takes, Skips, move, stepped, next, step, continued, run, and_run, Verdict, Accepted, Unexpected, TooLong, is_final, judge, judged, judged_in, program}
+use Rattle.grammar_laws.specs.ProgramMachine.{Want, Sign, MachineState, Outside, Inside, Takes, Skips, move, stepped, next, step, continued}
+use Rattle.grammar_laws.specs.ProgramMachine.{run, and_run, Verdict, Accepted, Unexpected, TooLong, is_final, judge, judged, judged_in}
+use Rattle.grammar_laws.specs.ProgramMachine.{program}
 use Rattle.grammar_laws.proofs.FullExpressions.{stage_number}
-use Rattle.grammar_laws.proofs.ProgramFaults.{reached, reached_front, reached_too_long, front_runs, accepted_from, program_accepted, FindsTooLong, too_long_here, over_or_past}
+use Rattle.grammar_laws.proofs.ProgramFaults.{reached, reached_front, reached_too_long, front_runs, accepted_from, program_accepted}
+use Rattle.grammar_laws.proofs.ProgramFaults.{FindsTooLong, too_long_here, over_or_past}
 use Rattle.grammar_laws.proofs.ProgramFronts.{step_leads}
 use Rattle.grammar_laws.proofs.ProgramWalks.{Walks, Stays, Begins, LeavesOut, OverFull, OverStage, walks_program}
 
@@ -20,7 +25,8 @@ finds_moved : {longest : ℕ} {ts us : List Symbol} {wants : List Want} {rest : 
     → FindsTooLong longest ts wants rest
 finds_moved {longest} {wants = wants} {rest = rest} h f = subst (λ x. FindsTooLong longest x wants rest) (sym h) f
 
-takes_then : {want : Want} {wants more : List Want} {t : Symbol} {rest : List Symbol} (longest : ℕ) (ts : List Symbol) → move want t ≡ Takes more
+takes_then : {want : Want} {wants more : List Want} {t : Symbol} {rest : List Symbol} (longest : ℕ) (ts : List Symbol)
+    → move want t ≡ Takes more
     → FindsTooLong longest ts (more ++ wants) rest
     → FindsTooLong longest (t ∷ ts) (want ∷ wants) rest
 takes_then {want} {wants} {t = t} longest ts h f = record {
@@ -55,7 +61,8 @@ derived_begins (Not d) rest = λ h. absurd (omega (arith, h))
 derived_begins (Bracketed d) rest = λ h. absurd (omega (arith, h))
 derived_begins (Tighter d) rest = derived_begins d rest
 derived_begins (Joined {left = left} {right = right} code h d d') rest =
-    subst (NoSign 41) (sym (append_assoc left (symbols.Operator code ∷ right) rest)) (derived_begins d (symbols.Operator code ∷ (right ++ rest)))
+    subst (NoSign 41) (sym (append_assoc left (symbols.Operator code ∷ right) rest))
+    (derived_begins d (symbols.Operator code ∷ (right ++ rest)))
 
 front_begins : (inside more rest : List Symbol) → inside ≢ [] → NoSign 41 (inside ++ more) → NoSign 41 (inside ++ rest)
 front_begins [] more rest n h = absurd (n refl)
@@ -88,7 +95,8 @@ no_piece after x (p ∷ before) h = cc (h)
 
 -- the machine runs over the pieces before it and stops there or earlier
 finds_too_long : (longest : ℕ) (inside more : List Symbol) (after : List Piece) (rest : List Symbol) → length inside ≡ suc longest
-    → {wants : List Want} {ps : List Piece} → Walks wants ps → (before : List Piece) → ps ≡ before ++ FullExpression (inside ++ more) ∷ after
+    → {wants : List Want} {ps : List Piece} → Walks wants ps → (before : List Piece) → ps ≡ before ++ FullExpression
+    (inside ++ more) ∷ after
     → FindsTooLong longest (flat before ++ (inside ++ rest)) wants rest
 finds_too_long longest inside more after rest h (Stays wants) before s = absurd (no_piece after (FullExpression (inside ++ more)) before s)
 finds_too_long longest inside more after rest h (Begins e w) [] s = absurd (cc (s))
@@ -126,7 +134,8 @@ finds_too_long longest inside more after rest h (OverStage {wants = wants} {ts =
     rw (first, second) (finds_moved (passed_split ts 41 before (inside ++ rest))
     (stage_then longest (ts ++ symbols.Sign 41 ∷ (flat before ++ (inside ++ rest))) wants
     (derived_begins d (symbols.Sign 41 ∷ (flat before ++ (inside ++ rest))))
-    (over_or_past longest ts 41 (flat before ++ (inside ++ rest)) rest wants d (λ x. absurd (omega (arith, x))) (swapped (cases_lt longest (length ts)))
+    (over_or_past longest ts 41 (flat before ++ (inside ++ rest)) rest wants d (λ x. absurd (omega (arith, x)))
+    (swapped (cases_lt longest (length ts)))
     (after_more before inside rest) (finds_too_long longest inside more after rest h w before tail))))
 
 -- the machine rejects a prefix that ends too long there or earlier, whatever follows
@@ -152,7 +161,8 @@ refusal_in : (b : Bool) (n m : ℕ) (go : Verdict) → (if b then go else TooLon
 refusal_in true n m go h = h
 refusal_in false n m go h = absurd (cc (h))
 
-refusal_at : (longest : ℕ) (s : MachineState) (n m : ℕ) (go : MachineState → Verdict) → judged_in longest s n go ≡ Unexpected m → go s ≡ Unexpected m
+refusal_at : (longest : ℕ) (s : MachineState) (n m : ℕ) (go : MachineState → Verdict) → judged_in longest s n go ≡ Unexpected m
+    → go s ≡ Unexpected m
 refusal_at longest (Outside wants) n m go h = h
 refusal_at longest (Inside k i wants) n m go h = refusal_in (nat_le k longest) n m (go (Inside k i wants)) h
 
@@ -220,17 +230,20 @@ abbrev Counted : MachineState → Type 0
 Counted (Outside wants) = Unit {0}
 Counted (Inside n i wants) = n ≤ 256
 
-entered_count : (wants : List Want) (t : Symbol) (k : ℕ) (i : List expression.Want) (left : List Want) → step wants t ≡ Some (Inside k i left) → k ≡ 1
+entered_count : (wants : List Want) (t : Symbol) (k : ℕ) (i : List expression.Want) (left : List Want)
+    → step wants t ≡ Some (Inside k i left) → k ≡ 1
 entered_count wants t k i left h = (step_leads wants t (Inside k i left) h).0
 
-inside_count : (o : Option (List expression.Want)) (b : Bool) (n k : ℕ) (i : List expression.Want) (wants left : List Want) (t : Symbol) → n ≤ 256
+inside_count : (o : Option (List expression.Want)) (b : Bool) (n k : ℕ) (i : List expression.Want) (wants left : List Want) (t : Symbol)
+    → n ≤ 256
     → continued o b n wants (step wants t) ≡ Some (Inside k i left) → k ≤ 257
 inside_count (Some mid) b n k i wants left t l h = let e : suc n ≡ k = cc (h) in omega (arith, e, l)
 inside_count None true n k i wants left t l h = omega (arith, entered_count wants t k i left h)
 inside_count None false n k i wants left t l h = absurd (cc (h))
 
 -- a further symbol raises the count by at most one
-next_count : (s : MachineState) (t : Symbol) (k : ℕ) (i : List expression.Want) (left : List Want) → Counted s → next s t ≡ Some (Inside k i left) → k ≤ 257
+next_count : (s : MachineState) (t : Symbol) (k : ℕ) (i : List expression.Want) (left : List Want) → Counted s
+    → next s t ≡ Some (Inside k i left) → k ≤ 257
 next_count (Outside wants) t k i left c h = omega (arith, entered_count wants t k i left h)
 next_count (Inside n j wants) t k i left c h = inside_count (expression.step j t) (expression.may_end j) n k i wants left t c h
 
@@ -260,7 +273,8 @@ excess_later s mid t ts n e x = record {
   runs = ap (λ o. and_run o (run (x.before ++ x.t ∷ []))) e ∙ x.runs;
 }
 
-excess_in : (b : Bool) (s : MachineState) (t : Symbol) (ts : List Symbol) (k n : ℕ) (i : List expression.Want) (wants : List Want) (go : Verdict)
+excess_in : (b : Bool) (s : MachineState) (t : Symbol) (ts : List Symbol) (k n : ℕ) (i : List expression.Want) (wants : List Want)
+    (go : Verdict)
     → nat_le k 256 ≡ b → k ≤ 257 → next s t ≡ Some (Inside k i wants) → (k ≤ 256 → go ≡ TooLong n → Excess ts (Inside k i wants) n)
     → (if b then go else TooLong (length (t ∷ ts))) ≡ TooLong n → Excess (t ∷ ts) s n
 excess_in true s t ts k n i wants go c l e f h = excess_later s (Inside k i wants) t ts n e (f (grind (arith, c)) h)
@@ -330,7 +344,8 @@ front_ran None go s h = absurd (cc (h))
 front_ran (Some mid) go s h = (mid, refl)
 
 -- no prefix of the symbols before `rest` ends too long, if a verdict `TooLong` can only name a symbol of `rest`
-pub none_too_long : (ts before rest : List Symbol) → ts ≡ before ++ rest → ((n : ℕ) → judge 256 ts (Outside program) ≡ TooLong n → n ≤ length rest)
+pub none_too_long : (ts before rest : List Symbol) → ts ≡ before ++ rest
+    → ((n : ℕ) → judge 256 ts (Outside program) ≡ TooLong n → n ≤ length rest)
     → NoneTooLong before
 none_too_long ts before rest s h b a split f =
     let g = too_long_found b (a ++ rest) f in
@@ -350,7 +365,8 @@ final_accepted : (b : Bool) → (if b then Accepted else Unexpected 0) ≡ Accep
 final_accepted true h = refl
 final_accepted false h = cc (h)
 
-not_whole : (ts before : List Symbol) (state : MachineState) → ts ≡ before → run before (Outside program) ≡ Some state → is_final state ≡ false
+not_whole : (ts before : List Symbol) (state : MachineState) → ts ≡ before → run before (Outside program) ≡ Some state
+    → is_final state ≡ false
     → (pieces : List Piece) (tree : SyntaxTree) → DerivesProgram pieces tree → ts ≡ flat pieces → ⊥
 not_whole ts before state s r f pieces tree d h =
     let longest = length (flat pieces) in

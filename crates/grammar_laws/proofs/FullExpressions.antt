@@ -1,16 +1,20 @@
 -- The machine of programs at a full expression: it passes one that is read and is not too long; otherwise it says why it stops.
-use Rattle.std.proofs.Common.{◌≡◌, ℕ, suc, ◌<◌, ◌≤◌, ◌+◌, List, [], ◌∷◌, ◌++◌, length, refl, sym, ap, ◌∙◌, length-append, arith, Option, Some, None, true, false, nat_le, ◌⊎◌, inl, inr, ◌==◌}
+use Rattle.std.proofs.Common.{◌≡◌, ℕ, suc, ◌<◌, ◌≤◌, ◌+◌, List, [], ◌∷◌, ◌++◌, length, refl, sym, ap, ◌∙◌, length-append, arith, Option}
+use Rattle.std.proofs.Common.{Some, None, true, false, nat_le, ◌⊎◌, inl, inr, ◌==◌}
 use Rattle.std.proofs.lemmas.Bool.{cases_lt}
 use Rattle.pipe_model.specs.declared.symbol.Symbol.{Symbol}
 use Rattle.pipe_model.specs.declared.symbol.Symbol.TheVariants as symbols
 use Rattle.pipe_model.specs.Language.SyntaxTree.{Expression}
-use Rattle.grammar_laws.specs.Reading.{Reads, ReadsNumeral, ReadsName, ReadsElement, ReadsMore, ReadsTake, ReadsIter, ReadsNegative, ReadsNot, ReadsBracketed, ReadsChain, ReadsFull, NoSign}
+use Rattle.grammar_laws.specs.Reading.{Reads, ReadsNumeral, ReadsName, ReadsElement, ReadsMore, ReadsTake, ReadsIter, ReadsNegative}
+use Rattle.grammar_laws.specs.Reading.{ReadsNot, ReadsBracketed, ReadsChain, ReadsFull, NoSign}
 use Rattle.grammar_laws.specs.ExpressionMachine as expression
-use Rattle.grammar_laws.specs.ProgramMachine.{Want, Sign, FullExpression, StageNumber, MachineState, Outside, Inside, whole, entered, continued, step, Verdict, Unexpected, TooLong, judged, judge}
+use Rattle.grammar_laws.specs.ProgramMachine.{Want, Sign, FullExpression, StageNumber, MachineState, Outside, Inside, whole, entered}
+use Rattle.grammar_laws.specs.ProgramMachine.{continued, step, Verdict, Unexpected, TooLong, judged, judge}
 use Rattle.grammar_laws.proofs.ExpressionPassing.{passes_expression}
 use Rattle.grammar_laws.proofs.ExpressionRuns.{Refused, stopped, done_may_end, stuck_may_not_end}
 
-enters_on : (longest : ℕ) (o : Option (List expression.Want)) (wants : List Want) (below : Option MachineState) (left : ℕ) (go : MachineState → Verdict)
+enters_on : (longest : ℕ) (o : Option (List expression.Want)) (wants : List Want) (below : Option MachineState) (left : ℕ)
+    (go : MachineState → Verdict)
     → judged longest (entered o wants) left go ≡ judged longest (continued o false 0 wants below) left go
 enters_on longest None wants below left go = refl
 enters_on longest (Some inner) wants below left go = refl
@@ -21,7 +25,8 @@ pub enters : (longest : ℕ) (ts : List Symbol) (wants : List Want)
 enters longest [] wants = refl
 enters longest (t ∷ ts) wants = enters_on longest (expression.step whole t) wants (step wants t) (length (t ∷ ts)) (judge longest ts)
 
-goes_on : (longest n : ℕ) (o : Option (List expression.Want)) (inner : List expression.Want) (t : Symbol) (ts : List Symbol) (wants : List Want)
+goes_on : (longest n : ℕ) (o : Option (List expression.Want)) (inner : List expression.Want) (t : Symbol) (ts : List Symbol)
+    (wants : List Want)
     → expression.step inner t ≡ o
     → judge longest (t ∷ ts) (Inside n inner wants)
     ≡ judged longest (continued o (expression.may_end inner) n wants (step wants t)) (length (t ∷ ts)) (judge longest ts)
@@ -46,7 +51,8 @@ inside_runs_on longest t before rest wants n inner left (Some mid) e f h l =
 
 -- symbols that continue a full expression and are not too many
 pub inside_runs : (longest : ℕ) (before rest : List Symbol) (wants : List Want) → RunsOver longest before rest wants
-inside_runs longest [] rest wants n inner left h l = let same : inner ≡ left = cc (h) in let none : n + 0 ≡ n = omega arith in rw (same, none) refl
+inside_runs longest [] rest wants n inner left h l = let same : inner ≡ left = cc (h) in let none : n + 0 ≡ n = omega arith in
+    rw (same, none) refl
 inside_runs longest (t ∷ before) rest wants n inner left h l =
     inside_runs_on longest t before rest wants n inner left (expression.step inner t) refl (inside_runs longest before rest wants) h l
 
@@ -87,7 +93,8 @@ leaves longest (t ∷ ts) n inner wants h r =
     ∙ ap (λ b. judged longest (continued None b n wants (step wants t)) (length (t ∷ ts)) (judge longest ts)) h
 
 -- otherwise the machine stops there
-pub stuck_inside : (longest : ℕ) (rest : List Symbol) (n : ℕ) (inner : List expression.Want) (wants : List Want) → expression.may_end inner ≡ false
+pub stuck_inside : (longest : ℕ) (rest : List Symbol) (n : ℕ) (inner : List expression.Want) (wants : List Want)
+    → expression.may_end inner ≡ false
     → Refused inner rest
     → judge longest rest (Inside n inner wants) ≡ Unexpected (length rest)
 stuck_inside longest [] n inner wants h r = rw h refl
@@ -112,7 +119,8 @@ passes_full {longest} {ts} {rest} r wants =
     ∙ leaves longest rest (0 + length s.before) s.left wants ends.0 (rw (sym ends.1) s.refused)
 
 -- if a reader of an expression gets stuck within the bound, the machine stops
-pub stuck_full : (longest : ℕ) (ts : List Symbol) (left : ℕ) (wants : List Want) → expression.IsStuck whole ts left → length ts ≤ left + longest
+pub stuck_full : (longest : ℕ) (ts : List Symbol) (left : ℕ) (wants : List Want) → expression.IsStuck whole ts left
+    → length ts ≤ left + longest
     → judge longest ts (Outside (FullExpression ∷ wants)) ≡ Unexpected left
 stuck_full longest ts left wants r l =
     let s = stopped ts whole in
@@ -124,7 +132,8 @@ stuck_full longest ts left wants r l =
     ∙ ap Unexpected ends.1
 
 -- if the machine of expressions runs over one symbol more than the bound, that symbol is one too many
-pub over_full : (longest : ℕ) (before rest : List Symbol) (left : List expression.Want) (wants : List Want) → expression.run before whole ≡ Some left
+pub over_full : (longest : ℕ) (before rest : List Symbol) (left : List expression.Want) (wants : List Want)
+    → expression.run before whole ≡ Some left
     → length before ≡ suc longest
     → judge longest (before ++ rest) (Outside (FullExpression ∷ wants)) ≡ TooLong (suc (length rest))
 over_full longest before rest left wants h l =

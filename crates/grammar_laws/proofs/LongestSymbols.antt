@@ -27,7 +27,8 @@ not_longer x y u v s l r t = by_more r.more refl
   where
     by_more : (m : List ℕ) → r.more ≡ m → (x ≡ y) × (u ≡ v)
     by_more [] e = (sym (r.front ∙ ap (λ m. x ++ m) e ∙ append-nil x), r.rest ∙ ap (λ m. m ++ v) e)
-    by_more (c ∷ m) e = absurd (l.longest r.more v s r.rest (λ n. let d : c ∷ m ≡ [] = sym e ∙ n in cc (d)) (ap symbol_of (sym r.front) ∙ t))
+    by_more (c ∷ m) e = absurd (l.longest r.more v s r.rest (λ n. let d : c ∷ m ≡ [] = sym e ∙ n in cc (d))
+        (ap symbol_of (sym r.front) ∙ t))
 
 -- the four blanks
 blank_is : (b : ℕ) → is_blank b ≡ true → (b ≡ 32) ⊎ ((b ≡ 9) ⊎ ((b ≡ 13) ⊎ (b ≡ 10)))
@@ -37,7 +38,8 @@ none_at : (k : ℕ) (bs : List ℕ) (s : Symbol) → symbol_of (k ∷ bs) ≡ No
 none_at k bs s none h = let e : None ≡ Some s = sym none ∙ h in cc (e)
 
 -- no symbol begins with a space, a tab, a carriage return or a line feed
-blanks_begin_none : (bs : List ℕ) → (symbol_of (32 ∷ bs) ≡ None) × (symbol_of (9 ∷ bs) ≡ None) × (symbol_of (13 ∷ bs) ≡ None) × (symbol_of (10 ∷ bs) ≡ None)
+blanks_begin_none : (bs : List ℕ) → (symbol_of (32 ∷ bs) ≡ None) × (symbol_of (9 ∷ bs) ≡ None) × (symbol_of (13 ∷ bs) ≡ None)
+    × (symbol_of (10 ∷ bs) ≡ None)
 blanks_begin_none [] = (refl, refl, refl, refl)
 blanks_begin_none (c ∷ bs) = (refl, refl, refl, refl)
 

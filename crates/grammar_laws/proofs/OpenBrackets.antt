@@ -12,7 +12,8 @@ count_one_more p ts t =
     sum_by-append (λ x. cond (p x) 1 0) ts (t ∷ []) ∙ ap (λ n. count_by p ts + n) (omega (arith))
 
 -- a prefix of the symbols and one more is a prefix of the symbols, or all of them
-pub front_of_more : (ts : List Symbol) (t : Symbol) (b a : List Symbol) → ts ++ t ∷ [] ≡ b ++ a → (a ≡ []) ⊎ ((more : List Symbol) × (ts ≡ b ++ more))
+pub front_of_more : (ts : List Symbol) (t : Symbol) (b a : List Symbol) → ts ++ t ∷ [] ≡ b ++ a
+    → (a ≡ []) ⊎ ((more : List Symbol) × (ts ≡ b ++ more))
 front_of_more [] t [] a h = inr ([], refl)
 front_of_more [] t (x ∷ []) a h = inl (cc (h))
 front_of_more [] t (x ∷ y ∷ b) a h = absurd (cc (h))

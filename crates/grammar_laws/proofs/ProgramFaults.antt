@@ -1,22 +1,27 @@
 -- What the machine of programs reports holds by the grammar alone: which symbols begin a program, and which full expression is too long.
-use Rattle.std.proofs.Common.{◌≡◌, ◌≢◌, ℕ, suc, ◌<◌, ◌≤◌, List, [], ◌∷◌, ◌++◌, take, drop, length, refl, sym, ap, ◌∙◌, append_assoc, append-nil, length-append, arith, subst, ◌⊎◌, inl, inr, Option, Some, None, Bool, true, false, ◌==◌, nat_le, if◌then◌else◌}
+use Rattle.std.proofs.Common.{◌≡◌, ◌≢◌, ℕ, suc, ◌<◌, ◌≤◌, List, [], ◌∷◌, ◌++◌, take, drop, length, refl, sym, ap, ◌∙◌, append_assoc}
+use Rattle.std.proofs.Common.{append-nil, length-append, arith, subst, ◌⊎◌, inl, inr, Option, Some, None, Bool, true, false, ◌==◌, nat_le}
+use Rattle.std.proofs.Common.{if◌then◌else◌}
 use Rattle.std.proofs.lemmas.List.{take-append-drop, length-take}
 use Rattle.pipe_model.specs.declared.symbol.Symbol.{Symbol}
 use Rattle.pipe_model.specs.declared.symbol.Symbol.TheVariants as symbols
 use Rattle.pipe_model.specs.Language.SyntaxTree.{Expression, SyntaxTree}
-use Rattle.pipe_model.specs.Language.Grammar.{any_expression, Derives, Piece, Single, FullExpression, flat, BlockIs, DerivesProgram, ProgramIs}
+use Rattle.pipe_model.specs.Language.Grammar.{any_expression, Derives, Piece, Single, FullExpression, flat, BlockIs, DerivesProgram}
+use Rattle.pipe_model.specs.Language.Grammar.{ProgramIs}
 use Rattle.pipe_model.specs.Language.Spelling.{IsProgramPrefix, EndsTooLong}
 use Rattle.pipe_model.specs.Language.Words.{close_brace, open_brace}
 use Rattle.grammar_laws.specs.ExpressionMachine as expression
 use Rattle.grammar_laws.specs.ProgramMachine as machine
-use Rattle.grammar_laws.specs.ProgramMachine.{Want, Sign, MachineState, Outside, Inside, whole, next, step, continued, run, and_run, Verdict, Accepted, Unexpected, TooLong, is_final, judge, judged, judged_in, program}
+use Rattle.grammar_laws.specs.ProgramMachine.{Want, Sign, MachineState, Outside, Inside, whole, next, step, continued, run, and_run}
+use Rattle.grammar_laws.specs.ProgramMachine.{Verdict, Accepted, Unexpected, TooLong, is_final, judge, judged, judged_in, program}
 use Rattle.grammar_laws.proofs.ExpressionFronts as inner
 use Rattle.grammar_laws.proofs.ExpressionReading.{found, found_alone, loose_end}
 use Rattle.grammar_laws.proofs.ExpressionPassing.{passes_expression}
 use Rattle.grammar_laws.proofs.ExpressionRuns as runs
 use Rattle.grammar_laws.proofs.FullExpressions.{passes_full, over_full}
 use Rattle.grammar_laws.proofs.Pieces.{flat_append, all_short}
-use Rattle.grammar_laws.proofs.ProgramFronts.{Completes, Nothing, OfSign, OfWord, OfNumber, OfFull, OfStatements, OfPart, OfCells, completion, Leads, step_leads}
+use Rattle.grammar_laws.proofs.ProgramFronts.{Completes, Nothing, OfSign, OfWord, OfNumber, OfFull, OfStatements, OfPart, OfCells}
+use Rattle.grammar_laws.proofs.ProgramFronts.{completion, Leads, step_leads}
 use Rattle.grammar_laws.proofs.ProgramPassing.{accepts_program}
 use Rattle.grammar_laws.proofs.StatementReading.{found_full}
 use Rattle.grammar_laws.proofs.ProgramReading.{found_program}
@@ -47,7 +52,8 @@ reached_outside ps wants t (Outside left) f g =
     reached_moved (flat_append ps (Single t ∷ []))
     (Between (ps ++ Single t ∷ []) left (λ qs c. completes_moved (sym (append_assoc ps (Single t ∷ []) qs)) (f (Single t ∷ qs) (g qs c))))
 reached_outside ps wants t (Inside n i left) f g =
-    Within ps (t ∷ []) n i left (sym g.0) (ap (λ o. expression.and_run o (expression.run [])) g.1) (λ ts e qs d c. f (FullExpression ts ∷ qs) (g.2 ts e qs d c))
+    Within ps (t ∷ []) n i left (sym g.0) (ap (λ o. expression.and_run o (expression.run [])) g.1)
+    (λ ts e qs d c. f (FullExpression ts ∷ qs) (g.2 ts e qs d c))
 
 -- a symbol after a full expression that ends
 reached_after : (ps : List Piece) (inside : List Symbol) (wants : List Want) (t : Symbol) (s : MachineState)
@@ -59,9 +65,11 @@ reached_after ps inside wants t s f x h =
     let same : flat (ps ++ FullExpression inside ∷ []) ++ t ∷ [] ≡ (flat ps ++ inside) ++ t ∷ [] =
     ap (λ us. us ++ t ∷ []) (flat_append ps (FullExpression inside ∷ []) ∙ ap (λ us. flat ps ++ us) (append-nil inside)) in
     reached_moved same (reached_outside (ps ++ FullExpression inside ∷ []) wants t s
-    (λ qs c. completes_moved (sym (append_assoc ps (FullExpression inside ∷ []) qs)) (f inside x.e qs x.derived c)) (step_leads wants t s h))
+    (λ qs c. completes_moved (sym (append_assoc ps (FullExpression inside ∷ []) qs)) (f inside x.e qs x.derived c))
+    (step_leads wants t s h))
 
-reached_inside : (ps : List Piece) (inside : List Symbol) (n : ℕ) (i : List expression.Want) (wants : List Want) (t : Symbol) (s : MachineState)
+reached_inside : (ps : List Piece) (inside : List Symbol) (n : ℕ) (i : List expression.Want) (wants : List Want) (t : Symbol)
+    (s : MachineState)
     (o : Option (List expression.Want)) (b : Bool) → expression.step i t ≡ o → expression.may_end i ≡ b → length inside ≡ n
     → expression.run inside whole ≡ Some i
     → ((ts : List Symbol) (e : Expression) (qs : List Piece) → Derives any_expression ts e → Completes wants qs
@@ -76,12 +84,14 @@ reached_inside ps inside n i wants t s (Some mid) b e m l r f h =
 reached_inside ps inside n i wants t s None true e m l r f h = reached_after ps inside wants t s f (inner.run_ended inside i r m) h
 reached_inside ps inside n i wants t s None false e m l r f h = absurd (cc (h))
 
-reached_next : {ts : List Symbol} {s : MachineState} → Reached ts s → (t : Symbol) (s' : MachineState) → next s t ≡ Some s' → Reached (ts ++ t ∷ []) s'
+reached_next : {ts : List Symbol} {s : MachineState} → Reached ts s → (t : Symbol) (s' : MachineState) → next s t ≡ Some s'
+    → Reached (ts ++ t ∷ []) s'
 reached_next (Between ps wants f) t s' h = reached_outside ps wants t s' f (step_leads wants t s' h)
 reached_next (Within ps inside n i wants l r f) t s' h =
     reached_inside ps inside n i wants t s' (expression.step i t) (expression.may_end i) refl refl l r f h
 
-reached_on : (o : Option MachineState) (before : List Symbol) (t : Symbol) (ts : List Symbol) (s s' : MachineState) → Reached before s → next s t ≡ o
+reached_on : (o : Option MachineState) (before : List Symbol) (t : Symbol) (ts : List Symbol) (s s' : MachineState) → Reached before s
+    → next s t ≡ o
     → ((mid : MachineState) → Reached (before ++ t ∷ []) mid → run ts mid ≡ Some s' → Reached ((before ++ t ∷ []) ++ ts) s')
     → and_run o (run ts) ≡ Some s' → Reached (before ++ t ∷ ts) s'
 reached_on None before t ts s s' r e f h = absurd (cc (h))
@@ -104,8 +114,10 @@ pub record IsProgram (ps : List Piece) : Type 0 where
 
 -- pieces that complete the wants of a program derive a program
 pub completed_program : {ps : List Piece} → Completes program ps → IsProgram ps
-completed_program (OfWord w (OfWord w' (OfNumber iterations (OfSign b (OfWord w'' (OfNumber stages (OfSign b' (OfWord v (OfNumber steps (OfSign b''
-    (OfWord v' (OfNumber emits (OfSign d (OfCells {ps = cs} c (OfPart {ps = is} seven i (OfWord v'' (OfSign d' (OfFull {ts = ts} e (OfSign d''
+completed_program (OfWord w (OfWord w' (OfNumber iterations
+    (OfSign b (OfWord w'' (OfNumber stages (OfSign b' (OfWord v (OfNumber steps (OfSign b''
+    (OfWord v' (OfNumber emits (OfSign d (OfCells {ps = cs} c
+    (OfPart {ps = is} seven i (OfWord v'' (OfSign d' (OfFull {ts = ts} e (OfSign d''
     (OfSign x (OfStatements {ps = bs} s (OfSign y (OfPart {ps = ls} eleven l Nothing))))))))))))))))))))))) =
     let p = ProgramIs iterations stages steps emits c i e (BlockIs s) l in
     let same : Single open_brace ∷ ((bs ++ Single close_brace ∷ []) ++ ls) ≡ Single open_brace ∷ (bs ++ Single close_brace ∷ (ls ++ [])) =
@@ -116,7 +128,8 @@ completed_program (OfWord w (OfWord w' (OfNumber iterations (OfSign b (OfWord w'
 -- ---- symbols that lead to a state are a prefix of a program
 
 -- symbols that lead to a state outside full expressions
-between_front : (ps : List Piece) (wants : List Want) → ((qs : List Piece) → Completes wants qs → Completes program (ps ++ qs)) → IsProgramPrefix (flat ps)
+between_front : (ps : List Piece) (wants : List Want) → ((qs : List Piece) → Completes wants qs → Completes program (ps ++ qs))
+    → IsProgramPrefix (flat ps)
 between_front ps wants f =
     let c = completion wants in
     let p = completed_program (f c.pieces c.completes) in
@@ -129,7 +142,8 @@ pub record GoesOnAsProgram (ps : List Piece) (inside : List Symbol) : Type 0 whe
   pub tree : SyntaxTree
   pub derived : DerivesProgram (ps ++ FullExpression (inside ++ more) ∷ after) tree
 
-within_goes_on : (ps : List Piece) (inside : List Symbol) (i : List expression.Want) (wants : List Want) → expression.run inside whole ≡ Some i
+within_goes_on : (ps : List Piece) (inside : List Symbol) (i : List expression.Want) (wants : List Want)
+    → expression.run inside whole ≡ Some i
     → ((ts : List Symbol) (e : Expression) (qs : List Piece) → Derives any_expression ts e → Completes wants qs
     → Completes program (ps ++ FullExpression ts ∷ qs))
     → GoesOnAsProgram ps inside
@@ -191,10 +205,12 @@ pub accepted_from : (longest : ℕ) (before after : List Symbol) (s : MachineSta
     → AcceptedFrom longest before after s
 accepted_from longest [] after s h = record { state = s; runs = refl; accepted = h }
 accepted_from longest (t ∷ before) after s h =
-    accepted_on longest (next s t) (length (t ∷ (before ++ after))) t before after s refl (λ mid i. accepted_from longest before after mid i) h
+    accepted_on longest (next s t) (length (t ∷ (before ++ after))) t before after s refl
+    (λ mid i. accepted_from longest before after mid i) h
 
 -- the machine accepts a program if the bound is at least its length
-pub program_accepted : (ps : List Piece) (p : SyntaxTree) → DerivesProgram ps p → judge (length (flat ps)) (flat ps) (Outside program) ≡ Accepted
+pub program_accepted : (ps : List Piece) (p : SyntaxTree) → DerivesProgram ps p → judge (length (flat ps)) (flat ps)
+    (Outside program) ≡ Accepted
 program_accepted ps p d = accepts_program (found_program d (all_short (length (flat ps)) ps (omega arith)))
 
 -- the machine runs over a prefix of a program
@@ -237,7 +253,8 @@ pub record FindsTooLong (longest : ℕ) (ts : List Symbol) (wants : List Want) (
   pub more : length rest < left
 
 -- this full expression is too long
-pub too_long_here : {e : Expression} (longest : ℕ) (inside more rest : List Symbol) (wants : List Want) → Derives any_expression (inside ++ more) e
+pub too_long_here : {e : Expression} (longest : ℕ) (inside more rest : List Symbol) (wants : List Want)
+    → Derives any_expression (inside ++ more) e
     → length inside ≡ suc longest
     → FindsTooLong longest (inside ++ rest) (machine.FullExpression ∷ wants) rest
 too_long_here longest inside more rest wants d h =
@@ -252,7 +269,8 @@ pub over_or_past : {e : Expression} (longest : ℕ) (ts : List Symbol) (sign : �
     → FindsTooLong longest (ts ++ symbols.Sign sign ∷ following) (machine.FullExpression ∷ Sign sign ∷ wants) rest
 over_or_past longest ts sign following rest wants d n (inl c) m f =
     let same : (sign == sign) ≡ true = grind arith in
-    let step : judge longest (symbols.Sign sign ∷ following) (Outside (Sign sign ∷ wants)) ≡ judge longest following (Outside wants) = rw same refl in
+    let step : judge longest (symbols.Sign sign ∷ following) (Outside (Sign sign ∷ wants)) ≡ judge longest following (Outside wants) =
+    rw same refl in
     record { left = f.left; verdict = passes_full (found_full sign following n d c) (Sign sign ∷ wants) ∙ step ∙ f.verdict; more = f.more }
 over_or_past {e} longest ts sign following rest wants d n (inr c) m f =
     let front = take (suc longest) ts in

@@ -1,25 +1,38 @@
 -- If the machine of programs runs over symbols, some program begins with them: wants can be completed, and each step of the table is sound.
-use Rattle.std.proofs.Common.{◌≡◌, ℕ, ℤ, List, [], ◌∷◌, ◌++◌, refl, sym, ap, ◌∙◌, append_assoc, arith, subst, ◌⊎◌, inl, inr, Option, Some, None, Bool, true, false, ◌==◌, ◌||◌, pos, negsuc, if◌then◌else◌}
+use Rattle.std.proofs.Common.{◌≡◌, ℕ, ℤ, List, [], ◌∷◌, ◌++◌, refl, sym, ap, ◌∙◌, append_assoc, arith, subst, ◌⊎◌, inl, inr, Option, Some}
+use Rattle.std.proofs.Common.{None, Bool, true, false, ◌==◌, ◌||◌, pos, negsuc, if◌then◌else◌}
 use Rattle.std.proofs.lemmas.Bool.{cases_eq}
 use Rattle.pipe_model.specs.declared.symbol.Symbol.{Symbol}
 use Rattle.pipe_model.specs.declared.symbol.Symbol.TheVariants as symbols
 use Rattle.pipe_model.specs.declared.tree.Declaration.{Declaration}
 use Rattle.pipe_model.specs.Language.SyntaxTree.{Expression, Statement, Statements}
-use Rattle.pipe_model.specs.Language.Grammar.{any_expression, Derives, Numeral, Piece, Single, FullExpression, DerivesStatement, LetIs, AssignIs, AssignElementIs, EmitIs, IfIs, WhileIs, WaitIs, WaitNextIs, ContinueIs, ContinueNextIs, DerivesStatements, NoStatement, OneMore, DerivesBlock, BlockIs, DerivesPart, NoPart, PartIs, DerivesSize, NoSize, SizeIs, DerivesValue, ValueIs, NegativeValueIs, DerivesCells, NoCell, CellIs}
-use Rattle.pipe_model.specs.Language.Words.{word_cell, word_pipe_wait, word_pipe_continue, word_let, word_if, word_while, word_emit, minus, open_round, close_round, semicolon, equals, open_square, close_square, open_brace, close_brace}
+use Rattle.pipe_model.specs.Language.Grammar.{any_expression, Derives, Numeral, Piece, Single, FullExpression, DerivesStatement, LetIs}
+use Rattle.pipe_model.specs.Language.Grammar.{AssignIs, AssignElementIs, EmitIs, IfIs, WhileIs, WaitIs, WaitNextIs, ContinueIs}
+use Rattle.pipe_model.specs.Language.Grammar.{ContinueNextIs, DerivesStatements, NoStatement, OneMore, DerivesBlock, BlockIs, DerivesPart}
+use Rattle.pipe_model.specs.Language.Grammar.{NoPart, PartIs, DerivesSize, NoSize, SizeIs, DerivesValue, ValueIs, NegativeValueIs}
+use Rattle.pipe_model.specs.Language.Grammar.{DerivesCells, NoCell, CellIs}
+use Rattle.pipe_model.specs.Language.Words.{word_cell, word_pipe_wait, word_pipe_continue, word_let, word_if, word_while, word_emit, minus}
+use Rattle.pipe_model.specs.Language.Words.{open_round, close_round, semicolon, equals, open_square, close_square, open_brace, close_brace}
 use Rattle.grammar_laws.specs.ProgramMachine as machine
-use Rattle.grammar_laws.specs.ProgramMachine.{Want, Sign, Word, AnyName, AnyNumber, Natural, StageNumber, Target, Part, Cells, Size, Value, Move, Takes, Enters, Skips, Refuses, move, statement_move, natural_move, MachineState, Outside, Inside, whole, entered, stepped, step, may_end}
+use Rattle.grammar_laws.specs.ProgramMachine.{Want, Sign, Word, AnyName, AnyNumber, Natural, StageNumber, Target, Part, Cells, Size, Value}
+use Rattle.grammar_laws.specs.ProgramMachine.{Move, Takes, Enters, Skips, Refuses, move, statement_move, natural_move, MachineState}
+use Rattle.grammar_laws.specs.ProgramMachine.{Outside, Inside, whole, entered, stepped, step, may_end}
 use Rattle.grammar_laws.specs.ExpressionMachine as expression
 use Rattle.pipe_model.proofs.LevelLaws.{looser}
 
 -- ---- pieces that complete a list of wants
 pub data Completes : List Want → List Piece → Type 0 where
   Nothing : Completes [] []
-  OfSign : {wants : List Want} {ps : List Piece} (sign : ℕ) → Completes wants ps → Completes (Sign sign ∷ wants) (Single (symbols.Sign sign) ∷ ps)
-  OfWord : {wants : List Want} {ps : List Piece} (word : ℕ) → Completes wants ps → Completes (Word word ∷ wants) (Single (symbols.Word word) ∷ ps)
-  OfName : {wants : List Want} {ps : List Piece} (name : List ℕ) → Completes wants ps → Completes (AnyName ∷ wants) (Single (symbols.Name name) ∷ ps)
-  OfNumber : {wants : List Want} {ps : List Piece} (n : ℤ) → Completes wants ps → Completes (AnyNumber ∷ wants) (Single (symbols.Number n) ∷ ps)
-  OfNatural : {wants : List Want} {ps : List Piece} (n : ℕ) → Completes wants ps → Completes (Natural ∷ wants) (Single (symbols.Number (pos n)) ∷ ps)
+  OfSign : {wants : List Want} {ps : List Piece} (sign : ℕ) → Completes wants ps → Completes (Sign sign ∷ wants)
+      (Single (symbols.Sign sign) ∷ ps)
+  OfWord : {wants : List Want} {ps : List Piece} (word : ℕ) → Completes wants ps → Completes (Word word ∷ wants)
+      (Single (symbols.Word word) ∷ ps)
+  OfName : {wants : List Want} {ps : List Piece} (name : List ℕ) → Completes wants ps → Completes (AnyName ∷ wants)
+      (Single (symbols.Name name) ∷ ps)
+  OfNumber : {wants : List Want} {ps : List Piece} (n : ℤ) → Completes wants ps → Completes (AnyNumber ∷ wants)
+      (Single (symbols.Number n) ∷ ps)
+  OfNatural : {wants : List Want} {ps : List Piece} (n : ℕ) → Completes wants ps → Completes (Natural ∷ wants)
+      (Single (symbols.Number (pos n)) ∷ ps)
   OfFull : {wants : List Want} {ps : List Piece} {ts : List Symbol} {e : Expression} → Derives any_expression ts e → Completes wants ps
       → Completes (machine.FullExpression ∷ wants) (FullExpression ts ∷ ps)
   OfNoStage : {wants : List Want} {ps : List Piece} → Completes wants ps → Completes (StageNumber ∷ wants) ps
@@ -34,12 +47,15 @@ pub data Completes : List Want → List Piece → Type 0 where
       (Single open_square ∷ FullExpression us ∷ Single close_square ∷ Single equals ∷ FullExpression ts ∷ Single semicolon ∷ ps)
   OfStatements : {wants : List Want} {ps qs : List Piece} {ss : Statements} → DerivesStatements ps ss → Completes wants qs
       → Completes (machine.Statements ∷ wants) (ps ++ qs)
-  OfPart : {wants : List Want} {ps qs : List Piece} {ss : Statements} (word : ℕ) → DerivesPart (symbols.Word word) ps ss → Completes wants qs
+  OfPart : {wants : List Want} {ps qs : List Piece} {ss : Statements} (word : ℕ) → DerivesPart (symbols.Word word) ps ss
+      → Completes wants qs
       → Completes (Part word ∷ wants) (ps ++ qs)
   OfCells : {wants : List Want} {ps qs : List Piece} {ds : List Declaration} → DerivesCells ps ds → Completes wants qs
       → Completes (Cells ∷ wants) (ps ++ qs)
-  OfSize : {wants : List Want} {ps qs : List Piece} {size : Option ℤ} → DerivesSize ps size → Completes wants qs → Completes (Size ∷ wants) (ps ++ qs)
-  OfValue : {wants : List Want} {ps qs : List Piece} {value : ℤ} → DerivesValue ps value → Completes wants qs → Completes (Value ∷ wants) (ps ++ qs)
+  OfSize : {wants : List Want} {ps qs : List Piece} {size : Option ℤ} → DerivesSize ps size → Completes wants qs
+      → Completes (Size ∷ wants) (ps ++ qs)
+  OfValue : {wants : List Want} {ps qs : List Piece} {value : ℤ} → DerivesValue ps value → Completes wants qs
+      → Completes (Value ∷ wants) (ps ++ qs)
 
 -- pieces that complete the wants
 pub record Completion (wants : List Want) : Type 0 where
@@ -94,7 +110,8 @@ moved : {wants : List Want} {ps qs : List Piece} → ps ≡ qs → Completes wan
 moved {wants} h c = subst (Completes wants) (sym h) c
 
 -- a statement before others
-one_statement_more : {wants : List Want} {ps qs : List Piece} {s : Statement} → DerivesStatement ps s → Completes (machine.Statements ∷ wants) qs
+one_statement_more : {wants : List Want} {ps qs : List Piece} {s : Statement} → DerivesStatement ps s
+    → Completes (machine.Statements ∷ wants) qs
     → Completes (machine.Statements ∷ wants) (ps ++ qs)
 one_statement_more {ps = ps} d (OfStatements {ps = qs} {qs = rs} d' c) = moved (sym (append_assoc ps qs rs)) (OfStatements (OneMore d d') c)
 
@@ -136,7 +153,8 @@ wait_back : {wants : List Want} {ps : List Piece} → Completes (Sign 40 ∷ Sta
 wait_back (OfSign b (OfNoStage (OfSign b' (OfSign b'' c)))) = one_statement_more WaitNextIs c
 wait_back (OfSign b (OfStage d (OfSign b' (OfSign b'' c)))) = one_statement_more (WaitIs d) c
 
-continue_back : {wants : List Want} {ps : List Piece} → Completes (Sign 40 ∷ StageNumber ∷ Sign 41 ∷ Sign 59 ∷ machine.Statements ∷ wants) ps
+continue_back : {wants : List Want} {ps : List Piece} → Completes (Sign 40 ∷ StageNumber ∷ Sign 41 ∷ Sign 59 ∷ machine.Statements ∷ wants)
+    ps
     → Completes (machine.Statements ∷ wants) (Single word_pipe_continue ∷ ps)
 continue_back (OfSign b (OfNoStage (OfSign b' (OfSign b'' c)))) = one_statement_more ContinueNextIs c
 continue_back (OfSign b (OfStage d (OfSign b' (OfSign b'' c)))) = one_statement_more (ContinueIs d) c
@@ -165,10 +183,12 @@ record PartFirst (word : ℕ) (wants : List Want) (ps : List Piece) : Type 0 whe
   completes : Completes wants rest
 
 part_first : {wants : List Want} {ps : List Piece} {word : ℕ} → Completes (Part word ∷ wants) ps → PartFirst word wants ps
-part_first (OfPart {ps = ps} {qs = qs} {ss = ss} word d c) = record { taken = ps; rest = qs; ss = ss; derived = d; split = refl; completes = c }
+part_first (OfPart {ps = ps} {qs = qs} {ss = ss} word d c) =
+    record { taken = ps; rest = qs; ss = ss; derived = d; split = refl; completes = c }
 
 if_back : {wants : List Want} {ps : List Piece}
-    → Completes (Sign 40 ∷ machine.FullExpression ∷ Sign 41 ∷ Sign 123 ∷ machine.Statements ∷ Sign 125 ∷ Part 14 ∷ machine.Statements ∷ wants) ps
+    → Completes (Sign 40 ∷ machine.FullExpression ∷ Sign 41 ∷ Sign 123 ∷ machine.Statements ∷ Sign 125 ∷ Part
+    14 ∷ machine.Statements ∷ wants) ps
     → Completes (machine.Statements ∷ wants) (Single word_if ∷ ps)
 if_back (OfSign b (OfFull {ts = ts} d (OfSign b' c))) =
     let k = block_first c in
@@ -179,7 +199,8 @@ if_back (OfSign b (OfFull {ts = ts} d (OfSign b' c))) =
 
 part_back : {wants : List Want} {ps : List Piece} (word : ℕ) → Completes (Sign 123 ∷ machine.Statements ∷ Sign 125 ∷ wants) ps
     → Completes (Part word ∷ wants) (Single (symbols.Word word) ∷ ps)
-part_back word c = let k = block_first c in moved (ap (λ x. Single (symbols.Word word) ∷ x) k.split) (OfPart word (PartIs k.derived) k.completes)
+part_back word c = let k = block_first c in moved (ap (λ x. Single (symbols.Word word) ∷ x) k.split)
+    (OfPart word (PartIs k.derived) k.completes)
 
 -- the value of a declaration and the declarations after it
 cells_split : (ps qs rs rest : List Piece) → ps ++ Single equals ∷ (qs ++ Single semicolon ∷ (rs ++ rest))
@@ -193,7 +214,8 @@ cell_back : {wants : List Want} {ps : List Piece} → Completes (AnyName ∷ Siz
 cell_back (OfName name (OfSize {ps = ps} s (OfSign b (OfValue {ps = qs} v (OfSign b' (OfCells {ps = rs} {qs = rest} d c)))))) =
     moved (ap (λ x. Single word_cell ∷ Single (symbols.Name name) ∷ x) (cells_split ps qs rs rest)) (OfCells (CellIs name s v d) c)
 
-size_back : {wants : List Want} {ps : List Piece} → Completes (AnyNumber ∷ Sign 93 ∷ wants) ps → Completes (Size ∷ wants) (Single open_square ∷ ps)
+size_back : {wants : List Want} {ps : List Piece} → Completes (AnyNumber ∷ Sign 93 ∷ wants) ps
+    → Completes (Size ∷ wants) (Single open_square ∷ ps)
 size_back (OfNumber n (OfSign b c)) = OfSize (SizeIs n) c
 
 value_back : {wants : List Want} {ps : List Piece} → Completes (Natural ∷ wants) ps → Completes (Value ∷ wants) (Single minus ∷ ps)
@@ -216,7 +238,8 @@ same_word : (word k : ℕ) → (k == word) ≡ true → {wants : List Want} {ps 
     → Completes (Word word ∷ wants) (Single (symbols.Word k) ∷ ps)
 same_word word k h c = let e : k ≡ word = grind (arith, h) in rw e (OfWord word c)
 
-same_part : (word k : ℕ) → (k == word) ≡ true → {wants : List Want} {ps : List Piece} → Completes (Sign 123 ∷ machine.Statements ∷ Sign 125 ∷ wants) ps
+same_part : (word k : ℕ) → (k == word) ≡ true → {wants : List Want} {ps : List Piece} → Completes
+    (Sign 123 ∷ machine.Statements ∷ Sign 125 ∷ wants) ps
     → Completes (Part word ∷ wants) (Single (symbols.Word k) ∷ ps)
 same_part word k h c = let e : k ≡ word = grind (arith, h) in rw e (part_back word c)
 
@@ -225,7 +248,8 @@ which_stage word h = elim (cases_eq word 9) [ inl e ↦ inl e | inr e ↦ inr (g
 
 -- if pieces complete the wants after the move, then `t` and these pieces complete the wants before it
 abbrev MovesBack : Move → Want → Symbol → Type 0
-MovesBack (Takes more) want t = (wants : List Want) (ps : List Piece) → Completes (more ++ wants) ps → Completes (want ∷ wants) (Single t ∷ ps)
+MovesBack (Takes more) want t = (wants : List Want) (ps : List Piece) → Completes (more ++ wants) ps
+    → Completes (want ∷ wants) (Single t ∷ ps)
 MovesBack Enters want t =
     (wants : List Want) (ts : List Symbol) (e : Expression) (ps : List Piece) → Derives any_expression ts e → Completes wants ps
     → Completes (want ∷ wants) (FullExpression ts ∷ ps)
@@ -239,10 +263,14 @@ either false x y want t f g = g refl
 
 statement_back : (word : ℕ) → MovesBack (statement_move word) machine.Statements (symbols.Word word)
 statement_back word =
-    either (word == 12) _ _ machine.Statements (symbols.Word word) (λ h wants ps c. let e : word ≡ 12 = grind (arith, h) in rw e (let_back c)) (λ h.
-    either (word == 13) _ _ machine.Statements (symbols.Word word) (λ h wants ps c. let e : word ≡ 13 = grind (arith, h) in rw e (if_back c)) (λ h.
-    either (word == 15) _ _ machine.Statements (symbols.Word word) (λ h wants ps c. let e : word ≡ 15 = grind (arith, h) in rw e (while_back c)) (λ h.
-    either (word == 16) _ _ machine.Statements (symbols.Word word) (λ h wants ps c. let e : word ≡ 16 = grind (arith, h) in rw e (emit_back c)) (λ h.
+    either (word == 12) _ _ machine.Statements (symbols.Word word)
+    (λ h wants ps c. let e : word ≡ 12 = grind (arith, h) in rw e (let_back c)) (λ h.
+    either (word == 13) _ _ machine.Statements (symbols.Word word)
+    (λ h wants ps c. let e : word ≡ 13 = grind (arith, h) in rw e (if_back c)) (λ h.
+    either (word == 15) _ _ machine.Statements (symbols.Word word)
+    (λ h wants ps c. let e : word ≡ 15 = grind (arith, h) in rw e (while_back c)) (λ h.
+    either (word == 16) _ _ machine.Statements (symbols.Word word)
+    (λ h wants ps c. let e : word ≡ 16 = grind (arith, h) in rw e (emit_back c)) (λ h.
     either ((word == 9) || (word == 10)) _ _ machine.Statements (symbols.Word word) (λ h wants ps c. stage_back word (which_stage word h) c)
     (λ h wants ps c. OfStatements NoStatement c)))))
 
@@ -257,12 +285,14 @@ natural_back (negsuc n) = tt
 
 -- each entry of the table is sound
 back : (want : Want) (t : Symbol) → MovesBack (move want t) want t
-back (Sign sign) (symbols.Sign b) = either (b == sign) (Takes []) Refuses (Sign sign) (symbols.Sign b) (λ h wants ps c. same_sign sign b h c) (λ h. tt)
+back (Sign sign) (symbols.Sign b) = either (b == sign) (Takes []) Refuses (Sign sign) (symbols.Sign b)
+    (λ h wants ps c. same_sign sign b h c) (λ h. tt)
 back (Sign sign) (symbols.Name name) = tt
 back (Sign sign) (symbols.Word k) = tt
 back (Sign sign) (symbols.Number n) = tt
 back (Sign sign) (symbols.Operator code) = tt
-back (Word word) (symbols.Word k) = either (k == word) (Takes []) Refuses (Word word) (symbols.Word k) (λ h wants ps c. same_word word k h c) (λ h. tt)
+back (Word word) (symbols.Word k) = either (k == word) (Takes []) Refuses (Word word) (symbols.Word k)
+    (λ h wants ps c. same_word word k h c) (λ h. tt)
 back (Word word) (symbols.Name name) = tt
 back (Word word) (symbols.Number n) = tt
 back (Word word) (symbols.Operator code) = tt
@@ -300,7 +330,8 @@ back machine.Statements (symbols.Number n) = λ wants ps c. OfStatements NoState
 back machine.Statements (symbols.Operator code) = λ wants ps c. OfStatements NoStatement c
 back machine.Statements (symbols.Sign b) = λ wants ps c. OfStatements NoStatement c
 back (Part word) (symbols.Word k) =
-    either (k == word) (Takes machine.block) Skips (Part word) (symbols.Word k) (λ h wants ps c. same_part word k h c) (λ h wants ps c. OfPart word NoPart c)
+    either (k == word) (Takes machine.block) Skips (Part word) (symbols.Word k) (λ h wants ps c. same_part word k h c)
+    (λ h wants ps c. OfPart word NoPart c)
 back (Part word) (symbols.Name name) = λ wants ps c. OfPart word NoPart c
 back (Part word) (symbols.Number n) = λ wants ps c. OfPart word NoPart c
 back (Part word) (symbols.Operator code) = λ wants ps c. OfPart word NoPart c
@@ -321,7 +352,8 @@ back Size (symbols.Number n) = λ wants ps c. OfSize NoSize c
 back Size (symbols.Operator code) = λ wants ps c. OfSize NoSize c
 back Value (symbols.Number n) = λ wants ps c. OfValue (ValueIs n) c
 back Value (symbols.Operator code) =
-    either (code == 10) _ Refuses Value (symbols.Operator code) (λ h wants ps c. let e : code ≡ 10 = grind (arith, h) in rw e (value_back c)) (λ h. tt)
+    either (code == 10) _ Refuses Value (symbols.Operator code)
+    (λ h wants ps c. let e : code ≡ 10 = grind (arith, h) in rw e (value_back c)) (λ h. tt)
 back Value (symbols.Name name) = tt
 back Value (symbols.Word k) = tt
 back Value (symbols.Sign b) = tt
@@ -333,9 +365,11 @@ abbrev pub Leads : List Want → Symbol → MachineState → Type 0
 Leads wants t (Outside left) = (ps : List Piece) → Completes left ps → Completes wants (Single t ∷ ps)
 Leads wants t (Inside n inner left) =
     (n ≡ 1) × (expression.step whole t ≡ Some inner)
-    × ((ts : List Symbol) (e : Expression) (ps : List Piece) → Derives any_expression ts e → Completes left ps → Completes wants (FullExpression ts ∷ ps))
+    × ((ts : List Symbol) (e : Expression) (ps : List Piece) → Derives any_expression ts e → Completes left ps
+    → Completes wants (FullExpression ts ∷ ps))
 
-skipped : (want : Want) (wants : List Want) (t : Symbol) (s : MachineState) → ((ps : List Piece) → Completes wants ps → Completes (want ∷ wants) ps)
+skipped : (want : Want) (wants : List Want) (t : Symbol) (s : MachineState)
+    → ((ps : List Piece) → Completes wants ps → Completes (want ∷ wants) ps)
     → Leads wants t s → Leads (want ∷ wants) t s
 skipped want wants t (Outside left) f g = λ ps c. f (Single t ∷ ps) (g ps c)
 skipped want wants t (Inside n inner left) f g = (g.0, g.1, λ ts e ps d c. f (FullExpression ts ∷ ps) (g.2 ts e ps d c))
@@ -347,10 +381,12 @@ begun : (want : Want) (wants : List Want) (t : Symbol) (s : MachineState) (o : O
 begun want wants t s None i f h = absurd (cc (h))
 begun want wants t s (Some inner) i f h = let e : Inside 1 inner wants ≡ s = cc (h) in subst (Leads (want ∷ wants) t) e (refl, i, f)
 
-stepped_leads : (m : Move) (want : Want) (t : Symbol) (wants : List Want) (below : Option MachineState) (s : MachineState) → MovesBack m want t
+stepped_leads : (m : Move) (want : Want) (t : Symbol) (wants : List Want) (below : Option MachineState) (s : MachineState)
+    → MovesBack m want t
     → (below ≡ Some s → Leads wants t s)
     → stepped m t wants below ≡ Some s → Leads (want ∷ wants) t s
-stepped_leads (Takes more) want t wants below s f g h = let e : Outside (more ++ wants) ≡ s = cc (h) in subst (Leads (want ∷ wants) t) e (f wants)
+stepped_leads (Takes more) want t wants below s f g h = let e : Outside (more ++ wants) ≡ s = cc (h) in
+    subst (Leads (want ∷ wants) t) e (f wants)
 stepped_leads Enters want t wants below s f g h = begun want wants t s (expression.step whole t) refl (f wants) h
 stepped_leads Skips want t wants below s f g h = skipped want wants t s (f wants) (g h)
 stepped_leads Refuses want t wants below s f g h = absurd (cc (h))

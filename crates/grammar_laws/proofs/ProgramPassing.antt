@@ -4,7 +4,11 @@ use Rattle.pipe_model.specs.declared.symbol.Symbol.{Symbol}
 use Rattle.pipe_model.specs.declared.symbol.Symbol.TheVariants as symbols
 use Rattle.pipe_model.specs.declared.tree.Declaration.{Declaration}
 use Rattle.pipe_model.specs.Language.SyntaxTree.{Statement, Statements, SyntaxTree}
-use Rattle.grammar_laws.specs.Reading.{ReadsStatement, ReadsLet, ReadsAssign, ReadsAssignElement, ReadsEmit, ReadsIf, ReadsWhile, ReadsWait, ReadsWaitNext, ReadsContinue, ReadsContinueNext, ReadsStatements, ReadsClose, ReadsOneMore, ReadsBlock, ReadsBraces, ReadsPart, ReadsNoPart, ReadsPartIs, ReadsSize, ReadsNoSize, ReadsSizeIs, ReadsValue, ReadsValueIs, ReadsNegativeValue, ReadsCell, ReadsCellIs, ReadsCells, ReadsNoCell, ReadsCellThen, ReadsProgram, ReadsAll, NoWord, NoSign}
+use Rattle.grammar_laws.specs.Reading.{ReadsStatement, ReadsLet, ReadsAssign, ReadsAssignElement, ReadsEmit, ReadsIf, ReadsWhile, ReadsWait}
+use Rattle.grammar_laws.specs.Reading.{ReadsWaitNext, ReadsContinue, ReadsContinueNext, ReadsStatements, ReadsClose, ReadsOneMore}
+use Rattle.grammar_laws.specs.Reading.{ReadsBlock, ReadsBraces, ReadsPart, ReadsNoPart, ReadsPartIs, ReadsSize, ReadsNoSize, ReadsSizeIs}
+use Rattle.grammar_laws.specs.Reading.{ReadsValue, ReadsValueIs, ReadsNegativeValue, ReadsCell, ReadsCellIs, ReadsCells, ReadsNoCell}
+use Rattle.grammar_laws.specs.Reading.{ReadsCellThen, ReadsProgram, ReadsAll, NoWord, NoSign}
 use Rattle.grammar_laws.specs.ProgramMachine as machine
 use Rattle.grammar_laws.specs.ProgramMachine.{Want, Sign, Word, Part, Cells, Size, Value, Outside, Accepted, judge, program}
 use Rattle.grammar_laws.proofs.FullExpressions.{passes_full, passes_stage_number}
@@ -38,7 +42,8 @@ mutual
       passes_full r (Sign 41 ∷ Sign 123 ∷ machine.Statements ∷ Sign 125 ∷ Part 14 ∷ machine.Statements ∷ wants)
       ∙ passes_block a (Part 14 ∷ machine.Statements ∷ wants) ∙ passes_part b (machine.Statements ∷ wants)
   passes_statement (ReadsWhile r a) wants =
-      passes_full r (Sign 41 ∷ Sign 123 ∷ machine.Statements ∷ Sign 125 ∷ machine.Statements ∷ wants) ∙ passes_block a (machine.Statements ∷ wants)
+      passes_full r (Sign 41 ∷ Sign 123 ∷ machine.Statements ∷ Sign 125 ∷ machine.Statements ∷ wants)
+      ∙ passes_block a (machine.Statements ∷ wants)
   passes_statement (ReadsWait r) wants = passes_stage_number r (Sign 59 ∷ machine.Statements ∷ wants)
   passes_statement (ReadsWaitNext rest) wants = refl
   passes_statement (ReadsContinue r) wants = passes_stage_number r (Sign 59 ∷ machine.Statements ∷ wants)
@@ -61,7 +66,8 @@ mutual
   passes_part {longest} (ReadsPartIs {word = word} {ts = ts} r) wants = part_begins longest word ts wants ∙ passes_block r wants
 
 -- a size that is missing
-pub no_size : (longest : ℕ) (ts : List Symbol) (wants : List Want) → NoSign 91 ts → judge longest ts (Outside (Size ∷ wants)) ≡ judge longest ts (Outside wants)
+pub no_size : (longest : ℕ) (ts : List Symbol) (wants : List Want) → NoSign 91 ts → judge longest ts
+    (Outside (Size ∷ wants)) ≡ judge longest ts (Outside wants)
 no_size longest [] wants h = refl
 no_size longest (symbols.Name name ∷ ts) wants h = refl
 no_size longest (symbols.Word k ∷ ts) wants h = refl
@@ -81,10 +87,12 @@ passes_value longest (ReadsNegativeValue n rest) wants = refl
 
 pub passes_cell : (longest : ℕ) {ts rest : List Symbol} {d : Declaration} → ReadsCell ts d rest → (wants : List Want)
     → judge longest ts (Outside (machine.AnyName ∷ Size ∷ Sign 61 ∷ Value ∷ Sign 59 ∷ wants)) ≡ judge longest rest (Outside wants)
-passes_cell longest (ReadsCellIs name s v) wants = passes_size longest s (Sign 61 ∷ Value ∷ Sign 59 ∷ wants) ∙ passes_value longest v (Sign 59 ∷ wants)
+passes_cell longest (ReadsCellIs name s v) wants = passes_size longest s (Sign 61 ∷ Value ∷ Sign 59 ∷ wants)
+    ∙ passes_value longest v (Sign 59 ∷ wants)
 
 -- no further declaration follows
-pub no_cell : (longest : ℕ) (ts : List Symbol) (wants : List Want) → NoWord 6 ts → judge longest ts (Outside (Cells ∷ wants)) ≡ judge longest ts (Outside wants)
+pub no_cell : (longest : ℕ) (ts : List Symbol) (wants : List Want) → NoWord 6 ts → judge longest ts
+    (Outside (Cells ∷ wants)) ≡ judge longest ts (Outside wants)
 no_cell longest [] wants h = refl
 no_cell longest (symbols.Name name ∷ ts) wants h = refl
 no_cell longest (symbols.Word k ∷ ts) wants h = let e : (k == 6) ≡ false = grind (arith, h) in rw e refl
@@ -98,8 +106,10 @@ passes_cells longest (ReadsNoCell ts h) wants = no_cell longest ts wants h
 passes_cells longest (ReadsCellThen r rs) wants = passes_cell longest r (Cells ∷ wants) ∙ passes_cells longest rs wants
 
 -- the machine accepts a program that is read
-pub accepts_program : {longest : ℕ} {ts : List Symbol} {p : SyntaxTree} → ReadsProgram longest ts p → judge longest ts (Outside program) ≡ Accepted
+pub accepts_program : {longest : ℕ} {ts : List Symbol} {p : SyntaxTree} → ReadsProgram longest ts p
+    → judge longest ts (Outside program) ≡ Accepted
 accepts_program {longest} (ReadsAll iterations stages steps emits c i e b l) =
-    passes_cells longest c (Part 7 ∷ Word 8 ∷ Sign 40 ∷ machine.FullExpression ∷ Sign 41 ∷ Sign 123 ∷ machine.Statements ∷ Sign 125 ∷ Part 11 ∷ [])
+    passes_cells longest c (Part 7 ∷ Word 8 ∷ Sign 40 ∷ machine.FullExpression ∷ Sign 41 ∷ Sign 123 ∷ machine.Statements ∷ Sign 125 ∷ Part
+    11 ∷ [])
     ∙ passes_part i (Word 8 ∷ Sign 40 ∷ machine.FullExpression ∷ Sign 41 ∷ Sign 123 ∷ machine.Statements ∷ Sign 125 ∷ Part 11 ∷ [])
     ∙ passes_full e (Sign 41 ∷ Sign 123 ∷ machine.Statements ∷ Sign 125 ∷ Part 11 ∷ []) ∙ passes_block b (Part 11 ∷ []) ∙ passes_part l []

@@ -4,17 +4,24 @@ use Rattle.pipe_model.specs.declared.symbol.Symbol.{Symbol}
 use Rattle.pipe_model.specs.declared.symbol.Symbol.TheVariants as symbols
 use Rattle.pipe_model.specs.declared.tree.Declaration.{Declaration}
 use Rattle.pipe_model.specs.Language.SyntaxTree.{Statements, SyntaxTree}
-use Rattle.pipe_model.specs.Language.Grammar.{Piece, Single, FullExpression, flat, DerivesPart, NoPart, PartIs, DerivesSize, NoSize, SizeIs, DerivesValue, ValueIs, NegativeValueIs, DerivesCells, NoCell, CellIs, limits_before, DerivesProgram, ProgramIs}
-use Rattle.grammar_laws.specs.Reading.{ReadsFull, ReadsPart, ReadsSize, ReadsNoSize, ReadsSizeIs, ReadsValue, ReadsValueIs, ReadsNegativeValue, ReadsCell, ReadsCellIs, ReadsCells, ReadsNoCell, ReadsCellThen, ReadsProgram, ReadsAll, NoWord, NoSign}
+use Rattle.pipe_model.specs.Language.Grammar.{Piece, Single, FullExpression, flat, DerivesPart, NoPart, PartIs, DerivesSize, NoSize, SizeIs}
+use Rattle.pipe_model.specs.Language.Grammar.{DerivesValue, ValueIs, NegativeValueIs, DerivesCells, NoCell, CellIs, limits_before}
+use Rattle.pipe_model.specs.Language.Grammar.{DerivesProgram, ProgramIs}
+use Rattle.grammar_laws.specs.Reading.{ReadsFull, ReadsPart, ReadsSize, ReadsNoSize, ReadsSizeIs, ReadsValue, ReadsValueIs}
+use Rattle.grammar_laws.specs.Reading.{ReadsNegativeValue, ReadsCell, ReadsCellIs, ReadsCells, ReadsNoCell, ReadsCellThen, ReadsProgram}
+use Rattle.grammar_laws.specs.Reading.{ReadsAll, NoWord, NoSign}
 use Rattle.pipe_model.specs.Language.Spelling.{AreShort}
-use Rattle.pipe_model.specs.Language.Words.{word_cell, word_pipe_while, minus, open_round, close_round, semicolon, equals, open_square, close_square}
+use Rattle.pipe_model.specs.Language.Words.{word_cell, word_pipe_while, minus, open_round, close_round, semicolon, equals, open_square}
+use Rattle.pipe_model.specs.Language.Words.{close_square}
 use Rattle.grammar_laws.proofs.ExpressionReading.{SameReading}
 use Rattle.grammar_laws.proofs.Pieces.{flat_append, flat_two, took_two, short_append, short_front, short_back, all_short}
-use Rattle.grammar_laws.proofs.StatementReading.{TookPieces, sound_full, sound_block, sound_part, found_full, found_block, found_part, one_full, one_block, one_part, moved_block, moved_part}
+use Rattle.grammar_laws.proofs.StatementReading.{TookPieces, sound_full, sound_block, sound_part, found_full, found_block, found_part}
+use Rattle.grammar_laws.proofs.StatementReading.{one_full, one_block, one_part, moved_block, moved_part}
 
 -- ---- what was read is derived
 
-sound_size : {ts rest : List Symbol} {size : Option ℤ} (longest : ℕ) → ReadsSize ts size rest → TookPieces (λ ps. DerivesSize ps size) longest ts rest
+sound_size : {ts rest : List Symbol} {size : Option ℤ} (longest : ℕ) → ReadsSize ts size rest
+    → TookPieces (λ ps. DerivesSize ps size) longest ts rest
 sound_size longest (ReadsNoSize ts h) = record { taken = []; split = refl; derived = NoSize; short = tt }
 sound_size longest (ReadsSizeIs n rest) = record {
   taken = Single open_square ∷ Single (symbols.Number n) ∷ Single close_square ∷ [];
@@ -23,7 +30,8 @@ sound_size longest (ReadsSizeIs n rest) = record {
   short = tt;
 }
 
-sound_value : {ts rest : List Symbol} {value : ℤ} (longest : ℕ) → ReadsValue ts value rest → TookPieces (λ ps. DerivesValue ps value) longest ts rest
+sound_value : {ts rest : List Symbol} {value : ℤ} (longest : ℕ) → ReadsValue ts value rest
+    → TookPieces (λ ps. DerivesValue ps value) longest ts rest
 sound_value longest (ReadsValueIs n rest) = record { taken = Single (symbols.Number n) ∷ []; split = refl; derived = ValueIs n; short = tt }
 sound_value longest (ReadsNegativeValue n rest) = record {
   taken = Single minus ∷ Single (symbols.Number (pos n)) ∷ [];
@@ -33,7 +41,8 @@ sound_value longest (ReadsNegativeValue n rest) = record {
 }
 
 -- the symbols of a declaration and of those after it
-cell_split : (ps qs rs : List Piece) (ts us mid rest : List Symbol) → ts ≡ flat ps ++ equals ∷ us → us ≡ flat qs ++ semicolon ∷ mid → mid ≡ flat rs ++ rest
+cell_split : (ps qs rs : List Piece) (ts us mid rest : List Symbol) → ts ≡ flat ps ++ equals ∷ us → us ≡ flat qs ++ semicolon ∷ mid
+    → mid ≡ flat rs ++ rest
     → ts ≡ flat (ps ++ Single equals ∷ (qs ++ Single semicolon ∷ rs)) ++ rest
 cell_split ps qs rs ts us mid rest h i j =
     took_two ps (Single equals ∷ (qs ++ Single semicolon ∷ rs)) ts (equals ∷ us) rest h
@@ -54,7 +63,8 @@ took_cell {longest} {mid = mid} {rest = rest} (ReadsCellIs {ts} {us} name s v) w
     }
 
 -- declarations that were read are derived
-pub sound_cells : {ts rest : List Symbol} {ds : List Declaration} (longest : ℕ) → ReadsCells ts ds rest → TookPieces (λ ps. DerivesCells ps ds) longest ts rest
+pub sound_cells : {ts rest : List Symbol} {ds : List Declaration} (longest : ℕ) → ReadsCells ts ds rest
+    → TookPieces (λ ps. DerivesCells ps ds) longest ts rest
 sound_cells longest (ReadsNoCell ts h) = record { taken = []; split = refl; derived = NoCell; short = tt }
 sound_cells longest (ReadsCellThen r rs) = took_cell r (sound_cells longest rs)
 
@@ -98,7 +108,8 @@ sound_program {longest} (ReadsAll {cs = xs} {is = ys} {ts = ts} {us = us} {vs = 
       derived = ProgramIs iterations stages steps emits c.derived i.derived e.derived b.derived l.derived;
       short =
           short_append longest c.taken
-          (i.taken ++ Single word_pipe_while ∷ Single open_round ∷ FullExpression e.taken ∷ Single close_round ∷ (b.taken ++ l.taken)) c.short
+          (i.taken ++ Single word_pipe_while ∷ Single open_round ∷ FullExpression e.taken ∷ Single close_round ∷ (b.taken ++ l.taken))
+          c.short
           (short_append longest i.taken
           (Single word_pipe_while ∷ Single open_round ∷ FullExpression e.taken ∷ Single close_round ∷ (b.taken ++ l.taken)) i.short
           (e.short, short_append longest b.taken l.taken b.short l.short));
@@ -106,7 +117,8 @@ sound_program {longest} (ReadsAll {cs = xs} {is = ys} {ts = ts} {us = us} {vs = 
 
 -- ---- what is derived is read
 
-found_size : {ps : List Piece} {size : Option ℤ} → DerivesSize ps size → (rest : List Symbol) → NoSign 91 rest → ReadsSize (flat ps ++ rest) size rest
+found_size : {ps : List Piece} {size : Option ℤ} → DerivesSize ps size → (rest : List Symbol) → NoSign 91 rest
+    → ReadsSize (flat ps ++ rest) size rest
 found_size NoSize rest h = ReadsNoSize rest h
 found_size (SizeIs n) rest h = ReadsSizeIs n rest
 
@@ -124,17 +136,20 @@ moved_cells : {a b rest : List Symbol} {ds : List Declaration} → a ≡ b → R
 moved_cells {rest = rest} {ds = ds} h r = subst (λ x. ReadsCells x ds rest) (sym h) r
 
 -- declarations that are derived are read if what follows begins no declaration
-pub found_cells : {ps : List Piece} {ds : List Declaration} → DerivesCells ps ds → (rest : List Symbol) → NoWord 6 rest → ReadsCells (flat ps ++ rest) ds rest
+pub found_cells : {ps : List Piece} {ds : List Declaration} → DerivesCells ps ds → (rest : List Symbol) → NoWord 6 rest
+    → ReadsCells (flat ps ++ rest) ds rest
 found_cells NoCell rest h = ReadsNoCell rest h
 found_cells (CellIs {ps} {qs} {rs} name s v ds) rest h =
     let mid = flat rs ++ rest in
     let us = flat (qs ++ Single semicolon ∷ rs) ++ rest in
     ReadsCellThen (ReadsCellIs name (moved_size (flat_two ps (Single equals ∷ (qs ++ Single semicolon ∷ rs)) rest)
-    (found_size s (equals ∷ us) (λ x. absurd (omega (arith, x))))) (moved_value (flat_two qs (Single semicolon ∷ rs) rest) (found_value v (semicolon ∷ mid))))
+    (found_size s (equals ∷ us) (λ x. absurd (omega (arith, x)))))
+    (moved_value (flat_two qs (Single semicolon ∷ rs) rest) (found_value v (semicolon ∷ mid))))
     (found_cells ds rest h)
 
 -- neither `init` nor the loop begins a declaration
-begins_no_cell : {ps : List Piece} {ss : Statements} → DerivesPart (symbols.Word 7) ps ss → (rest : List Symbol) → NoWord 6 (flat ps ++ word_pipe_while ∷ rest)
+begins_no_cell : {ps : List Piece} {ss : Statements} → DerivesPart (symbols.Word 7) ps ss → (rest : List Symbol)
+    → NoWord 6 (flat ps ++ word_pipe_while ∷ rest)
 begins_no_cell NoPart rest = λ x. absurd (omega (arith, x))
 begins_no_cell (PartIs b) rest = λ x. absurd (omega (arith, x))
 
@@ -145,25 +160,30 @@ loop_symbols ts bs ls = ts ++ close_round ∷ (flat bs ++ flat ls)
 moved_program : {longest : ℕ} {a b : List Symbol} {p : SyntaxTree} → a ≡ b → ReadsProgram longest b p → ReadsProgram longest a p
 moved_program {longest} {p = p} h r = subst (λ x. ReadsProgram longest x p) (sym h) r
 
-part_at_end : {longest word : ℕ} {ss : Statements} (ps : List Piece) → ReadsPart longest word (flat ps ++ []) ss [] → ReadsPart longest word (flat ps) ss []
+part_at_end : {longest word : ℕ} {ss : Statements} (ps : List Piece) → ReadsPart longest word (flat ps ++ []) ss []
+    → ReadsPart longest word (flat ps) ss []
 part_at_end {longest} {word} {ss} ps r = subst (λ x. ReadsPart longest word x ss []) (append-nil (flat ps)) r
 
 after_limits_flat : (cs is : List Piece) (ts : List Symbol) (bs ls : List Piece)
     → flat (after_limits cs is ts bs ls) ≡ flat cs ++ (flat is ++ word_pipe_while ∷ open_round ∷ loop_symbols ts bs ls)
 after_limits_flat cs is ts bs ls =
     flat_append cs (is ++ Single word_pipe_while ∷ Single open_round ∷ FullExpression ts ∷ Single close_round ∷ (bs ++ ls))
-    ∙ ap (λ x. flat cs ++ x) (flat_append is (Single word_pipe_while ∷ Single open_round ∷ FullExpression ts ∷ Single close_round ∷ (bs ++ ls)))
+    ∙ ap (λ x. flat cs ++ x) (flat_append is (Single word_pipe_while ∷ Single open_round ∷ FullExpression ts ∷ Single
+    close_round ∷ (bs ++ ls)))
     ∙ ap (λ x. flat cs ++ (flat is ++ word_pipe_while ∷ open_round ∷ (ts ++ close_round ∷ x))) (flat_append bs ls)
 
 -- a program that is derived is read
-pub found_program : {longest : ℕ} {ps : List Piece} {p : SyntaxTree} → DerivesProgram ps p → AreShort longest ps → ReadsProgram longest (flat ps) p
+pub found_program : {longest : ℕ} {ps : List Piece} {p : SyntaxTree} → DerivesProgram ps p → AreShort longest ps
+    → ReadsProgram longest (flat ps) p
 found_program {longest} (ProgramIs {cs} {is} {bs} {ls} {ts} iterations stages steps emits c i e b l) a =
     let loop = Single word_pipe_while ∷ Single open_round ∷ FullExpression ts ∷ Single close_round ∷ (bs ++ ls) in
     let following = short_back longest is loop (short_back longest cs (is ++ loop) a) in
     moved_program (ap (λ x. flat (limits_before iterations stages steps emits []) ++ x) (after_limits_flat cs is ts bs ls))
     (ReadsAll iterations stages steps emits
-    (found_cells c (flat is ++ word_pipe_while ∷ open_round ∷ loop_symbols ts bs ls) (begins_no_cell i (open_round ∷ loop_symbols ts bs ls)))
-    (found_part i (short_front longest is loop (short_back longest cs (is ++ loop) a)) (word_pipe_while ∷ open_round ∷ loop_symbols ts bs ls)
+    (found_cells c (flat is ++ word_pipe_while ∷ open_round ∷ loop_symbols ts bs ls)
+    (begins_no_cell i (open_round ∷ loop_symbols ts bs ls)))
+    (found_part i (short_front longest is loop (short_back longest cs (is ++ loop) a))
+    (word_pipe_while ∷ open_round ∷ loop_symbols ts bs ls)
     (λ x. absurd (omega (arith, x))))
     (found_full 41 (flat bs ++ flat ls) (λ x. absurd (omega (arith, x))) e following.0)
     (found_block b (short_front longest bs ls following.1) (flat ls))
@@ -171,7 +191,8 @@ found_program {longest} (ProgramIs {cs} {is} {bs} {ls} {ts} iterations stages st
 
 -- ---- two readings of the same symbols are one
 
-one_size : {ts rest rest' : List Symbol} {s s' : Option ℤ} → ReadsSize ts s rest → ReadsSize ts s' rest' → SameReading (Option ℤ) s s' rest rest'
+one_size : {ts rest rest' : List Symbol} {s s' : Option ℤ} → ReadsSize ts s rest → ReadsSize ts s' rest'
+    → SameReading (Option ℤ) s s' rest rest'
 one_size (ReadsNoSize ts h) (ReadsNoSize ts' h') = record { tree = refl; left = refl }
 one_size (ReadsNoSize ts h) (ReadsSizeIs n rest) = absurd (h refl)
 one_size (ReadsSizeIs n rest) (ReadsNoSize ts h) = absurd (h refl)
@@ -184,7 +205,8 @@ one_value (ReadsNegativeValue n rest) (ReadsNegativeValue n' rest') = record { t
 same_after : {ts us : List Symbol} (t : Symbol) → t ∷ ts ≡ t ∷ us → ts ≡ us
 same_after t h = cc (h)
 
-one_cell : {ts rest rest' : List Symbol} {d d' : Declaration} → ReadsCell ts d rest → ReadsCell ts d' rest' → SameReading Declaration d d' rest rest'
+one_cell : {ts rest rest' : List Symbol} {d d' : Declaration} → ReadsCell ts d rest → ReadsCell ts d' rest'
+    → SameReading Declaration d d' rest rest'
 one_cell (ReadsCellIs name s v) (ReadsCellIs name' s' v') =
     let p = one_size s s' in
     let q = one_value v (moved_value (same_after equals p.left) v') in

@@ -1,13 +1,19 @@
 -- The machine of programs walks over the pieces of a program, and so counts the symbols of each full expression.
-use Rattle.std.proofs.Common.{◌≡◌, ◌≢◌, ℕ, ℤ, List, [], ◌∷◌, ◌++◌, refl, sym, ap, ◌∙◌, append_assoc, append-nil, arith, subst, Option, true, false, ◌==◌}
+use Rattle.std.proofs.Common.{◌≡◌, ◌≢◌, ℕ, ℤ, List, [], ◌∷◌, ◌++◌, refl, sym, ap, ◌∙◌, append_assoc, append-nil, arith, subst, Option, true}
+use Rattle.std.proofs.Common.{false, ◌==◌}
 use Rattle.pipe_model.specs.declared.symbol.Symbol.{Symbol}
 use Rattle.pipe_model.specs.declared.symbol.Symbol.TheVariants as symbols
 use Rattle.pipe_model.specs.declared.tree.Declaration.{Declaration}
 use Rattle.pipe_model.specs.Language.SyntaxTree.{Expression, Statement, Statements, SyntaxTree}
-use Rattle.pipe_model.specs.Language.Grammar.{any_expression, Derives, Piece, Single, FullExpression, DerivesStatement, LetIs, AssignIs, AssignElementIs, EmitIs, IfIs, WhileIs, WaitIs, WaitNextIs, ContinueIs, ContinueNextIs, DerivesStatements, NoStatement, OneMore, DerivesBlock, BlockIs, DerivesPart, NoPart, PartIs, DerivesSize, NoSize, SizeIs, DerivesValue, ValueIs, NegativeValueIs, DerivesCells, NoCell, CellIs, DerivesProgram, ProgramIs}
+use Rattle.pipe_model.specs.Language.Grammar.{any_expression, Derives, Piece, Single, FullExpression, DerivesStatement, LetIs, AssignIs}
+use Rattle.pipe_model.specs.Language.Grammar.{AssignElementIs, EmitIs, IfIs, WhileIs, WaitIs, WaitNextIs, ContinueIs, ContinueNextIs}
+use Rattle.pipe_model.specs.Language.Grammar.{DerivesStatements, NoStatement, OneMore, DerivesBlock, BlockIs, DerivesPart, NoPart, PartIs}
+use Rattle.pipe_model.specs.Language.Grammar.{DerivesSize, NoSize, SizeIs, DerivesValue, ValueIs, NegativeValueIs, DerivesCells, NoCell}
+use Rattle.pipe_model.specs.Language.Grammar.{CellIs, DerivesProgram, ProgramIs}
 use Rattle.pipe_model.specs.Language.Words.{word_pipe_while, open_round, close_round, semicolon, equals, close_brace}
 use Rattle.grammar_laws.specs.ProgramMachine as machine
-use Rattle.grammar_laws.specs.ProgramMachine.{Want, Sign, Word, AnyName, AnyNumber, StageNumber, Target, Part, Cells, Size, Value, Takes, Skips, move, program}
+use Rattle.grammar_laws.specs.ProgramMachine.{Want, Sign, Word, AnyName, AnyNumber, StageNumber, Target, Part, Cells, Size, Value, Takes}
+use Rattle.grammar_laws.specs.ProgramMachine.{Skips, move, program}
 
 -- ---- going over pieces
 pub data Walks : List Want → List Piece → Type 0 where
@@ -16,7 +22,8 @@ pub data Walks : List Want → List Piece → Type 0 where
       → Walks (want ∷ wants) (Single t ∷ ps)
   LeavesOut : {want : Want} {wants : List Want} {t : Symbol} {ps : List Piece} → move want t ≡ Skips → Walks wants (Single t ∷ ps)
       → Walks (want ∷ wants) (Single t ∷ ps)
-  OverFull : {wants : List Want} {ts : List Symbol} {e : Expression} {ps : List Piece} (sign : ℕ) → sign ≢ 91 → Derives any_expression ts e → Walks wants ps
+  OverFull : {wants : List Want} {ts : List Symbol} {e : Expression} {ps : List Piece} (sign : ℕ) → sign ≢ 91 → Derives any_expression ts e
+      → Walks wants ps
       → Walks (machine.FullExpression ∷ Sign sign ∷ wants) (FullExpression ts ∷ Single (symbols.Sign sign) ∷ ps)
   OverStage : {wants : List Want} {ts : List Symbol} {e : Expression} {ps : List Piece} → Derives any_expression ts e → Walks wants ps
       → Walks (StageNumber ∷ Sign 41 ∷ wants) (FullExpression ts ∷ Single close_round ∷ ps)
@@ -35,7 +42,8 @@ moved : {wants : List Want} {ps qs : List Piece} → ps ≡ qs → Walks wants q
 moved {wants} h w = subst (Walks wants) (sym h) w
 
 -- a symbol that is wanted
-comes : {want : Want} {wants : List Want} {t : Symbol} {ps : List Piece} → move want t ≡ Takes [] → Walks wants ps → Walks (want ∷ wants) (Single t ∷ ps)
+comes : {want : Want} {wants : List Want} {t : Symbol} {ps : List Piece} → move want t ≡ Takes [] → Walks wants ps
+    → Walks (want ∷ wants) (Single t ∷ ps)
 comes h w = Begins {more = []} h w
 
 skips_part : (word k : ℕ) → k ≢ word → move (Part word) (symbols.Word k) ≡ Skips
@@ -67,20 +75,24 @@ statement_begins WaitNextIs qs = λ x. absurd (omega (arith, x))
 statement_begins (ContinueIs d) qs = λ x. absurd (omega (arith, x))
 statement_begins ContinueNextIs qs = λ x. absurd (omega (arith, x))
 
-statements_begin : {ps : List Piece} {ss : Statements} → DerivesStatements ps ss → (qs : List Piece) → BeginsWithout 14 (ps ++ Single close_brace ∷ qs)
+statements_begin : {ps : List Piece} {ss : Statements} → DerivesStatements ps ss → (qs : List Piece)
+    → BeginsWithout 14 (ps ++ Single close_brace ∷ qs)
 statements_begin NoStatement qs = tt
 statements_begin (OneMore {ps} {qs = ps'} d ds) qs =
     subst (BeginsWithout 14) (sym (append_assoc ps ps' (Single close_brace ∷ qs))) (statement_begins d (ps' ++ Single close_brace ∷ qs))
 
-abbrev before_semicolon : {wants : List Want} {ts : List Symbol} {e : Expression} {ps : List Piece} → Derives any_expression ts e → Walks wants ps
+abbrev before_semicolon : {wants : List Want} {ts : List Symbol} {e : Expression} {ps : List Piece} → Derives any_expression ts e
+    → Walks wants ps
     → Walks (machine.FullExpression ∷ Sign 59 ∷ wants) (FullExpression ts ∷ Single semicolon ∷ ps)
 before_semicolon d w = OverFull 59 (λ x. absurd (omega (arith, x))) d w
 
-abbrev before_round : {wants : List Want} {ts : List Symbol} {e : Expression} {ps : List Piece} → Derives any_expression ts e → Walks wants ps
+abbrev before_round : {wants : List Want} {ts : List Symbol} {e : Expression} {ps : List Piece} → Derives any_expression ts e
+    → Walks wants ps
     → Walks (machine.FullExpression ∷ Sign 41 ∷ wants) (FullExpression ts ∷ Single close_round ∷ ps)
 before_round d w = OverFull 41 (λ x. absurd (omega (arith, x))) d w
 
-abbrev before_square : {wants : List Want} {ts : List Symbol} {e : Expression} {ps : List Piece} → Derives any_expression ts e → Walks wants ps
+abbrev before_square : {wants : List Want} {ts : List Symbol} {e : Expression} {ps : List Piece} → Derives any_expression ts e
+    → Walks wants ps
     → Walks (machine.FullExpression ∷ Sign 93 ∷ wants) (FullExpression ts ∷ Single (symbols.Sign 93) ∷ ps)
 before_square d w = OverFull 93 (λ x. absurd (omega (arith, x))) d w
 
@@ -119,14 +131,16 @@ mutual
       comes refl (moved (append_assoc ps (Single close_brace ∷ []) qs)
       (walks_statements d (Sign 125 ∷ wants) qs (LeavesOut refl (comes refl w))))
 
-  walks_part : {word : ℕ} {ps : List Piece} {ss : Statements} → DerivesPart (symbols.Word word) ps ss → (wants : List Want) (qs : List Piece)
+  walks_part : {word : ℕ} {ps : List Piece} {ss : Statements} → DerivesPart (symbols.Word word) ps ss
+      → (wants : List Want) (qs : List Piece)
       → BeginsWithout word qs
       → Walks wants qs
       → Walks (Part word ∷ wants) (ps ++ qs)
   walks_part {word} NoPart wants qs h w = without_part word qs h w
   walks_part {word} (PartIs b) wants qs h w = Begins (takes_part word) (walks_block b wants qs w)
 
-walks_size : {ps : List Piece} {size : Option ℤ} → DerivesSize ps size → (wants : List Want) (qs : List Piece) → Walks wants (Single equals ∷ qs)
+walks_size : {ps : List Piece} {size : Option ℤ} → DerivesSize ps size → (wants : List Want) (qs : List Piece)
+    → Walks wants (Single equals ∷ qs)
     → Walks (Size ∷ wants) (ps ++ Single equals ∷ qs)
 walks_size NoSize wants qs w = LeavesOut refl w
 walks_size (SizeIs n) wants qs w = Begins refl (comes refl (comes refl w))
@@ -143,7 +157,8 @@ cells_split ps qs rs rest =
     append_assoc ps (Single equals ∷ (qs ++ Single semicolon ∷ rs)) rest
     ∙ ap (λ x. ps ++ Single equals ∷ x) (append_assoc qs (Single semicolon ∷ rs) rest)
 
-walks_cells : {ps : List Piece} {ds : List Declaration} → DerivesCells ps ds → (wants : List Want) (qs : List Piece) → Walks (Cells ∷ wants) qs
+walks_cells : {ps : List Piece} {ds : List Declaration} → DerivesCells ps ds → (wants : List Want) (qs : List Piece)
+    → Walks (Cells ∷ wants) qs
     → Walks (Cells ∷ wants) (ps ++ qs)
 walks_cells NoCell wants qs w = w
 walks_cells (CellIs {ps} {qs = ps'} {rs} name s v ds) wants qs w =
@@ -169,5 +184,6 @@ walks_program (ProgramIs {cs} {is} {bs} {ls} {ts} iterations stages steps emits 
     let from_cells =
     walks_cells c (Part 7 ∷ wants) (is ++ Single word_pipe_while ∷ loop) (without_cells i (Part 7 ∷ wants) loop
     (walks_part i wants (Single word_pipe_while ∷ loop) (λ x. absurd (omega (arith, x))) from_loop)) in
-    comes refl (comes refl (comes refl (comes refl (comes refl (comes refl (comes refl (comes refl (comes refl (comes refl (comes refl (comes refl
+    comes refl (comes refl (comes refl (comes refl (comes refl
+    (comes refl (comes refl (comes refl (comes refl (comes refl (comes refl (comes refl
     (comes refl from_cells))))))))))))

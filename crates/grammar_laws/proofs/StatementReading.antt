@@ -1,13 +1,21 @@
 -- A reader of statements finds what the whole grammar derives, and nothing else, and in one way.
-use Rattle.std.proofs.Common.{◌≡◌, ◌≢◌, ℕ, ◌≤◌, ◌+◌, List, [], ◌∷◌, ◌++◌, length, refl, sym, ap, ◌∙◌, append_assoc, length-append, arith, subst}
+use Rattle.std.proofs.Common.{◌≡◌, ◌≢◌, ℕ, ◌≤◌, ◌+◌, List, [], ◌∷◌, ◌++◌, length, refl, sym, ap, ◌∙◌, append_assoc, length-append, arith}
+use Rattle.std.proofs.Common.{subst}
 use Rattle.pipe_model.specs.declared.tree.StageKind.TheVariants as kinds
 use Rattle.pipe_model.specs.declared.symbol.Symbol.{Symbol}
 use Rattle.pipe_model.specs.declared.symbol.Symbol.TheVariants as symbols
-use Rattle.pipe_model.specs.Language.SyntaxTree.{Expression, Statement, Let, Assign, AssignElement, Emit, If, While, Stage, Statements, Then}
-use Rattle.pipe_model.specs.Language.Grammar.{any_expression, Derives, Piece, Single, FullExpression, flat, DerivesStatement, LetIs, AssignIs, AssignElementIs, EmitIs, IfIs, WhileIs, WaitIs, WaitNextIs, ContinueIs, ContinueNextIs, DerivesStatements, NoStatement, OneMore, DerivesBlock, BlockIs, DerivesPart, NoPart, PartIs}
-use Rattle.grammar_laws.specs.Reading.{Reads, ReadsChain, ReadsFull, ReadsStatement, ReadsLet, ReadsAssign, ReadsAssignElement, ReadsEmit, ReadsIf, ReadsWhile, ReadsWait, ReadsWaitNext, ReadsContinue, ReadsContinueNext, ReadsStatements, ReadsClose, ReadsOneMore, ReadsBlock, ReadsBraces, ReadsPart, ReadsNoPart, ReadsPartIs, NoWord}
+use Rattle.pipe_model.specs.Language.SyntaxTree.{Expression, Statement, Let, Assign, AssignElement, Emit, If, While, Stage, Statements}
+use Rattle.pipe_model.specs.Language.SyntaxTree.{Then}
+use Rattle.pipe_model.specs.Language.Grammar.{any_expression, Derives, Piece, Single, FullExpression, flat, DerivesStatement, LetIs}
+use Rattle.pipe_model.specs.Language.Grammar.{AssignIs, AssignElementIs, EmitIs, IfIs, WhileIs, WaitIs, WaitNextIs, ContinueIs}
+use Rattle.pipe_model.specs.Language.Grammar.{ContinueNextIs, DerivesStatements, NoStatement, OneMore, DerivesBlock, BlockIs, DerivesPart}
+use Rattle.pipe_model.specs.Language.Grammar.{NoPart, PartIs}
+use Rattle.grammar_laws.specs.Reading.{Reads, ReadsChain, ReadsFull, ReadsStatement, ReadsLet, ReadsAssign, ReadsAssignElement, ReadsEmit}
+use Rattle.grammar_laws.specs.Reading.{ReadsIf, ReadsWhile, ReadsWait, ReadsWaitNext, ReadsContinue, ReadsContinueNext, ReadsStatements}
+use Rattle.grammar_laws.specs.Reading.{ReadsClose, ReadsOneMore, ReadsBlock, ReadsBraces, ReadsPart, ReadsNoPart, ReadsPartIs, NoWord}
 use Rattle.pipe_model.specs.Language.Spelling.{AreShort}
-use Rattle.pipe_model.specs.Language.Words.{word_pipe_wait, word_pipe_continue, word_let, word_if, word_while, word_emit, open_round, close_round, semicolon, equals, open_square, close_square, open_brace, close_brace}
+use Rattle.pipe_model.specs.Language.Words.{word_pipe_wait, word_pipe_continue, word_let, word_if, word_while, word_emit, open_round}
+use Rattle.pipe_model.specs.Language.Words.{close_round, semicolon, equals, open_square, close_square, open_brace, close_brace}
 use Rattle.grammar_laws.proofs.ExpressionReading.{sound, found_before_sign, one_reading, SameReading}
 use Rattle.grammar_laws.proofs.Pieces.{flat_two, took_two, short_append, short_front, short_back}
 
@@ -28,7 +36,8 @@ pub record TookFull (longest : ℕ) (ts : List Symbol) (e : Expression) (rest : 
   pub short : length taken ≤ longest
 
 -- a full expression that was read is derived
-pub sound_full : {longest : ℕ} {ts : List Symbol} {e : Expression} {rest : List Symbol} → ReadsFull longest ts e rest → TookFull longest ts e rest
+pub sound_full : {longest : ℕ} {ts : List Symbol} {e : Expression} {rest : List Symbol} → ReadsFull longest ts e rest
+    → TookFull longest ts e rest
 sound_full {longest} {ts} {e} {rest} r =
     let t = sound r.read in
     let many : length ts ≡ length t.taken + length rest = ap length t.split ∙ length-append t.taken rest in
@@ -40,9 +49,11 @@ closed_front front taken close rest ts h =
     ap (λ x. front ++ x) (h ∙ sym (append_assoc taken close rest)) ∙ sym (append_assoc front (taken ++ close) rest)
 
 -- a statement whose only part is an expression between a start and what closes it
-took_simple : {longest : ℕ} {s : Statement} {e : Expression} (front close : List Symbol) (pieces : List Symbol → List Piece) (ts rest : List Symbol)
+took_simple : {longest : ℕ} {s : Statement} {e : Expression} (front close : List Symbol) (pieces : List Symbol → List Piece)
+    (ts rest : List Symbol)
     → ((us : List Symbol) → Derives any_expression us e → DerivesStatement (pieces us) s)
-    → ((us : List Symbol) → flat (pieces us) ≡ front ++ (us ++ close)) → ((us : List Symbol) → length us ≤ longest → AreShort longest (pieces us))
+    → ((us : List Symbol) → flat (pieces us) ≡ front ++ (us ++ close))
+    → ((us : List Symbol) → length us ≤ longest → AreShort longest (pieces us))
     → ReadsFull longest ts e (close ++ rest) → TookPieces (λ ps. DerivesStatement ps s) longest (front ++ ts) rest
 took_simple front close pieces ts rest derives same short r =
     let t = sound_full r in
@@ -65,12 +76,14 @@ test_split : (taken ts us rest : List Symbol) (ps : List Piece) → ts ≡ taken
     → ts ≡ (taken ++ close_round ∷ flat ps) ++ rest
 test_split taken ts us rest ps h i = h ∙ ap (λ x. taken ++ close_round ∷ x) i ∙ sym (append_assoc taken (close_round ∷ flat ps) rest)
 
-took_element : {longest : ℕ} {index e : Expression} (name : List ℕ) (us ts rest : List Symbol) → TookFull longest us index (close_square ∷ equals ∷ ts)
+took_element : {longest : ℕ} {index e : Expression} (name : List ℕ) (us ts rest : List Symbol)
+    → TookFull longest us index (close_square ∷ equals ∷ ts)
     → TookFull longest ts e (semicolon ∷ rest)
     → TookPieces (λ ps. DerivesStatement ps (AssignElement name index e)) longest (symbols.Name name ∷ open_square ∷ us) rest
 took_element name us ts rest t u = record {
   taken =
-      Single (symbols.Name name) ∷ Single open_square ∷ FullExpression t.taken ∷ Single close_square ∷ Single equals ∷ FullExpression u.taken
+      Single (symbols.Name name) ∷ Single open_square ∷ FullExpression t.taken ∷ Single close_square ∷ Single equals ∷ FullExpression
+      u.taken
       ∷ Single semicolon ∷ [];
   split = ap (λ x. symbols.Name name ∷ open_square ∷ x) (element_split t.taken u.taken us ts rest t.split u.split);
   derived = AssignElementIs name t.derived u.derived;
@@ -99,7 +112,8 @@ took_while ts us rest t u = record {
   short = (t.short, u.short);
 }
 
-took_one_more : {longest : ℕ} {s : Statement} {ss : Statements} (ts mid rest : List Symbol) → TookPieces (λ ps. DerivesStatement ps s) longest ts mid
+took_one_more : {longest : ℕ} {s : Statement} {ss : Statements} (ts mid rest : List Symbol)
+    → TookPieces (λ ps. DerivesStatement ps s) longest ts mid
     → TookPieces (λ ps. DerivesStatements ps ss) longest mid (close_brace ∷ rest)
     → TookPieces (λ ps. DerivesStatements ps (Then s ss)) longest ts (close_brace ∷ rest)
 took_one_more {longest} ts mid rest t u = record {
@@ -109,7 +123,8 @@ took_one_more {longest} ts mid rest t u = record {
   short = short_append longest t.taken u.taken t.short u.short;
 }
 
-took_block : {longest : ℕ} {ss : Statements} (ts rest : List Symbol) → TookPieces (λ ps. DerivesStatements ps ss) longest ts (close_brace ∷ rest)
+took_block : {longest : ℕ} {ss : Statements} (ts rest : List Symbol) → TookPieces (λ ps. DerivesStatements ps ss) longest ts
+    (close_brace ∷ rest)
     → TookPieces (λ ps. DerivesBlock ps ss) longest (open_brace ∷ ts) rest
 took_block {longest} ts rest t = record {
   taken = Single open_brace ∷ (t.taken ++ Single close_brace ∷ []);
@@ -124,21 +139,25 @@ mutual
       → TookPieces (λ ps. DerivesStatement ps s) longest ts rest
   sound_statement (ReadsLet {ts} {rest} name r) =
       took_simple (word_let ∷ symbols.Name name ∷ equals ∷ []) (semicolon ∷ [])
-      (λ us. Single word_let ∷ Single (symbols.Name name) ∷ Single equals ∷ FullExpression us ∷ Single semicolon ∷ []) ts rest (λ us d. LetIs name d)
+      (λ us. Single word_let ∷ Single (symbols.Name name) ∷ Single equals ∷ FullExpression us ∷ Single semicolon ∷ []) ts rest
+      (λ us d. LetIs name d)
       (λ us. refl) (λ us l. (l, tt)) r
   sound_statement (ReadsAssign {ts} {rest} name r) =
       took_simple (symbols.Name name ∷ equals ∷ []) (semicolon ∷ [])
-      (λ us. Single (symbols.Name name) ∷ Single equals ∷ FullExpression us ∷ Single semicolon ∷ []) ts rest (λ us d. AssignIs name d) (λ us. refl)
+      (λ us. Single (symbols.Name name) ∷ Single equals ∷ FullExpression us ∷ Single semicolon ∷ []) ts rest (λ us d. AssignIs name d)
+      (λ us. refl)
       (λ us l. (l, tt)) r
   sound_statement (ReadsAssignElement {us} {ts} {rest} name r r') = took_element name us ts rest (sound_full r) (sound_full r')
   sound_statement (ReadsEmit {ts} {rest} r) =
-      took_simple (word_emit ∷ []) (semicolon ∷ []) (λ us. Single word_emit ∷ FullExpression us ∷ Single semicolon ∷ []) ts rest (λ us d. EmitIs d)
+      took_simple (word_emit ∷ []) (semicolon ∷ []) (λ us. Single word_emit ∷ FullExpression us ∷ Single semicolon ∷ []) ts rest
+      (λ us d. EmitIs d)
       (λ us. refl) (λ us l. (l, tt)) r
   sound_statement (ReadsIf {ts} {us} {vs} {rest} r a b) = took_if ts us vs rest (sound_full r) (sound_block a) (sound_part b)
   sound_statement (ReadsWhile {ts} {us} {rest} r a) = took_while ts us rest (sound_full r) (sound_block a)
   sound_statement (ReadsWait {ts} {rest} r) =
       took_simple (word_pipe_wait ∷ open_round ∷ []) (close_round ∷ semicolon ∷ [])
-      (λ us. Single word_pipe_wait ∷ Single open_round ∷ FullExpression us ∷ Single close_round ∷ Single semicolon ∷ []) ts rest (λ us d. WaitIs d)
+      (λ us. Single word_pipe_wait ∷ Single open_round ∷ FullExpression us ∷ Single close_round ∷ Single semicolon ∷ []) ts rest
+      (λ us d. WaitIs d)
       (λ us. refl) (λ us l. (l, tt)) r
   sound_statement (ReadsWaitNext rest) = record {
     taken = Single word_pipe_wait ∷ Single open_round ∷ Single close_round ∷ Single semicolon ∷ [];
@@ -160,7 +179,8 @@ mutual
   pub sound_statements : {longest : ℕ} {ts rest : List Symbol} {ss : Statements} → ReadsStatements longest ts ss rest
       → TookPieces (λ ps. DerivesStatements ps ss) longest ts (close_brace ∷ rest)
   sound_statements (ReadsClose rest) = record { taken = []; split = refl; derived = NoStatement; short = tt }
-  sound_statements (ReadsOneMore {ts = ts} {mid = mid} {rest = rest} r b) = took_one_more ts mid rest (sound_statement r) (sound_statements b)
+  sound_statements (ReadsOneMore {ts = ts} {mid = mid} {rest = rest} r b) = took_one_more ts mid rest (sound_statement r)
+      (sound_statements b)
 
   pub sound_block : {longest : ℕ} {ts rest : List Symbol} {ss : Statements} → ReadsBlock longest ts ss rest
       → TookPieces (λ ps. DerivesBlock ps ss) longest ts rest
@@ -171,7 +191,13 @@ mutual
   sound_part (ReadsNoPart ts h) = record { taken = []; split = refl; derived = NoPart; short = tt }
   sound_part (ReadsPartIs {word = word} r) =
       let t = sound_block r in
-      record { taken = Single (symbols.Word word) ∷ t.taken; split = ap (λ x. symbols.Word word ∷ x) t.split; derived = PartIs t.derived; short = t.short }
+      record {
+        taken = Single (symbols.Word word) ∷ t.taken;
+        split = ap (λ x. symbols.Word word ∷ x) t.split;
+        derived =
+            PartIs t.derived;
+        short = t.short;
+      }
 
 -- ---- what is derived is read
 
@@ -180,24 +206,29 @@ pub found_full : {longest : ℕ} {ts : List Symbol} {e : Expression} (sign : ℕ
     → length ts ≤ longest
     → ReadsFull longest (ts ++ symbols.Sign sign ∷ rest) e (symbols.Sign sign ∷ rest)
 found_full {longest} {ts} {e} sign rest h d l =
-    let many : length (ts ++ symbols.Sign sign ∷ rest) ≡ length ts + length (symbols.Sign sign ∷ rest) = length-append ts (symbols.Sign sign ∷ rest) in
+    let many : length (ts ++ symbols.Sign sign ∷ rest) ≡ length ts + length (symbols.Sign sign ∷ rest) =
+    length-append ts (symbols.Sign sign ∷ rest) in
     record { read = found_before_sign sign rest h d; short = omega (arith, many, l) }
 
 -- the same, whatever follows the sign
-found_here : {longest : ℕ} {ts : List Symbol} {e : Expression} (sign : ℕ) (close rest : List Symbol) → sign ≢ 91 → Derives any_expression ts e
+found_here : {longest : ℕ} {ts : List Symbol} {e : Expression} (sign : ℕ) (close rest : List Symbol) → sign ≢ 91
+    → Derives any_expression ts e
     → length ts ≤ longest
     → ReadsFull longest ((ts ++ symbols.Sign sign ∷ close) ++ rest) e (symbols.Sign sign ∷ (close ++ rest))
 found_here {longest} {ts} {e} sign close rest h d l =
     subst (λ x. ReadsFull longest x e (symbols.Sign sign ∷ (close ++ rest))) (sym (append_assoc ts (symbols.Sign sign ∷ close) rest))
     (found_full sign (close ++ rest) h d l)
 
-pub moved_statements : {longest : ℕ} {a b rest : List Symbol} {ss : Statements} → a ≡ b → ReadsStatements longest b ss rest → ReadsStatements longest a ss rest
+pub moved_statements : {longest : ℕ} {a b rest : List Symbol} {ss : Statements} → a ≡ b → ReadsStatements longest b ss rest
+    → ReadsStatements longest a ss rest
 moved_statements {longest} {rest = rest} {ss = ss} h r = subst (λ x. ReadsStatements longest x ss rest) (sym h) r
 
-pub moved_block : {longest : ℕ} {a b rest : List Symbol} {ss : Statements} → a ≡ b → ReadsBlock longest b ss rest → ReadsBlock longest a ss rest
+pub moved_block : {longest : ℕ} {a b rest : List Symbol} {ss : Statements} → a ≡ b → ReadsBlock longest b ss rest
+    → ReadsBlock longest a ss rest
 moved_block {longest} {rest = rest} {ss = ss} h r = subst (λ x. ReadsBlock longest x ss rest) (sym h) r
 
-pub moved_part : {longest word : ℕ} {a b rest : List Symbol} {ss : Statements} → a ≡ b → ReadsPart longest word b ss rest → ReadsPart longest word a ss rest
+pub moved_part : {longest word : ℕ} {a b rest : List Symbol} {ss : Statements} → a ≡ b → ReadsPart longest word b ss rest
+    → ReadsPart longest word a ss rest
 moved_part {longest} {word} {rest = rest} {ss = ss} h r = subst (λ x. ReadsPart longest word x ss rest) (sym h) r
 
 moved_full : {longest : ℕ} {a b rest : List Symbol} {e : Expression} → a ≡ b → ReadsFull longest b e rest → ReadsFull longest a e rest
@@ -216,14 +247,16 @@ begins_no_else WaitNextIs rest = λ x. absurd (omega (arith, x))
 begins_no_else (ContinueIs d) rest = λ x. absurd (omega (arith, x))
 begins_no_else ContinueNextIs rest = λ x. absurd (omega (arith, x))
 
-begin_no_else : {ps : List Piece} {ss : Statements} → DerivesStatements ps ss → (rest : List Symbol) → NoWord 14 (flat ps ++ close_brace ∷ rest)
+begin_no_else : {ps : List Piece} {ss : Statements} → DerivesStatements ps ss → (rest : List Symbol)
+    → NoWord 14 (flat ps ++ close_brace ∷ rest)
 begin_no_else NoStatement rest = tt
 begin_no_else (OneMore {ps} {qs} d ds) rest =
     subst (NoWord 14) (sym (flat_two ps qs (close_brace ∷ rest))) (begins_no_else d (flat qs ++ close_brace ∷ rest))
 
 mutual
   -- a statement that is derived is read if no `else` part follows
-  pub found_statement : {longest : ℕ} {ps : List Piece} {s : Statement} → DerivesStatement ps s → AreShort longest ps → (rest : List Symbol) → NoWord 14 rest
+  pub found_statement : {longest : ℕ} {ps : List Piece} {s : Statement} → DerivesStatement ps s → AreShort longest ps
+      → (rest : List Symbol) → NoWord 14 rest
       → ReadsStatement longest (flat ps ++ rest) s rest
   found_statement (LetIs name d) a rest h = ReadsLet name (found_here 59 [] rest (λ x. absurd (omega (arith, x))) d a.0)
   found_statement (AssignIs name d) a rest h = ReadsAssign name (found_here 59 [] rest (λ x. absurd (omega (arith, x))) d a.0)
@@ -242,7 +275,8 @@ mutual
   found_statement (ContinueIs d) a rest h = ReadsContinue (found_here 41 (semicolon ∷ []) rest (λ x. absurd (omega (arith, x))) d a.0)
   found_statement ContinueNextIs a rest h = ReadsContinueNext rest
 
-  pub found_statements : {longest : ℕ} {ps : List Piece} {ss : Statements} → DerivesStatements ps ss → AreShort longest ps → (rest : List Symbol)
+  pub found_statements : {longest : ℕ} {ps : List Piece} {ss : Statements} → DerivesStatements ps ss → AreShort longest ps
+      → (rest : List Symbol)
       → ReadsStatements longest (flat ps ++ close_brace ∷ rest) ss rest
   found_statements NoStatement a rest = ReadsClose rest
   found_statements {longest} (OneMore {ps} {qs} d ds) a rest =
@@ -253,9 +287,11 @@ mutual
   pub found_block : {longest : ℕ} {ps : List Piece} {ss : Statements} → DerivesBlock ps ss → AreShort longest ps → (rest : List Symbol)
       → ReadsBlock longest (flat ps ++ rest) ss rest
   found_block {longest} (BlockIs {ps} d) a rest =
-      ReadsBraces (moved_statements (flat_two ps (Single close_brace ∷ []) rest) (found_statements d (short_front longest ps (Single close_brace ∷ []) a) rest))
+      ReadsBraces (moved_statements (flat_two ps (Single close_brace ∷ []) rest)
+      (found_statements d (short_front longest ps (Single close_brace ∷ []) a) rest))
 
-  pub found_part : {longest word : ℕ} {ps : List Piece} {ss : Statements} → DerivesPart (symbols.Word word) ps ss → AreShort longest ps → (rest : List Symbol)
+  pub found_part : {longest word : ℕ} {ps : List Piece} {ss : Statements} → DerivesPart (symbols.Word word) ps ss → AreShort longest ps
+      → (rest : List Symbol)
       → NoWord word rest
       → ReadsPart longest word (flat ps ++ rest) ss rest
   found_part NoPart a rest h = ReadsNoPart rest h
@@ -274,10 +310,12 @@ begins_no_close (ReadsChain r g) = begins_no_close r
 
 mutual
   -- a statement is read in one way
-  pub one_statement : {longest : ℕ} {ts rest rest' : List Symbol} {s s' : Statement} → ReadsStatement longest ts s rest → ReadsStatement longest ts s' rest'
+  pub one_statement : {longest : ℕ} {ts rest rest' : List Symbol} {s s' : Statement} → ReadsStatement longest ts s rest
+      → ReadsStatement longest ts s' rest'
       → SameReading Statement s s' rest rest'
   one_statement (ReadsLet name r) (ReadsLet name' r') = let s = one_full r r' in record { tree = ap (Let name) s.tree; left = cc (s.left) }
-  one_statement (ReadsAssign name r) (ReadsAssign name' r') = let s = one_full r r' in record { tree = ap (Assign name) s.tree; left = cc (s.left) }
+  one_statement (ReadsAssign name r) (ReadsAssign name' r') = let s = one_full r r' in
+      record { tree = ap (Assign name) s.tree; left = cc (s.left) }
   one_statement (ReadsAssignElement name r q) (ReadsAssignElement name' r' q') =
       let s = one_full r r' in
       let t = one_full q (moved_full (cc (s.left)) q') in
@@ -296,7 +334,8 @@ mutual
   one_statement (ReadsWait r) (ReadsWaitNext rest') = absurd (begins_no_close r.read)
   one_statement (ReadsWaitNext rest) (ReadsWait r') = absurd (begins_no_close r'.read)
   one_statement (ReadsWaitNext rest) (ReadsWaitNext rest') = record { tree = refl; left = refl }
-  one_statement (ReadsContinue r) (ReadsContinue r') = let s = one_full r r' in record { tree = ap (Stage kinds.Continue) s.tree; left = cc (s.left) }
+  one_statement (ReadsContinue r) (ReadsContinue r') = let s = one_full r r' in
+      record { tree = ap (Stage kinds.Continue) s.tree; left = cc (s.left) }
   one_statement (ReadsContinue r) (ReadsContinueNext rest') = absurd (begins_no_close r.read)
   one_statement (ReadsContinueNext rest) (ReadsContinue r') = absurd (begins_no_close r'.read)
   one_statement (ReadsContinueNext rest) (ReadsContinueNext rest') = record { tree = refl; left = refl }
@@ -312,7 +351,8 @@ mutual
       let t = one_statements b (moved_statements s.left b') in
       record { tree = cc (s.tree, t.tree); left = t.left }
 
-  pub one_block : {longest : ℕ} {ts rest rest' : List Symbol} {ss ss' : Statements} → ReadsBlock longest ts ss rest → ReadsBlock longest ts ss' rest'
+  pub one_block : {longest : ℕ} {ts rest rest' : List Symbol} {ss ss' : Statements} → ReadsBlock longest ts ss rest
+      → ReadsBlock longest ts ss' rest'
       → SameReading Statements ss ss' rest rest'
   one_block (ReadsBraces r) (ReadsBraces r') = one_statements r r'
 

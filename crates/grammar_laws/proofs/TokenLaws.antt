@@ -1,5 +1,7 @@
 -- A source has at most one list of tokens, or else at most one fault.
-use Rattle.std.proofs.Common.{◌≡◌, ◌∙◌, ap, sym, subst, ℕ, ◌+◌, ◌-◌, ◌<◌, ◌≤◌, ◌^◌, ◌≤ℤ◌, pos, Bool, true, false, not, List, [], ◌∷◌, ◌++◌, length, take, drop, refl, arith, cond, ◌⊎◌, inl, inr, Option, Some, None, All, ◌==◌, ◌&&◌, append-nil, append_assoc, length-append, length-drop, position}
+use Rattle.std.proofs.Common.{◌≡◌, ◌∙◌, ap, sym, subst, ℕ, ◌+◌, ◌-◌, ◌<◌, ◌≤◌, ◌^◌, ◌≤ℤ◌, pos, Bool, true, false, not, List, [], ◌∷◌, ◌++◌}
+use Rattle.std.proofs.Common.{length, take, drop, refl, arith, cond, ◌⊎◌, inl, inr, Option, Some, None, All, ◌==◌, ◌&&◌, append-nil}
+use Rattle.std.proofs.Common.{append_assoc, length-append, length-drop, position}
 use Rattle.std.specs.List.{list_all}
 use Rattle.std.specs.Str.{bytes_eq}
 use Rattle.std.proofs.Math.Seq.{drop-append_seam, take-append_seam}
@@ -11,8 +13,12 @@ use Rattle.std.proofs.lemmas.List.Elements.{All-nil, All-cons, All-drop}
 use Rattle.pipe_model.specs.declared.symbol.Symbol.{Symbol}
 use Rattle.pipe_model.specs.declared.symbol.Symbol.TheVariants as symbols
 use Rattle.pipe_model.specs.declared.token.Token.{Token}
-use Rattle.pipe_model.specs.Language.Lexis.{is_blank, is_letter, is_digit, is_name_byte, is_sign, number_of, operators, operator_or_sign, punctuation_symbol, reserved_words, symbol_of, word_or_name, word_symbol}
-use Rattle.pipe_model.specs.Language.Tokens.{begins_comment, is_line_feed, kind_of, symbol_as, symbol_in, text_in, token_at, BeginsNothing, BeginsWith, HasTokens, IsComment, IsLexed, IsReached, IsToken, IsTokenWithinBounds, LexicalFault, StandsIn, BadByte, TooWide, SourceTooLong, NameTooLong, HasFault, IsTooLong, HasBadByte, HasWideNumber, HasLongName, Scans, Stops, Blank, Comment, Taken}
+use Rattle.pipe_model.specs.Language.Lexis.{is_blank, is_letter, is_digit, is_name_byte, is_sign, number_of, operators, operator_or_sign}
+use Rattle.pipe_model.specs.Language.Lexis.{punctuation_symbol, reserved_words, symbol_of, word_or_name, word_symbol}
+use Rattle.pipe_model.specs.Language.Tokens.{begins_comment, is_line_feed, kind_of, symbol_as, symbol_in, text_in, token_at, BeginsNothing}
+use Rattle.pipe_model.specs.Language.Tokens.{BeginsWith, HasTokens, IsComment, IsLexed, IsReached, IsToken, IsTokenWithinBounds}
+use Rattle.pipe_model.specs.Language.Tokens.{LexicalFault, StandsIn, BadByte, TooWide, SourceTooLong, NameTooLong, HasFault, IsTooLong}
+use Rattle.pipe_model.specs.Language.Tokens.{HasBadByte, HasWideNumber, HasLongName, Scans, Stops, Blank, Comment, Taken}
 use Rattle.grammar_laws.proofs.LongestSymbols.{GoesOn, one_goes_on, blank_begins_no_symbol, one_longest}
 
 -- ---- the text of a symbol
@@ -118,7 +124,8 @@ record AreSame (x y u v : List ℕ) (o o' : Option Symbol) : Type 0 where
 -- no blank is a token
 blank_no_token : (b : ℕ) (rest text after : List ℕ) (s : Symbol) → is_blank b ≡ true → IsToken text after s → b ∷ rest ≡ text ++ after → ⊥
 blank_no_token b rest [] after s g t e = let none : None ≡ Some s = t.symbol in cc (none)
-blank_no_token b rest (c ∷ text) after s g t e = let same : b ≡ c = cc (e) in blank_begins_no_symbol c text s (ap is_blank (sym same) ∙ g) t.symbol
+blank_no_token b rest (c ∷ text) after s g t e = let same : b ≡ c = cc (e) in blank_begins_no_symbol c text s
+    (ap is_blank (sym same) ∙ g) t.symbol
 
 -- no comment is a token
 comment_no_token : (x u y v : List ℕ) (s : Symbol) → IsComment x u → IsToken y v s → x ++ u ≡ y ++ v → ⊥
@@ -162,11 +169,41 @@ past_or_not : {place : ℕ} {bytes rest : List ℕ} {tokens : List Token} → Sc
 unfolding taken
 past_or_not (Stops place rest) = inl (refl, refl)
 past_or_not (Blank {bytes} {tokens} b g d) =
-    inr (record { text = b ∷ []; following = bytes; symbol = None; others = tokens; stands = ABlank b bytes g; parts = refl; first = refl; scan = d })
+    inr (record {
+      text = b ∷ [];
+      following = bytes;
+      symbol = None;
+      others = tokens;
+      stands = ABlank b bytes g;
+      parts = refl;
+      first =
+          refl;
+      scan = d;
+    })
 past_or_not (Comment {bytes} {tokens} text h d) =
-    inr (record { text = text; following = bytes; symbol = None; others = tokens; stands = AComment text bytes h; parts = refl; first = refl; scan = d })
+    inr (record {
+      text = text;
+      following = bytes;
+      symbol = None;
+      others = tokens;
+      stands = AComment text bytes h;
+      parts = refl;
+      first =
+          refl;
+      scan = d;
+    })
 past_or_not (Taken {bytes} {tokens} text s t d) =
-    inr (record { text = text; following = bytes; symbol = Some s; others = tokens; stands = AToken text bytes s t; parts = refl; first = refl; scan = d })
+    inr (record {
+      text = text;
+      following = bytes;
+      symbol = Some s;
+      others = tokens;
+      stands = AToken text bytes s t;
+      parts = refl;
+      first =
+          refl;
+      scan = d;
+    })
 
 -- of two scans of the same bytes, the second continues where the first stops
 pub record GoesFurther (tokens further : List Token) (rest end : List ℕ) : Type 0 where
@@ -219,7 +256,8 @@ scans_meet {other} {end} {others = us} (Blank {place} {bytes} {rest} {tokens} b 
 scans_meet {other} {end} {others = us} (Comment {place} {bytes} {rest} {tokens} text c s) d h =
     past_same place text bytes other rest end None tokens us (AComment text bytes c) (λ vs w. scans_meet s w refl) (Comment text c s) d h
 scans_meet {other} {end} {others = us} (Taken {place} {bytes} {rest} {tokens} text symbol t s) d h =
-    past_same place text bytes other rest end (Some symbol) tokens us (AToken text bytes symbol t) (λ vs w. scans_meet s w refl) (Taken text symbol t s) d h
+    past_same place text bytes other rest end (Some symbol) tokens us (AToken text bytes symbol t) (λ vs w. scans_meet s w refl)
+    (Taken text symbol t s) d h
 
 -- ---- one list of tokens
 
@@ -256,7 +294,8 @@ IsWithinBounds (symbols.Operator code) = Unit {0}
 IsWithinBounds (symbols.Sign b) = Unit {0}
 
 -- a token within its bounds is a symbol within its bounds
-pub bounded_symbol : (place : ℕ) (text : List ℕ) (s : Symbol) → symbol_of text ≡ Some s → IsTokenWithinBounds (token_at place text s) → IsWithinBounds s
+pub bounded_symbol : (place : ℕ) (text : List ℕ) (s : Symbol) → symbol_of text ≡ Some s → IsTokenWithinBounds (token_at place text s)
+    → IsWithinBounds s
 bounded_symbol place text (symbols.Name name) e w = rw (name_is_text text name e) w
 bounded_symbol place text (symbols.Word k) e w = tt
 bounded_symbol place text (symbols.Number n) e w = w
@@ -319,7 +358,8 @@ record StopsAt (source : List ℕ) (place : ℕ) (o : Option Symbol) : Type 0 wh
 
 -- tokens after a prefix are bounded if all are
 bounded_after : (front more whole : List Token) → whole ≡ front ++ more → All IsTokenWithinBounds whole → All IsTokenWithinBounds more
-bounded_after front more whole e w = rw (← drop-append_seam front more) (All-drop IsTokenWithinBounds (length front) (front ++ more) (rw e at w))
+bounded_after front more whole e w = rw (← drop-append_seam front more)
+    (All-drop IsTokenWithinBounds (length front) (front ++ more) (rw e at w))
 
 -- of two stops in one source, neither comes after the other
 same_bytes : (source : List ℕ) (p q : ℕ) (o o' : Option Symbol) → StopsAt source p o → StopsAt source q o' → drop p source ≡ drop q source
@@ -360,10 +400,17 @@ record IsOfStop (source : List ℕ) (f : LexicalFault) : Type 0 where
   pub fault : f ≡ fault_of place symbol
 
 -- the fault of a source is its length, or the fault of a stop
-by_length_or_stop : {source : List ℕ} {f : LexicalFault} → HasFault source f → ((f ≡ SourceTooLong) × (1048576 < length source)) ⊎ IsOfStop source f
+by_length_or_stop : {source : List ℕ} {f : LexicalFault} → HasFault source f → ((f ≡ SourceTooLong) × (1048576 < length source)) ⊎ IsOfStop
+    source f
 unfolding fault_of
 by_length_or_stop (IsTooLong h) = inl (refl, h)
-by_length_or_stop (HasBadByte place r n) = inr (record { place = place; symbol = None; stops = record { reached = r; stop = Nothing n }; fault = refl })
+by_length_or_stop (HasBadByte place r n) = inr (record {
+  place = place;
+  symbol = None;
+  stops =
+      record { reached = r; stop = Nothing n };
+  fault = refl;
+})
 by_length_or_stop (HasWideNumber place n r w h) = inr (record {
   place = place;
   symbol = Some (symbols.Number (pos n));
@@ -421,10 +468,12 @@ stands_in source (b ∷ text) rest place s e h = record {
 
 -- the bytes after a prefix
 pub after_front : (source text rest : List ℕ) (place : ℕ) → drop place source ≡ text ++ rest → drop (place + length text) source ≡ rest
-after_front source text rest place e = sym (drop-drop (length text) place source) ∙ ap (λ x. drop (length text) x) e ∙ drop-append_seam text rest
+after_front source text rest place e = sym (drop-drop (length text) place source) ∙ ap (λ x. drop (length text) x) e
+    ∙ drop-append_seam text rest
 
 -- each token of a scan is in the source
-all_stand_in : {place : ℕ} {bytes rest : List ℕ} {tokens : List Token} (source : List ℕ) → Scans place bytes tokens rest → drop place source ≡ bytes
+all_stand_in : {place : ℕ} {bytes rest : List ℕ} {tokens : List Token} (source : List ℕ) → Scans place bytes tokens rest
+    → drop place source ≡ bytes
     → All (StandsIn source) tokens
 all_stand_in source (Stops place rest) e = All-nil (StandsIn source)
 all_stand_in source (Blank {place} {bytes} b g d) e = all_stand_in source d (after_front source (b ∷ []) bytes place e)

@@ -1,5 +1,6 @@
 -- A program that some source spells can be written: each of its names, numbers and operators belongs to a symbol.
-use Rattle.std.proofs.Common.{◌≡◌, ◌∙◌, ap, sym, refl, subst, ℕ, zero, suc, ◌-◌, ◌<◌, ◌≤◌, ◌^◌, ◌≤ℤ◌, ℤ, pos, Bool, true, false, List, [], ◌∷◌, ◌++◌, ◌==◌, inl, inr, Option, Some, None, arith, cond, position, if◌then◌else◌, All, drop}
+use Rattle.std.proofs.Common.{◌≡◌, ◌∙◌, ap, sym, refl, subst, ℕ, zero, suc, ◌-◌, ◌<◌, ◌≤◌, ◌^◌, ◌≤ℤ◌, ℤ, pos, Bool, true, false, List, []}
+use Rattle.std.proofs.Common.{◌∷◌, ◌++◌, ◌==◌, inl, inr, Option, Some, None, arith, cond, position, if◌then◌else◌, All, drop}
 use Rattle.std.proofs.Math.IntN.{neg_ℤ}
 use Rattle.std.specs.List.{list_all}
 use Rattle.std.specs.Str.{bytes_eq}
@@ -10,12 +11,16 @@ use Rattle.pipe_model.specs.declared.symbol.Symbol.{Symbol}
 use Rattle.pipe_model.specs.declared.symbol.Symbol.TheVariants as symbols
 use Rattle.pipe_model.specs.declared.token.Token.{Token}
 use Rattle.pipe_model.specs.declared.tree.Declaration.{Declaration}
-use Rattle.grammar_laws.proofs.CanonicalSymbols.{IsName, IsNumeral, Numeral, IsDeclaredValue, Positive, Negative, IsWritable, IsWritableStatement, AreWritable, IsWritableSize, AreWritableCells, IsWritableProgram}
-use Rattle.pipe_model.specs.Language.Lexis.{is_letter, is_digit, is_name_byte, number_of, reserved_words, operators, is_sign, word_or_name, operator_or_sign, word_symbol, punctuation_symbol, symbol_of}
+use Rattle.grammar_laws.proofs.CanonicalSymbols.{IsName, IsNumeral, Numeral, IsDeclaredValue, Positive, Negative, IsWritable}
+use Rattle.grammar_laws.proofs.CanonicalSymbols.{IsWritableStatement, AreWritable, IsWritableSize, AreWritableCells, IsWritableProgram}
+use Rattle.pipe_model.specs.Language.Lexis.{is_letter, is_digit, is_name_byte, number_of, reserved_words, operators, is_sign, word_or_name}
+use Rattle.pipe_model.specs.Language.Lexis.{operator_or_sign, word_symbol, punctuation_symbol, symbol_of}
 use Rattle.pipe_model.specs.Language.SyntaxTree.{Expression, Or, And, Binary, binary_expression, Statement, Statements, SyntaxTree}
 use Rattle.pipe_model.specs.Language.Tokens.{Scans, Stops, Blank, Comment, Taken, IsTokenWithinBounds, token_at, symbols_in}
 use Rattle.pipe_model.specs.Language.Grammar as grammar
-use Rattle.pipe_model.specs.Language.Grammar.{any_expression, level_of, Derives, Piece, Single, FullExpression, flat, DerivesStatement, DerivesStatements, DerivesBlock, DerivesPart, DerivesSize, DerivesValue, DerivesCells, DerivesProgram}
+use Rattle.pipe_model.specs.Language.Grammar.{any_expression, level_of, Derives, Piece, Single, FullExpression, flat, DerivesStatement}
+use Rattle.pipe_model.specs.Language.Grammar.{DerivesStatements, DerivesBlock, DerivesPart, DerivesSize, DerivesValue, DerivesCells}
+use Rattle.pipe_model.specs.Language.Grammar.{DerivesProgram}
 use Rattle.grammar_laws.proofs.Pieces.{flat_append}
 use Rattle.grammar_laws.proofs.TokenLaws.{IsWithinBounds, after_front, bounded_symbol, name_is_text}
 use Rattle.grammar_laws.proofs.Writings.{IsWritingOf, token_is_symbol}
@@ -74,7 +79,10 @@ is_natural (b ∷ bs) z e = by_kind (is_letter b) (list_all is_name_byte bs) (is
         → (n : ℕ) × (z ≡ pos n)
     by_kind true true digit numbered h = no_word (position (λ word. bytes_eq word (b ∷ bs)) reserved_words) h
     by_kind true false digit numbered h = cc (h)
-    by_kind false named true true h = (number_of (b ∷ bs), (let same : symbols.Number (pos (number_of (b ∷ bs))) ≡ symbols.Number z = cc (h) in cc (same)))
+    by_kind false named true true h = (
+      number_of (b ∷ bs),
+      (let same : symbols.Number (pos (number_of (b ∷ bs))) ≡ symbols.Number z = cc (h) in cc (same)),
+    )
     by_kind false named true false h = cc (h)
     by_kind false named false numbered h = no_punctuation (position (λ operator. bytes_eq operator (b ∷ bs)) operators) (b ∷ bs) h
 
@@ -92,7 +100,8 @@ good_symbol text (symbols.Operator code) e w = tt
 good_symbol text (symbols.Sign b) e w = tt
 
 -- the symbols of a scan within the bounds are good
-good_scan : {place : ℕ} {bytes rest : List ℕ} {tokens : List Token} (source : List ℕ) → Scans place bytes tokens rest → drop place source ≡ bytes
+good_scan : {place : ℕ} {bytes rest : List ℕ} {tokens : List Token} (source : List ℕ) → Scans place bytes tokens rest
+    → drop place source ≡ bytes
     → All IsTokenWithinBounds tokens → AreGood (symbols_in source tokens)
 good_scan source (Stops place rest) e w = None'
 good_scan source (Blank {place} {bytes} b g d) e w = good_scan source d (after_front source (b ∷ []) bytes place e) w
@@ -125,7 +134,8 @@ code_range (suc (suc (suc (suc (suc (suc (suc (suc (suc (suc (suc (suc zero)))))
 code_range (suc (suc (suc (suc (suc (suc (suc (suc (suc (suc (suc (suc (suc zero))))))))))))) level e l = (omega arith, omega arith)
 code_range (suc (suc (suc (suc (suc (suc (suc (suc (suc (suc (suc (suc (suc (suc n)))))))))))))) level e l = absurd (omega (arith, e, l))
 
-joined_writable : (code : ℕ) (a b : Expression) → 1 ≤ code → code ≤ 13 → IsWritable a → IsWritable b → IsWritable (binary_expression code a b)
+joined_writable : (code : ℕ) (a b : Expression) → 1 ≤ code → code ≤ 13 → IsWritable a → IsWritable b
+    → IsWritable (binary_expression code a b)
 joined_writable code a b l h x y = by_code (code == 1) (code == 2) (λ e. grind (arith, nat_tests, e)) (λ e. grind (arith, nat_tests, e))
   where
     by_code : (p q : Bool) → (p ≡ false → 1 < code) → (q ≡ false → 1 < code → 2 < code)
@@ -169,8 +179,12 @@ mutual
       (first g, full i (front us _ (others (others g))), full d (front ts _ (others (others (back us _ (others (others g)))))))
   writable_statement (grammar.EmitIs {ts} d) g = full d (front ts _ (others g))
   writable_statement (grammar.IfIs {ts} {ps} {qs} d a b) g =
-      let following = others (back ts _ (others (others g))) in
-      (full d (front ts _ (others (others g))), writable_block a (pieces_front ps qs following), writable_part b (pieces_back ps qs following))
+      let following = others (back ts _ (others (others g))) in (
+        full d (front ts _ (others (others g))),
+        writable_block a (pieces_front ps qs following),
+        writable_part b
+            (pieces_back ps qs following),
+      )
   writable_statement (grammar.WhileIs {ts} {ps} d a) g =
       (full d (front ts _ (others (others g))), writable_block a (others (back ts _ (others (others g)))))
   writable_statement (grammar.WaitIs {ts} d) g = full d (front ts _ (others (others g)))
@@ -180,12 +194,14 @@ mutual
 
   writable_statements : {ps : List Piece} {ss : Statements} → DerivesStatements ps ss → AreGood (flat ps) → AreWritable ss
   writable_statements grammar.NoStatement g = tt
-  writable_statements (grammar.OneMore {ps} {qs} d ds) g = (writable_statement d (pieces_front ps qs g), writable_statements ds (pieces_back ps qs g))
+  writable_statements (grammar.OneMore {ps} {qs} d ds) g =
+      (writable_statement d (pieces_front ps qs g), writable_statements ds (pieces_back ps qs g))
 
   writable_block : {ps : List Piece} {ss : Statements} → DerivesBlock ps ss → AreGood (flat ps) → AreWritable ss
   writable_block (grammar.BlockIs {ps} d) g = writable_statements d (pieces_front ps _ (others g))
 
-  writable_part : {word : ℕ} {ps : List Piece} {ss : Statements} → DerivesPart (symbols.Word word) ps ss → AreGood (flat ps) → AreWritable ss
+  writable_part : {word : ℕ} {ps : List Piece} {ss : Statements} → DerivesPart (symbols.Word word) ps ss → AreGood (flat ps)
+      → AreWritable ss
   writable_part grammar.NoPart g = tt
   writable_part (grammar.PartIs d) g = writable_block d (others g)
 
@@ -242,7 +258,8 @@ program_of_good (grammar.ProgramIs {cs} {is} {bs} {ls} {ts} iterations stages st
     }
 
 -- a program that a source spells can be written
-pub writable_program : (source : List ℕ) (found : List Symbol) (ps : List Piece) (tree : SyntaxTree) → IsWritingOf source found → found ≡ flat ps
+pub writable_program : (source : List ℕ) (found : List Symbol) (ps : List Piece) (tree : SyntaxTree) → IsWritingOf source found
+    → found ≡ flat ps
     → DerivesProgram ps tree
     → IsWritableProgram tree
 writable_program source found ps tree s e d = program_of_good d (subst AreGood e (good_source source found s))

@@ -6,7 +6,8 @@ use Rattle.pipe_model.specs.declared.symbol.Symbol.{Symbol}
 use Rattle.pipe_model.specs.declared.symbol.Symbol.TheVariants as symbols
 use Rattle.pipe_model.specs.declared.token.Token.{Token}
 use Rattle.pipe_model.specs.Language.Lexis.{is_blank, symbol_of}
-use Rattle.pipe_model.specs.Language.Tokens.{Scans, Stops, Blank, Taken, IsToken, IsTokenWithinBounds, IsLexed, token_at, kind_of, symbol_as, symbol_in, symbols_in}
+use Rattle.pipe_model.specs.Language.Tokens.{Scans, Stops, Blank, Taken, IsToken, IsTokenWithinBounds, IsLexed, token_at, kind_of}
+use Rattle.pipe_model.specs.Language.Tokens.{symbol_as, symbol_in, symbols_in}
 use Rattle.grammar_laws.proofs.TokenLaws.{IsWithinBounds, after_front, name_is_text, symbol_of_kind}
 
 -- the tokens of the source are these symbols
@@ -23,7 +24,8 @@ pub data Writes : List ℕ → List Symbol → Type 0 where
       → Writes (text ++ rest) (s ∷ found)
 
 -- a symbol within its bounds is a token within its bounds
-bounded_token : (place : ℕ) (text : List ℕ) (s : Symbol) → symbol_of text ≡ Some s → IsWithinBounds s → IsTokenWithinBounds (token_at place text s)
+bounded_token : (place : ℕ) (text : List ℕ) (s : Symbol) → symbol_of text ≡ Some s → IsWithinBounds s
+    → IsTokenWithinBounds (token_at place text s)
 bounded_token place text (symbols.Name name) e w = rw (sym (name_is_text text name e)) w
 bounded_token place text (symbols.Word k) e w = tt
 bounded_token place text (symbols.Number n) e w = w
@@ -34,7 +36,8 @@ bounded_token place text (symbols.Sign b) e w = tt
 pub token_is_symbol : (source text rest : List ℕ) (place : ℕ) (s : Symbol) → drop place source ≡ text ++ rest → symbol_of text ≡ Some s
     → symbol_in source (token_at place text s) ≡ s
 token_is_symbol source text rest place s e h =
-    ap (λ x. symbol_as (kind_of s) (take (length text) x)) e ∙ ap (λ x. symbol_as (kind_of s) x) (take-append_seam text rest) ∙ symbol_of_kind text s h
+    ap (λ x. symbol_as (kind_of s) (take (length text) x)) e ∙ ap (λ x. symbol_as (kind_of s) x) (take-append_seam text rest)
+    ∙ symbol_of_kind text s h
 
 -- the tokens of what is written at an offset
 pub record WrittenTokens (source : List ℕ) (place : ℕ) (bytes : List ℕ) (found : List Symbol) : Type 0 where

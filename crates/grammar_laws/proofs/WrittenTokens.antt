@@ -1,5 +1,6 @@
 -- Texts that are one token each, with the bytes that may follow them.
-use Rattle.std.proofs.Common.{◌≡◌, ◌≢◌, ◌∙◌, ap, sym, refl, ℕ, zero, suc, ◌+◌, ◌-◌, ◌*◌, ◌/◌, ◌%◌, ◌<◌, ◌≤◌, ◌^◌, pos, Bool, true, false, List, [], ◌∷◌, ◌++◌, length, ◌==◌, ◌&&◌, Some, None, arith, codes, cond, position, length-append}
+use Rattle.std.proofs.Common.{◌≡◌, ◌≢◌, ◌∙◌, ap, sym, refl, ℕ, zero, suc, ◌+◌, ◌-◌, ◌*◌, ◌/◌, ◌%◌, ◌<◌, ◌≤◌, ◌^◌, pos, Bool, true, false}
+use Rattle.std.proofs.Common.{List, [], ◌∷◌, ◌++◌, length, ◌==◌, ◌&&◌, Some, None, arith, codes, cond, position, length-append}
 use Rattle.std.specs.Fmt.{decimal}
 use Rattle.std.specs.List.{list_all}
 use Rattle.std.proofs.lemmas.Bool.{and_parts, false≢true}
@@ -12,7 +13,8 @@ use Rattle.pipe_model.specs.declared.symbol.Symbol.TheVariants as symbols
 use Rattle.grammar_laws.proofs.CanonicalSymbols.{IsName}
 use Rattle.pipe_model.specs.Language.CanonicalText.{operator_text}
 use Rattle.std.specs.Str.{bytes_eq}
-use Rattle.pipe_model.specs.Language.Lexis.{operators, is_letter, is_digit, is_name_byte, number_of, symbol_of, word_symbol, punctuation_symbol}
+use Rattle.pipe_model.specs.Language.Lexis.{operators, is_letter, is_digit, is_name_byte, number_of, symbol_of, word_symbol}
+use Rattle.pipe_model.specs.Language.Lexis.{punctuation_symbol}
 use Rattle.pipe_model.specs.Language.Tokens.{begins_comment, IsToken}
 use Rattle.grammar_laws.proofs.TokenLaws.{no_name}
 
@@ -50,7 +52,8 @@ not_longer b bs c rest (d ∷ more) after s l n e some t =
     let none : None ≡ Some s = rw (l, fails) at t in cc (none)
 
 -- a word or a name, followed by a byte that cannot be part of one
-pub word_token : (text : List ℕ) (s : Symbol) (c : ℕ) (rest : List ℕ) → begins_letter text ≡ true → symbol_of text ≡ Some s → is_name_byte c ≡ false
+pub word_token : (text : List ℕ) (s : Symbol) (c : ℕ) (rest : List ℕ) → begins_letter text ≡ true → symbol_of text ≡ Some s
+    → is_name_byte c ≡ false
     → IsToken text (c ∷ rest) s
 word_token [] s c rest l t n = absurd (false≢true l)
 word_token (b ∷ bs) s c rest l t n = record {
@@ -72,7 +75,8 @@ name_begins (b ∷ bs) t = by_kind (is_letter b) (list_all is_name_byte bs) (is_
     by_kind true named digit numbered e = refl
     by_kind false named true true e = cc (e)
     by_kind false named true false e = cc (e)
-    by_kind false named false numbered e = absurd (no_name (position (λ operator. bytes_eq operator (b ∷ bs)) operators) (b ∷ bs) (b ∷ bs) e)
+    by_kind false named false numbered e = absurd (no_name (position (λ operator. bytes_eq operator (b ∷ bs)) operators) (b ∷ bs)
+        (b ∷ bs) e)
 
 pub name_token : (x : List ℕ) (c : ℕ) (rest : List ℕ) → IsName x → is_name_byte c ≡ false → IsToken x (c ∷ rest) (symbols.Name x)
 name_token x c rest h n = word_token x (symbols.Name x) c rest (name_begins x h.symbol) h.symbol n
@@ -130,7 +134,8 @@ no_longer_number b bs c rest (d ∷ more) after s l n e some t =
     let fails : list_all is_digit (bs ++ d ∷ more) ≡ false = front_fails is_digit bs d more (ap is_digit (sym same) ∙ n) in
     let none : None ≡ Some s = rw (digit_no_letter b l, l, fails) at t in cc (none)
 
-digits_token : (text : List ℕ) (n c : ℕ) (rest : List ℕ) → AreDigitsOf n text → is_digit c ≡ false → IsToken text (c ∷ rest) (symbols.Number (pos n))
+digits_token : (text : List ℕ) (n c : ℕ) (rest : List ℕ) → AreDigitsOf n text → is_digit c ≡ false
+    → IsToken text (c ∷ rest) (symbols.Number (pos n))
 digits_token [] n c rest h d = absurd (omega (arith, h.2))
 digits_token (b ∷ bs) n c rest h d =
     let parts = all_digits is_digit b bs h.0 in
@@ -207,10 +212,14 @@ operator_token (suc (suc zero)) rest l h = spaced_token (codes "&&") rest (symbo
 operator_token (suc (suc (suc zero))) rest l h = spaced_token (codes "==") rest (symbols.Operator 3) refl (λ more. refl) refl
 operator_token (suc (suc (suc (suc zero)))) rest l h = spaced_token (codes "!=") rest (symbols.Operator 4) refl (λ more. refl) refl
 operator_token (suc (suc (suc (suc (suc zero))))) rest l h = spaced_token (codes "<") rest (symbols.Operator 5) refl (λ more. refl) refl
-operator_token (suc (suc (suc (suc (suc (suc zero)))))) rest l h = spaced_token (codes "<=") rest (symbols.Operator 6) refl (λ more. refl) refl
-operator_token (suc (suc (suc (suc (suc (suc (suc zero))))))) rest l h = spaced_token (codes ">") rest (symbols.Operator 7) refl (λ more. refl) refl
-operator_token (suc (suc (suc (suc (suc (suc (suc (suc zero)))))))) rest l h = spaced_token (codes ">=") rest (symbols.Operator 8) refl (λ more. refl) refl
-operator_token (suc (suc (suc (suc (suc (suc (suc (suc (suc zero))))))))) rest l h = spaced_token (codes "+") rest (symbols.Operator 9) refl (λ more. refl) refl
+operator_token (suc (suc (suc (suc (suc (suc zero)))))) rest l h = spaced_token (codes "<=") rest (symbols.Operator 6) refl
+    (λ more. refl) refl
+operator_token (suc (suc (suc (suc (suc (suc (suc zero))))))) rest l h = spaced_token (codes ">") rest (symbols.Operator 7) refl
+    (λ more. refl) refl
+operator_token (suc (suc (suc (suc (suc (suc (suc (suc zero)))))))) rest l h = spaced_token (codes ">=") rest (symbols.Operator 8) refl
+    (λ more. refl) refl
+operator_token (suc (suc (suc (suc (suc (suc (suc (suc (suc zero))))))))) rest l h = spaced_token (codes "+") rest
+    (symbols.Operator 9) refl (λ more. refl) refl
 operator_token (suc (suc (suc (suc (suc (suc (suc (suc (suc (suc zero)))))))))) rest l h =
     spaced_token (codes "-") rest (symbols.Operator 10) refl (λ more. refl) refl
 operator_token (suc (suc (suc (suc (suc (suc (suc (suc (suc (suc (suc zero))))))))))) rest l h =

@@ -41,7 +41,8 @@ move Operand (symbols.Name name) = Takes (Index ∷ [])
 move Operand (symbols.Word word) = if is_call word then Takes (Sign signs.OPEN_ROUND ∷ Sign signs.CLOSE_ROUND ∷ []) else Refuses
 move Operand (symbols.Operator code) = if code == operator_codes.MINUS then Takes (Operand ∷ []) else Refuses
 move Operand (symbols.Sign b) =
-    if b == signs.OPEN_ROUND then Takes (Operand ∷ Tail ∷ Sign signs.CLOSE_ROUND ∷ []) else (if b == signs.EXCLAMATION then Takes (Operand ∷ []) else Refuses)
+    if b == signs.OPEN_ROUND then Takes (Operand ∷ Tail ∷ Sign signs.CLOSE_ROUND ∷ [])
+    else (if b == signs.EXCLAMATION then Takes (Operand ∷ []) else Refuses)
 move Index (symbols.Sign b) = if b == signs.OPEN_SQUARE then Takes (Operand ∷ Tail ∷ Sign signs.CLOSE_SQUARE ∷ []) else Skips
 move Index (symbols.Name name) = Skips
 move Index (symbols.Word word) = Skips

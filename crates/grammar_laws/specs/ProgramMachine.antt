@@ -1,6 +1,8 @@
--- A machine that reads programs one symbol at a time. Full expressions are read by the machine of expressions, and their symbols are counted.
+-- A machine that reads programs one symbol at a time. Full expressions are read by the machine of expressions, and their symbols are
+-- counted.
 -- The grammar defines programs; the machine defines at which symbol a reader must stop, and why. Laws in proofs/ relate the two.
-use Rattle.std.specs.Prelude.{◌≡◌, ℕ, suc, List, [], ◌∷◌, ◌++◌, Bool, true, false, ◌==◌, Option, Some, None, ◌&&◌, ◌||◌, if◌then◌else◌, nat_le, ℤ, pos, negsuc, length}
+use Rattle.std.specs.Prelude.{◌≡◌, ℕ, suc, List, [], ◌∷◌, ◌++◌, Bool, true, false, ◌==◌, Option, Some, None, ◌&&◌, ◌||◌, if◌then◌else◌}
+use Rattle.std.specs.Prelude.{nat_le, ℤ, pos, negsuc, length}
 use Rattle.pipe_model.specs.declared.operator_codes.TheConstants as operator_codes
 use Rattle.pipe_model.specs.declared.sign_bytes.TheConstants as signs
 use Rattle.pipe_model.specs.declared.word_codes.TheConstants as words
@@ -40,9 +42,11 @@ block = Sign signs.OPEN_BRACE ∷ Statements ∷ Sign signs.CLOSE_BRACE ∷ []
 abbrev pub statement_move : ℕ → Move
 statement_move word =
     if word == words.LET then Takes (AnyName ∷ Sign signs.EQUALS ∷ FullExpression ∷ Sign signs.SEMICOLON ∷ Statements ∷ [])
-    else (if word == words.IF then Takes (Sign signs.OPEN_ROUND ∷ FullExpression ∷ Sign signs.CLOSE_ROUND ∷ Sign signs.OPEN_BRACE ∷ Statements
+    else (if word == words.IF then Takes (Sign signs.OPEN_ROUND ∷ FullExpression ∷ Sign signs.CLOSE_ROUND ∷ Sign
+    signs.OPEN_BRACE ∷ Statements
     ∷ Sign signs.CLOSE_BRACE ∷ Part words.ELSE ∷ Statements ∷ [])
-    else (if word == words.WHILE then Takes (Sign signs.OPEN_ROUND ∷ FullExpression ∷ Sign signs.CLOSE_ROUND ∷ Sign signs.OPEN_BRACE ∷ Statements
+    else (if word == words.WHILE then Takes (Sign signs.OPEN_ROUND ∷ FullExpression ∷ Sign signs.CLOSE_ROUND ∷ Sign
+    signs.OPEN_BRACE ∷ Statements
     ∷ Sign signs.CLOSE_BRACE ∷ Statements ∷ [])
     else (if word == words.EMIT then Takes (FullExpression ∷ Sign signs.SEMICOLON ∷ Statements ∷ [])
     else (if (word == words.PIPE_WAIT) || (word == words.PIPE_CONTINUE) then Takes
@@ -104,7 +108,8 @@ move (Part word) (symbols.Name name) = Skips
 move (Part word) (symbols.Number n) = Skips
 move (Part word) (symbols.Operator code) = Skips
 move (Part word) (symbols.Sign b) = Skips
-move Cells (symbols.Word k) = if k == words.CELL then Takes (AnyName ∷ Size ∷ Sign signs.EQUALS ∷ Value ∷ Sign signs.SEMICOLON ∷ Cells ∷ []) else Skips
+move Cells (symbols.Word k) = if k == words.CELL then Takes
+    (AnyName ∷ Size ∷ Sign signs.EQUALS ∷ Value ∷ Sign signs.SEMICOLON ∷ Cells ∷ []) else Skips
 move Cells (symbols.Name name) = Skips
 move Cells (symbols.Number n) = Skips
 move Cells (symbols.Operator code) = Skips
@@ -214,7 +219,8 @@ abbrev pub program : List Want
 program =
     Word words.LIMITS ∷ Word words.ITERATIONS ∷ AnyNumber ∷ Sign signs.COMMA ∷ Word words.STAGES ∷ AnyNumber ∷ Sign signs.COMMA ∷ Word
     words.STEPS ∷ AnyNumber ∷ Sign signs.COMMA ∷ Word words.EMITS ∷ AnyNumber ∷ Sign signs.SEMICOLON
-    ∷ Cells ∷ Part words.INIT ∷ Word words.PIPE_WHILE ∷ Sign signs.OPEN_ROUND ∷ FullExpression ∷ Sign signs.CLOSE_ROUND ∷ Sign signs.OPEN_BRACE
+    ∷ Cells ∷ Part words.INIT ∷ Word words.PIPE_WHILE ∷ Sign signs.OPEN_ROUND ∷ FullExpression ∷ Sign signs.CLOSE_ROUND ∷ Sign
+    signs.OPEN_BRACE
     ∷ Statements ∷ Sign signs.CLOSE_BRACE ∷ Part words.FINAL ∷ []
 
 -- the machine rejects symbols at these wants with this verdict, whatever wants follow

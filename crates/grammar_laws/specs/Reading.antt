@@ -9,9 +9,13 @@ use Rattle.pipe_model.specs.declared.tree.StageKind.TheVariants as kinds
 use Rattle.pipe_model.specs.declared.symbol.Symbol.{Symbol}
 use Rattle.pipe_model.specs.declared.symbol.Symbol.TheVariants as symbols
 use Rattle.pipe_model.specs.declared.tree.Declaration.{Declaration}
-use Rattle.pipe_model.specs.Language.SyntaxTree.{Expression, Number, Name, Element, Unary, More, Take, Iter, binary_expression, Statement, Let, Assign, AssignElement, Emit, If, While, Stage, NextStage, Statements, Empty, Then, SyntaxTree}
+use Rattle.pipe_model.specs.Language.SyntaxTree.{Expression, Number, Name, Element, Unary, More, Take, Iter, binary_expression, Statement}
+use Rattle.pipe_model.specs.Language.SyntaxTree.{Let, Assign, AssignElement, Emit, If, While, Stage, NextStage, Statements, Empty, Then}
+use Rattle.pipe_model.specs.Language.SyntaxTree.{SyntaxTree}
 use Rattle.pipe_model.specs.Language.Grammar.{any_expression, operand_level, level_of, declaration, flat, limits_before}
-use Rattle.pipe_model.specs.Language.Words.{word_cell, word_pipe_while, word_pipe_wait, word_pipe_continue, word_let, word_if, word_while, word_emit, word_more, word_take, word_iter, minus, exclamation, open_round, close_round, semicolon, equals, open_square, close_square, open_brace, close_brace}
+use Rattle.pipe_model.specs.Language.Words.{word_cell, word_pipe_while, word_pipe_wait, word_pipe_continue, word_let, word_if, word_while}
+use Rattle.pipe_model.specs.Language.Words.{word_emit, word_more, word_take, word_iter, minus, exclamation, open_round, close_round}
+use Rattle.pipe_model.specs.Language.Words.{semicolon, equals, open_square, close_square, open_brace, close_brace}
 
 -- the level of the operator with which the symbols begin, 0 if there is none
 abbrev pub next_level : List Symbol → ℕ
@@ -44,7 +48,8 @@ mutual
   -- the symbols begin with an expression of the level, and the last list is left
   pub data Reads : ℕ → List Symbol → Expression → List Symbol → Type 0 where
     ReadsNumeral : (n : ℤ) (rest : List Symbol) → Reads operand_level (symbols.Number n ∷ rest) (Number n) rest
-    ReadsName : (name : List ℕ) (rest : List Symbol) → NoSign signs.OPEN_SQUARE rest → Reads operand_level (symbols.Name name ∷ rest) (Name name) rest
+    ReadsName : (name : List ℕ) (rest : List Symbol) → NoSign signs.OPEN_SQUARE rest → Reads operand_level (symbols.Name name ∷ rest)
+        (Name name) rest
     ReadsElement : {ts rest : List Symbol} {e : Expression} (name : List ℕ) → Reads any_expression ts e (close_square ∷ rest)
         → Reads operand_level (symbols.Name name ∷ open_square ∷ ts) (Element name e) rest
     ReadsMore : (rest : List Symbol) → Reads operand_level (word_more ∷ open_round ∷ close_round ∷ rest) More rest
@@ -54,8 +59,10 @@ mutual
         → Reads operand_level (minus ∷ ts) (Unary operator_codes.NEGATIVE e) rest
     ReadsNot : {ts rest : List Symbol} {e : Expression} → Reads operand_level ts e rest
         → Reads operand_level (exclamation ∷ ts) (Unary operator_codes.NOT e) rest
-    ReadsBracketed : {ts rest : List Symbol} {e : Expression} → Reads any_expression ts e (close_round ∷ rest) → Reads operand_level (open_round ∷ ts) e rest
-    ReadsChain : {level : ℕ} {ts mid rest : List Symbol} {a e : Expression} → Reads (suc level) ts a mid → Extends level a mid e rest → Reads level ts e rest
+    ReadsBracketed : {ts rest : List Symbol} {e : Expression} → Reads any_expression ts e (close_round ∷ rest)
+        → Reads operand_level (open_round ∷ ts) e rest
+    ReadsChain : {level : ℕ} {ts mid rest : List Symbol} {a e : Expression} → Reads (suc level) ts a mid → Extends level a mid e rest
+        → Reads level ts e rest
 
   -- operators of the level, each with its right operand, extend the expression as long as there are any
   pub data Extends : ℕ → Expression → List Symbol → Expression → List Symbol → Type 0 where
@@ -75,7 +82,8 @@ mutual
         → ReadsStatement longest (word_let ∷ symbols.Name name ∷ equals ∷ ts) (Let name e) rest
     ReadsAssign : {ts rest : List Symbol} {e : Expression} (name : List ℕ) → ReadsFull longest ts e (semicolon ∷ rest)
         → ReadsStatement longest (symbols.Name name ∷ equals ∷ ts) (Assign name e) rest
-    ReadsAssignElement : {us ts rest : List Symbol} {index e : Expression} (name : List ℕ) → ReadsFull longest us index (close_square ∷ equals ∷ ts)
+    ReadsAssignElement : {us ts rest : List Symbol} {index e : Expression} (name : List ℕ)
+        → ReadsFull longest us index (close_square ∷ equals ∷ ts)
         → ReadsFull longest ts e (semicolon ∷ rest)
         → ReadsStatement longest (symbols.Name name ∷ open_square ∷ us) (AssignElement name index e) rest
     ReadsEmit : {ts rest : List Symbol} {e : Expression} → ReadsFull longest ts e (semicolon ∷ rest)
@@ -98,12 +106,14 @@ mutual
   -- statements and the brace that closes them
   pub data ReadsStatements (longest : ℕ) : List Symbol → Statements → List Symbol → Type 0 where
     ReadsClose : (rest : List Symbol) → ReadsStatements longest (close_brace ∷ rest) Empty rest
-    ReadsOneMore : {ts mid rest : List Symbol} {s : Statement} {ss : Statements} → ReadsStatement longest ts s mid → ReadsStatements longest mid ss rest
+    ReadsOneMore : {ts mid rest : List Symbol} {s : Statement} {ss : Statements} → ReadsStatement longest ts s mid
+        → ReadsStatements longest mid ss rest
         → ReadsStatements longest ts (Then s ss) rest
 
   -- statements in braces
   pub data ReadsBlock (longest : ℕ) : List Symbol → Statements → List Symbol → Type 0 where
-    ReadsBraces : {ts rest : List Symbol} {ss : Statements} → ReadsStatements longest ts ss rest → ReadsBlock longest (open_brace ∷ ts) ss rest
+    ReadsBraces : {ts rest : List Symbol} {ss : Statements} → ReadsStatements longest ts ss rest
+        → ReadsBlock longest (open_brace ∷ ts) ss rest
 
   -- an optional part: its word and a block
   pub data ReadsPart (longest : ℕ) : ℕ → List Symbol → Statements → List Symbol → Type 0 where
@@ -134,8 +144,10 @@ pub data ReadsCells : List Symbol → List Declaration → List Symbol → Type 
 
 -- a program, with no symbols after it
 pub data ReadsProgram (longest : ℕ) : List Symbol → SyntaxTree → Type 0 where
-  ReadsAll : {cs is ts us vs : List Symbol} {cells : List Declaration} {init body last : Statements} {test : Expression} (iterations stages steps emits : ℤ)
-      → ReadsCells cs cells is → ReadsPart longest words.INIT is init (word_pipe_while ∷ open_round ∷ ts) → ReadsFull longest ts test (close_round ∷ us)
+  ReadsAll : {cs is ts us vs : List Symbol} {cells : List Declaration} {init body last : Statements} {test : Expression}
+      (iterations stages steps emits : ℤ)
+      → ReadsCells cs cells is → ReadsPart longest words.INIT is init (word_pipe_while ∷ open_round ∷ ts)
+      → ReadsFull longest ts test (close_round ∷ us)
       → ReadsBlock longest us body vs → ReadsPart longest words.FINAL vs last []
       → ReadsProgram longest (flat (limits_before iterations stages steps emits []) ++ cs)
       (record {

@@ -16,8 +16,10 @@ SourcesSpellOneProgram = (source : List ℕ) (tree other : SyntaxTree) → Sourc
 -- symbols have at most one first fault
 abbrev pub SymbolsHaveOneFirstFault : Type 0
 SymbolsHaveOneFirstFault =
-    (symbols : List Symbol) (rule other : GrammarRule) (k m : ℕ) → FirstFault symbols rule k → FirstFault symbols other m → (k ≡ m) × (rule ≡ other)
+    (symbols : List Symbol) (rule other : GrammarRule) (k m : ℕ) → FirstFault symbols rule k → FirstFault symbols other m
+    → (k ≡ m) × (rule ≡ other)
 
 -- symbols that spell a program have no fault
 abbrev pub ProgramsHaveNoFault : Type 0
-ProgramsHaveNoFault = (symbols : List Symbol) (tree : SyntaxTree) (rule : GrammarRule) (k : ℕ) → Spells symbols tree → FirstFault symbols rule k → ⊥
+ProgramsHaveNoFault = (symbols : List Symbol) (tree : SyntaxTree) (rule : GrammarRule) (k : ℕ) → Spells symbols tree
+    → FirstFault symbols rule k → ⊥

@@ -5,7 +5,8 @@ use Rattle.pipe_model.specs.Language.Tokens.{HasFault, HasTokens, IsLexed, Lexic
 
 -- a source has at most one list of tokens
 abbrev pub SourcesHaveOneListOfTokens : Type 0
-SourcesHaveOneListOfTokens = (source : List ℕ) (tokens others : List Token) → HasTokens source tokens → HasTokens source others → tokens ≡ others
+SourcesHaveOneListOfTokens = (source : List ℕ) (tokens others : List Token) → HasTokens source tokens → HasTokens source others
+    → tokens ≡ others
 
 -- a source has at most one fault
 abbrev pub SourcesHaveOneFault : Type 0
@@ -13,7 +14,8 @@ SourcesHaveOneFault = (source : List ℕ) (fault other : LexicalFault) → HasFa
 
 -- a source with tokens within the bounds has no fault
 abbrev pub SourcesWithTokensHaveNoFault : Type 0
-SourcesWithTokensHaveNoFault = (source : List ℕ) (tokens : List Token) (fault : LexicalFault) → IsLexed source tokens → HasFault source fault → ⊥
+SourcesWithTokensHaveNoFault = (source : List ℕ) (tokens : List Token) (fault : LexicalFault) → IsLexed source tokens
+    → HasFault source fault → ⊥
 
 -- each token of a source is in it, and its text there is that of its symbol
 abbrev pub TokensStandInTheirSource : Type 0

@@ -1,6 +1,7 @@
 //! Laws of spelling, by symbols and by sources.
 
-ghost use Rattle.grammar_laws.specs.SpellingLaws.{SymbolsSpellOneProgram, SourcesSpellOneProgram, SymbolsHaveOneFirstFault, ProgramsHaveNoFault};
+ghost use Rattle.grammar_laws.specs.SpellingLaws.{SymbolsSpellOneProgram, SourcesSpellOneProgram, SymbolsHaveOneFirstFault};
+ghost use Rattle.grammar_laws.specs.SpellingLaws.{ProgramsHaveNoFault};
 
 /// Symbols spell at most one program.
 pub fn symbols_spell_one_program()

@@ -1,6 +1,7 @@
 //! Laws of tokens and of lexical faults.
 
-ghost use Rattle.grammar_laws.specs.TokenLaws.{SourcesHaveOneListOfTokens, SourcesHaveOneFault, SourcesWithTokensHaveNoFault, TokensStandInTheirSource};
+ghost use Rattle.grammar_laws.specs.TokenLaws.{SourcesHaveOneListOfTokens, SourcesHaveOneFault, SourcesWithTokensHaveNoFault};
+ghost use Rattle.grammar_laws.specs.TokenLaws.{TokensStandInTheirSource};
 
 /// A source has at most one list of tokens, with their kinds, offsets and lengths.
 pub fn sources_have_one_list_of_tokens()

@@ -26,7 +26,8 @@ use Rattle.hall_headline.specs.HallEnds.{HallEndsAccessTheirCells, HallEndsAreRu
 use Rattle.hall_headline.proofs.HallEnds.{hall_ends_are_closed, has_shard, log_is, log_past, width}
 
 pub hall_ends_are_runs : HallEndsAreRuns
-hall_ends_are_runs before b shards events h none merged = closed_halls_are_runs b before (logs_of shards) events (hall_ends_are_closed before b shards h) none merged
+hall_ends_are_runs before b shards events h none merged = closed_halls_are_runs b before (logs_of shards) events
+    (hall_ends_are_closed before b shards h) none merged
 
 -- ---- the program's cells
 
@@ -57,12 +58,14 @@ module _ (before : List CellAccess) (b : BookState) (shards : List ShardValue) (
 
   merge_inside : (events : List Event) → AreMerged b.log (logs_of shards) events → All (IsInside cells) events
   merge_inside events merged =
-      subst (All (IsInside cells)) (sym merged.are) (All-map (IsInside cells) event_of merged.entries (λ n d l. by_entry (get_or merged.entries n d) (among_at merged.entries n d l)))
+      subst (All (IsInside cells)) (sym merged.are) (All-map (IsInside cells) event_of merged.entries
+      (λ n d l. by_entry (get_or merged.entries n d) (among_at merged.entries n d l)))
     where
       by_entry : (x : LogEntry) → Among x merged.entries → IsInside cells (event_of x)
       by_entry (OfBook e) m =
           event_inside e.event
-          (control_has_no_access h.book.control e.event (among_events e b.log (subst (λ l. Among e l) merged.merge.book_is (in_book merged.entries e m))))
+          (control_has_no_access h.book.control e.event (among_events e b.log
+          (subst (λ l. Among e l) merged.merge.book_is (in_book merged.entries e m))))
       by_entry (OfShard k e) m = entry_inside k e (subst (λ l. Among e l) (merged.merge.shard_is k) (among_shard merged.entries k e m))
 
 pub hall_ends_access_their_cells : HallEndsAccessTheirCells

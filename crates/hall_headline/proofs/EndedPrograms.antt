@@ -26,11 +26,15 @@ hall_ends_report_their_races before b shards log h none =
       cells = found.apart;
       instances = (merged_halls_report_their_races b (logs_of shards) log (history_of shards) (found_by shards) [] merged noted found).0;
       reports = λ reports gathered.
-          (merged_halls_report_their_races b (logs_of shards) log (history_of shards) (found_by shards) reports merged noted found).1 gathered.each gathered.rise;
+          (merged_halls_report_their_races b (logs_of shards) log (history_of shards) (found_by shards) reports merged noted found).1
+          gathered.each gathered.rise;
     }
 
 pub finished_hall_ends_meet_the_headline : FinishedHallEndsMeetTheHeadline
 finished_hall_ends_meet_the_headline before b shards log reports races rules h finished gathered =
     let none = finished_books_have_no_token_out b h.end.book finished in
-    let reported = (hall_ends_report_their_races before b shards log h none).reports reports gathered in
-    (reported, finished_halls_meet_the_headline b (logs_of shards) log reports races rules (hall_ends_are_merged before b shards log h none) finished reported.right)
+    let reported = (hall_ends_report_their_races before b shards log h none).reports reports gathered in (
+      reported,
+      finished_halls_meet_the_headline b (logs_of shards) log reports races rules
+          (hall_ends_are_merged before b shards log h none) finished reported.right,
+    )

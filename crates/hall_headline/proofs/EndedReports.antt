@@ -1,5 +1,6 @@
 -- The histories of a hall that has ended, and what they have found.
-use Rattle.std.proofs.Common.{◌≡◌, ◌∙◌, refl, sym, ap, subst, ℕ, ◌+◌, ◌*◌, ◌<◌, ◌%◌, ◌/◌, List, [], ◌∷◌, ◌++◌, length, map, arith, suc, Option, Some, None}
+use Rattle.std.proofs.Common.{◌≡◌, ◌∙◌, refl, sym, ap, subst, ℕ, ◌+◌, ◌*◌, ◌<◌, ◌%◌, ◌/◌, List, [], ◌∷◌, ◌++◌, length, map, arith, suc}
+use Rattle.std.proofs.Common.{Option, Some, None}
 use Rattle.access_history.specs.declared.history.History.{History}
 use Rattle.race_detection.specs.NotedRuns.{found_of as race_of}
 use Rattle.std.specs.Prelude.{slice_index_or}
@@ -26,7 +27,8 @@ use Rattle.hall_headline.proofs.HallEnds.{has_shard, log_is, width}
 pub hall_ends_have_histories : HallEndsHaveHistories
 hall_ends_have_histories before b shards h = record { each = each }
   where
-    each : (c : ℕ) → IsHistoryAfter (down_place (starts_of_book b)) (right_place (columns_of_book b) (starts_of_book b)) (entries_to (logs_of shards) c) (history_of shards c)
+    each : (c : ℕ) → IsHistoryAfter (down_place (starts_of_book b)) (right_place (columns_of_book b) (starts_of_book b))
+        (entries_to (logs_of shards) c) (history_of shards c)
     each c =
         let k = c % 16 in
         let slot = c / 16 in
@@ -36,7 +38,8 @@ hall_ends_have_histories before b shards h = record { each = each }
         let noted : noted_to (k + 16 * slot) log ≡ entries_to (logs_of shards) c =
         ap (λ n. noted_to n log) cell ∙ ap (noted_to c) (sym (log_is before b shards h k less))
         ∙ ap (λ n. noted_to c (shard_at (logs_of shards) (c % n))) (sym (width before b shards h)) in
-        subst (λ l. IsHistoryAfter (down_place (starts_of_book b)) (right_place (columns_of_book b) (starts_of_book b)) l (history_of shards c)) noted
+        subst (λ l. IsHistoryAfter (down_place (starts_of_book b)) (right_place (columns_of_book b) (starts_of_book b)) l
+        (history_of shards c)) noted
         (h.ended.histories k less slot)
 
 -- ---- what was found
@@ -75,4 +78,5 @@ hall_ends_find_all before b shards h =
         ∙ (ap (λ n. found_in_slots 16 n 0 x.histories) (has_shard before b shards h k less).shard.number ∙ slots_are 16 k 0 x.histories) in
         subst (λ n. AreFoundInShard n k (history_of shards) (slice_index_or founds k [])) (sym wide)
         (subst (AreFoundInShard 16 k (history_of shards)) (sym here)
-        (slots_are_found 16 k x.histories (history_of shards) less (λ c own. ap (λ m. history_at (shard_in shards m).histories (c / 16)) own)))
+        (slots_are_found 16 k x.histories (history_of shards) less
+        (λ c own. ap (λ m. history_at (shard_in shards m).histories (c / 16)) own)))

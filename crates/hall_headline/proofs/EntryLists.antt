@@ -1,5 +1,6 @@
 -- The entries of instances and of shards, and the replies to reads, as `pipe_hall` and `hall_laws` state them.
-use Rattle.std.proofs.Common.{◌≡◌, refl, sym, ap, subst, ℕ, ◌%◌, List, [], ◌∷◌, ◌++◌, map, Bool, true, false, ◌==◌, cond, filter, append-nil, append_assoc, if◌then◌else◌}
+use Rattle.std.proofs.Common.{◌≡◌, refl, sym, ap, subst, ℕ, ◌%◌, List, [], ◌∷◌, ◌++◌, map, Bool, true, false, ◌==◌, cond, filter}
+use Rattle.std.proofs.Common.{append-nil, append_assoc, if◌then◌else◌}
 use Rattle.pipe_model.specs.declared.access.Access.{Access}
 use Rattle.pipe_model.specs.declared.node.NodeId.{NodeId}
 use Rattle.pipe_model.specs.declared.ticket.Entry.{Entry}
@@ -13,7 +14,8 @@ entries_of_instance_are x [] = refl
 entries_of_instance_are x (e ∷ log) = by_test (is_same_node e.node x) (entries_of_instance_are x log)
   where
     by_test : (b : Bool) → entries_of_instance x log ≡ of_node x.iteration x.index log
-        → map entry_in_trace (cond b (e ∷ filter (λ (d : ShardEntry). is_same_node d.node x) log) (filter (λ (d : ShardEntry). is_same_node d.node x) log))
+        → map entry_in_trace (cond b (e ∷ filter (λ (d : ShardEntry). is_same_node d.node x) log)
+        (filter (λ (d : ShardEntry). is_same_node d.node x) log))
         ≡ (if b then entry_in_trace e ∷ of_node x.iteration x.index log else of_node x.iteration x.index log)
     by_test true h = ap (λ l. entry_in_trace e ∷ l) h
     by_test false h = h
@@ -29,7 +31,8 @@ entries_of_shard_are k (t ∷ trace) = by_test (t.access.cell.0 % 16 == k) (entr
 
 -- if each access of a log has its reply after those before it, the reads are right
 pub reads_are_right : (store : InitialStore) (before : List Access) (log : List ShardEntry)
-    → ((earlier rest : List ShardEntry) (e : ShardEntry) → log ≡ earlier ++ e ∷ rest → HasReply store (before ++ accesses_of earlier) e.access)
+    → ((earlier rest : List ShardEntry) (e : ShardEntry) → log ≡ earlier ++ e ∷ rest → HasReply store
+    (before ++ accesses_of earlier) e.access)
     → ReadsAreRight store before log
 reads_are_right store before [] h = tt
 reads_are_right store before (e ∷ log) h = (

@@ -1,7 +1,8 @@
 -- A hall that has ended is a closed hall.
 use mathlib.Core.Logic.{dite}
 use native.Mathlib.Decide.{ℕ_discrete}
-use Rattle.std.proofs.Common.{◌≡◌, ◌∙◌, refl, sym, ap, subst, ℕ, suc, ◌<◌, ◌≤◌, List, [], length, get_or, All, Option, Some, None, arith, inl, inr, cond, ne_eqb}
+use Rattle.std.proofs.Common.{◌≡◌, ◌∙◌, refl, sym, ap, subst, ℕ, suc, ◌<◌, ◌≤◌, List, [], length, get_or, All, Option, Some, None, arith}
+use Rattle.std.proofs.Common.{inl, inr, cond, ne_eqb}
 use Rattle.std.proofs.lemmas.Bool.{cases_lt}
 use Rattle.std.proofs.lemmas.List.{get_or-map, get_or_default, get_or_past, length-map}
 use Rattle.pipe_model.specs.declared.access.Access.{Access}
@@ -38,7 +39,8 @@ trace_by_book b seats h x not_out = by_seat (seats x.iteration) refl
         let r = h.run x.iteration d e in
         let token = r.1.out.token in
         let nodes : length (nodes_at (own_columns (state_of b)) d.fields.iteration) ≡ suc x.index =
-        ap length (nodes_at_frame (state_of b).frames d.fields.iteration token.running.frame token.running.is) ∙ token.index ∙ ap suc same in
+        ap length (nodes_at_frame (state_of b).frames d.fields.iteration token.running.frame token.running.is) ∙ token.index
+        ∙ ap suc same in
         record {
           out = subst (IsOut b) r.0 r.1.out.out;
           last = subst (λ i. length (nodes_at (own_columns (state_of b)) i) ≡ suc x.index) r.0 nodes;
@@ -74,8 +76,10 @@ module _ (before : List Access) (b : BookState) (shards : List ShardValue) (h : 
   traces : (x : NodeId) (k : ℕ) → k < 16 → (IsOutInstance b x → ⊥)
       → entries_of_instance x (shard_at (logs_of shards) k) ≡ entries_of_shard 16 k (trace_of b x)
   traces x k l not_out =
-      ap (entries_of_instance x) (log_is k l) ∙ entries_of_instance_are x (shard_in shards k).log ∙ (has_shard k l).traces x.iteration x.index
-      ∙ ap (of_shard k) (trace_by_book b h.ended.closed.seats h.ended.closed.has_seats x not_out) ∙ sym (entries_of_shard_are k (trace_of b x))
+      ap (entries_of_instance x) (log_is k l) ∙ entries_of_instance_are x (shard_in shards k).log
+      ∙ (has_shard k l).traces x.iteration x.index
+      ∙ ap (of_shard k) (trace_by_book b h.ended.closed.seats h.ended.closed.has_seats x not_out)
+      ∙ sym (entries_of_shard_are k (trace_of b x))
 
   reads : (k : ℕ) → k < 16 → ReadsAreRight (store_of (tree_of b.program)) before (shard_at (logs_of shards) k)
   reads k l = subst (ReadsAreRight (store_of (tree_of b.program)) before) (sym (log_is k l))
@@ -95,7 +99,8 @@ module _ (before : List Access) (b : BookState) (shards : List ShardValue) (h : 
           from_start = λ i k x m. (seats.timely i k).from_start x m;
           to_end = λ i k x end m e. (seats.timely i k).to_end x end m e;
         };
-        reads = λ k d l. subst (ReadsAreRight (store_of (tree_of b.program)) before) (get_or_default (logs_of shards) k [] d l) (reads k (omega (arith, l, w)));
+        reads = λ k d l. subst (ReadsAreRight (store_of (tree_of b.program)) before) (get_or_default (logs_of shards) k [] d l)
+            (reads k (omega (arith, l, w)));
       }
 
   -- the ticket of `Stop`, by the list of the logs
@@ -107,7 +112,12 @@ module _ (before : List Access) (b : BookState) (shards : List ShardValue) (h : 
       (λ n f m. h.stop stopped k less (get_or (shard_in shards k).log n f) (among_at (shard_in shards k).log n f m))
 
 pub hall_ends_are_closed : HallEndsAreClosed
-hall_ends_are_closed before b shards h = record { book = h.book; logs = shard_logs before b shards h; stop = stop_is_last before b shards h }
+hall_ends_are_closed before b shards h = record {
+  book = h.book;
+  logs = shard_logs before b shards h;
+  stop =
+      stop_is_last before b shards h;
+}
 
 pub logs_of_hall_ends_can_be_merged : LogsOfHallEndsCanBeMerged
 logs_of_hall_ends_can_be_merged before b shards h = logs_can_be_merged b before (logs_of shards) (shard_logs before b shards h)

@@ -63,7 +63,8 @@ HallEndsReportTheirRaces =
 abbrev pub FinishedHallEndsMeetTheHeadline : Type 0
 FinishedHallEndsMeetTheHeadline =
     (before : List Access) (b : BookState) (shards : List ShardValue) (log : RunLog) (reports : List Report) (races : List ℕ)
-    → BreaksNoRule (tree_of b.program) → IsProgramEnd before b shards log → IsFinished (state_of b) → AreGathered log (found_by shards) reports
+    → BreaksNoRule (tree_of b.program) → IsProgramEnd before b shards log → IsFinished (state_of b)
+    → AreGathered log (found_by shards) reports
     → AreReportsOf log.events reports
     × MeetsProgramHeadline (whole_in b) b.limit log reports races (exit_status reports (run_trap (whole_in b) (state_after log.events)))
     (printed_text reports races (run_output (whole_in b) (state_after log.events)) (run_trap (whole_in b) (state_after log.events)))

@@ -50,12 +50,14 @@ pub record IsHallEnd (before : List Access) (b : BookState) (shards : List Shard
 -- ---- the logs
 
 abbrev pub HallEndsAreClosed : Type 0
-HallEndsAreClosed = (before : List Access) (b : BookState) (shards : List ShardValue) → IsHallEnd before b shards → ClosedHall b before (logs_of shards)
+HallEndsAreClosed = (before : List Access) (b : BookState) (shards : List ShardValue) → IsHallEnd before b shards
+    → ClosedHall b before (logs_of shards)
 
 -- tickets rise in the logs, as `merge` requires
 abbrev pub LogsOfHallEndsCanBeMerged : Type 0
 LogsOfHallEndsCanBeMerged =
-    (before : List Access) (b : BookState) (shards : List ShardValue) → IsHallEnd before b shards → BookRises b.log × All ShardRises (logs_of shards)
+    (before : List Access) (b : BookState) (shards : List ShardValue) → IsHallEnd before b shards
+    → BookRises b.log × All ShardRises (logs_of shards)
 
 -- if no token is out, the merge of the logs is a run of the program
 abbrev pub HallEndsAreRuns : Type 0
@@ -87,9 +89,11 @@ HallEndsHaveCellsOfRuns =
 -- the history of each cell has noted the accesses to it
 abbrev pub HallEndsHaveHistories : Type 0
 HallEndsHaveHistories =
-    (before : List Access) (b : BookState) (shards : List ShardValue) → IsHallEnd before b shards → HaveNotedEntries b (logs_of shards) (history_of shards)
+    (before : List Access) (b : BookState) (shards : List ShardValue) → IsHallEnd before b shards
+    → HaveNotedEntries b (logs_of shards) (history_of shards)
 
 -- what the shards have found is what the histories report, each cell once
 abbrev pub HallEndsFindAll : Type 0
 HallEndsFindAll =
-    (before : List Access) (b : BookState) (shards : List ShardValue) → IsHallEnd before b shards → AreFound (history_of shards) (found_by shards)
+    (before : List Access) (b : BookState) (shards : List ShardValue) → IsHallEnd before b shards
+    → AreFound (history_of shards) (found_by shards)

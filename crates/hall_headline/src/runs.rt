@@ -1,6 +1,7 @@
 //! The merge of the logs of a hall that has ended is a run.
 
-ghost use Rattle.hall_headline.specs.HallEnds.{HallEndsAccessTheirCells, HallEndsAreClosed, HallEndsAreRuns, HallEndsHaveCellsOfRuns, LogsOfHallEndsCanBeMerged};
+ghost use Rattle.hall_headline.specs.HallEnds.{HallEndsAccessTheirCells, HallEndsAreClosed, HallEndsAreRuns, HallEndsHaveCellsOfRuns};
+ghost use Rattle.hall_headline.specs.HallEnds.{LogsOfHallEndsCanBeMerged};
 
 /// A hall that has ended is a closed hall.
 pub fn hall_ends_are_closed()

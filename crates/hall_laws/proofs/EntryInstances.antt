@@ -23,12 +23,15 @@ ticket_kept : (j t : ℕ) → Among t (if_ticket (j == j) t)
 ticket_kept j t = subst (λ b. Among t (if_ticket b t)) (sym (eq-eqb j j refl)) Here
 
 -- the ticket of an entry of the book is among all tickets
-start_among : (i : ℕ) (log : List BookEntry) (b : BookEntry) (t : ℕ) → Among b log → Among t (start_ticket i b.event b.ticket) → Among t (start_tickets i log)
+start_among : (i : ℕ) (log : List BookEntry) (b : BookEntry) (t : ℕ) → Among b log → Among t (start_ticket i b.event b.ticket)
+    → Among t (start_tickets i log)
 start_among i [] b t m s = absurd (none_among b m)
 start_among i (d ∷ log) b t Here s = among_left t (start_ticket i d.event d.ticket) (start_tickets i log) s
-start_among i (d ∷ log) b t (Later z m) s = among_right t (start_ticket i d.event d.ticket) (start_tickets i log) (start_among i log b t m s)
+start_among i (d ∷ log) b t (Later z m) s = among_right t (start_ticket i d.event d.ticket) (start_tickets i log)
+    (start_among i log b t m s)
 
-end_among : (i : ℕ) (log : List BookEntry) (b : BookEntry) (t : ℕ) → Among b log → Among t (end_ticket i b.event b.ticket) → Among t (end_tickets i log)
+end_among : (i : ℕ) (log : List BookEntry) (b : BookEntry) (t : ℕ) → Among b log → Among t (end_ticket i b.event b.ticket)
+    → Among t (end_tickets i log)
 end_among i [] b t m s = absurd (none_among b m)
 end_among i (d ∷ log) b t Here s = among_left t (end_ticket i d.event d.ticket) (end_tickets i log) s
 end_among i (d ∷ log) b t (Later z m) s = among_right t (end_ticket i d.event d.ticket) (end_tickets i log) (end_among i log b t m s)
@@ -44,7 +47,8 @@ module _ (log : List BookEntry) (b : BookEntry) (there : Among b log) where
   of_event (Begin i) is silent other = started i (subst (λ x. Among b.ticket (start_ticket i x b.ticket)) (sym is) (ticket_kept i b.ticket))
   of_event (Enter i) is silent other = started i (subst (λ x. Among b.ticket (start_ticket i x b.ticket)) (sym is) (ticket_kept i b.ticket))
   of_event (Access i a) is silent other = absurd (false≢true (sym silent))
-  of_event (Advance i k n) is silent other = ended i (subst (λ x. Among b.ticket (end_ticket i x b.ticket)) (sym is) (ticket_kept i b.ticket))
+  of_event (Advance i k n) is silent other = ended i
+      (subst (λ x. Among b.ticket (end_ticket i x b.ticket)) (sym is) (ticket_kept i b.ticket))
   of_event (Finish i e) is silent other = ended i (subst (λ x. Among b.ticket (end_ticket i x b.ticket)) (sym is) (ticket_kept i b.ticket))
   of_event Stop is silent other = absurd (other refl)
 

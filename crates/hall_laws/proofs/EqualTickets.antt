@@ -38,7 +38,8 @@ module _ (v : BookState) (before : List Cell_access) (shards : List (List ShardE
   -- an access of an instance is among all accesses of the instance
   access_in : (k : ℕ) (e : ShardEntry) (n : NodeId) → Among e (shard_at shards k) → e.node ≡ n
       → Among (timed e.ticket (Accessed e.access)) (made v.traces n.iteration n.index)
-  access_in k e n m is = subst (λ (x : NodeId). Among (timed e.ticket (Accessed e.access)) (made v.traces x.iteration x.index)) is (closed.in_trace k e m)
+  access_in k e n m is = subst (λ (x : NodeId). Among (timed e.ticket (Accessed e.access)) (made v.traces x.iteration x.index)) is
+      (closed.in_trace k e m)
 
   -- an event and an access of one instance have different tickets
   event_apart : (b : BookEntry) (k : ℕ) (e : ShardEntry) (n : NodeId) → Among e (shard_at shards k) → e.node ≡ n → b.ticket ≡ e.ticket
@@ -53,18 +54,21 @@ module _ (v : BookState) (before : List Cell_access) (shards : List (List ShardE
       omega (arith, less, same)
 
   -- so have two accesses of different shards
-  accesses_apart : (j k : ℕ) (d e : ShardEntry) (n : NodeId) → Among d (shard_at shards j) → Among e (shard_at shards k) → d.node ≡ n → e.node ≡ n
+  accesses_apart : (j k : ℕ) (d e : ShardEntry) (n : NodeId) → Among d (shard_at shards j) → Among e (shard_at shards k) → d.node ≡ n
+      → e.node ≡ n
       → d.ticket ≡ e.ticket → j ≡ k
   accesses_apart j k d e n m o di ei same =
       let one : timed d.ticket (Accessed d.access) ≡ timed e.ticket (Accessed e.access) =
-      same_ticket (made v.traces n.iteration n.index) (timed d.ticket (Accessed d.access)) (timed e.ticket (Accessed e.access)) (closed.order.rise n.iteration n.index)
+      same_ticket (made v.traces n.iteration n.index) (timed d.ticket (Accessed d.access)) (timed e.ticket (Accessed e.access))
+      (closed.order.rise n.iteration n.index)
       (access_in j d n m di) (access_in k e n o ei) same in
       let actions : Accessed d.access ≡ Accessed e.access = ap (λ (x : TimedAction). x.action) one in
       let access : d.access ≡ e.access = cc in
       sym (closed.cells j d m) ∙ ap (λ (a : Cell_access). a.cell.0 % length shards) access ∙ closed.cells k e o
 
   instances_apart : (x y : LogEntry) (n : NodeId) → rank_of x < rank_of y → ticket_of x ≡ ticket_of y
-      → ((k : ℕ) (e : ShardEntry) → x ≡ OfShard k e → Among e (shard_at shards k)) → ((k : ℕ) (e : ShardEntry) → y ≡ OfShard k e → Among e (shard_at shards k))
+      → ((k : ℕ) (e : ShardEntry) → x ≡ OfShard k e → Among e (shard_at shards k))
+      → ((k : ℕ) (e : ShardEntry) → y ≡ OfShard k e → Among e (shard_at shards k))
       → IsOfInstance v.log n x → IsOfInstance v.log n y → ⊥
   instances_apart x (OfBook b) n less same xs ys p q = omega (arith, less)
   instances_apart (OfBook a) (OfShard k e) n less same xs ys p (AccessesIt _ _ is) = event_apart a k e n (ys k e refl) is same p

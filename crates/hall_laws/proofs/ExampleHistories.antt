@@ -36,7 +36,12 @@ is_noted : (down right : NodeId → ℕ) (accesses : List NotedAccess) → IsHis
 is_noted down right accesses =
     let s : HistoryState = history_after down right accesses in
     record {
-      kept = λ i. record { writer = kept_node s.kept.writer i; rightmost = kept_node s.kept.rightmost i; downmost = kept_node s.kept.downmost i };
+      kept = λ i. record {
+        writer = kept_node s.kept.writer i;
+        rightmost = kept_node s.kept.rightmost i;
+        downmost =
+            kept_node s.kept.downmost i;
+      };
       report = refl;
     }
 
@@ -44,7 +49,8 @@ is_noted down right accesses =
 no_entry : (c k : ℕ) → k < 3 → accesses_to (suc (suc (suc c))) (node_accesses (shard_at example_shards k)) ≡ []
 no_entry c zero l = refl
 no_entry c (suc zero) l = (let a : (1 == suc (suc (suc c))) ≡ false = ne_eqb 1 (suc (suc (suc c))) (λ e. omega (arith, e)) in rw a refl)
-no_entry c (suc (suc zero)) l = (let a : (2 == suc (suc (suc c))) ≡ false = ne_eqb 2 (suc (suc (suc c))) (λ e. omega (arith, e)) in rw a refl)
+no_entry c (suc (suc zero)) l = (let a : (2 == suc (suc (suc c))) ≡ false = ne_eqb 2 (suc (suc (suc c))) (λ e. omega (arith, e)) in
+    rw a refl)
 no_entry c (suc (suc (suc k))) l = absurd (omega (arith, l))
 
 module _ (p : Program) (lists : ListIdentities) where

@@ -1,5 +1,6 @@
 -- The worked example of a finished hall.
-use Rattle.std.proofs.Common.{is_some, None, ◌≡◌, refl, sym, subst, ℕ, zero, suc, ◌<◌, pos, List, [], ◌∷◌, AllPairs, All, true, false, ◌==◌, Some, arith, inl, inr}
+use Rattle.std.proofs.Common.{is_some, None, ◌≡◌, refl, sym, subst, ℕ, zero, suc, ◌<◌, pos, List, [], ◌∷◌, AllPairs, All, true, false, ◌==◌}
+use Rattle.std.proofs.Common.{Some, arith, inl, inr}
 use Rattle.std.proofs.lemmas.Bool.{ne_eqb, false≢true}
 use Rattle.std.proofs.lemmas.Int.{ints}
 use Rattle.pipe_model.specs.declared.column.ColumnEnd.TheVariants as ends
@@ -32,7 +33,8 @@ use Rattle.program_laws.specs.ScheduleExamples.{emitting_once}
 use Rattle.run_record.specs.MergedLogs.{AreMerged, shard_at}
 use Rattle.hall_laws.specs.ClosedHalls.{ClosedHall, NoTokenIsOut, ReadsAreRight, entries_of_instance, entries_of_shard, trace_of}
 use Rattle.hall_laws.specs.HallRuns.{AccessesIt, EndsIt, StartsIt}
-use Rattle.hall_laws.specs.HallExamples.{ExampleHallIsMerged, entry_by, event_at, example_book, example_events, example_log, example_shards, example_traces}
+use Rattle.hall_laws.specs.HallExamples.{ExampleHallIsMerged, entry_by, event_at, example_book, example_events, example_log, example_shards}
+use Rattle.hall_laws.specs.HallExamples.{example_traces}
 use Rattle.hall_laws.proofs.ExampleHistories.{example_finds_none, example_history, example_notes}
 use Rattle.hall_laws.proofs.TicketLists.{Follow, Rises, in_order, rises_in_trace, rises_pairs, rises_within, time}
 
@@ -66,7 +68,8 @@ control_run = ControlRunThen (ControlRunThen (ControlRunThen (ControlRunThen (Co
     frame : Frame
     frame = record { nodes = node_of Zero (pos 0) ∷ node_of Wait (pos 1) ∷ []; status = Running; trace = Staged Wait (pos 1) ∷ [] }
 
-    follows : (j : ℕ) (f : Frame) → 1 ≡ suc j → frame_at (after (Begin 0 ∷ Advance 0 Wait (pos 1) ∷ Enter 0 ∷ [])).frames j ≡ Some f → ContinuesLoop f.status f.nodes
+    follows : (j : ℕ) (f : Frame) → 1 ≡ suc j → frame_at (after (Begin 0 ∷ Advance 0 Wait (pos 1) ∷ Enter 0 ∷ [])).frames j ≡ Some f
+        → ContinuesLoop f.status f.nodes
     follows zero f e is =
         let same : frame ≡ f = cc in
         let more : ContinuesLoop frame.status frame.nodes = omega arith in
@@ -84,7 +87,8 @@ control_run = ControlRunThen (ControlRunThen (ControlRunThen (ControlRunThen (Co
 
 -- ---- the program
 
-performs : (i : ℕ) (p : Program) (lists : ListIdentities) → Performs ((pipeline_of emitting_once []).behaviour i) (actions_at (example_book p lists) i)
+performs : (i : ℕ) (p : Program) (lists : ListIdentities) → Performs ((pipeline_of emitting_once []).behaviour i)
+    (actions_at (example_book p lists) i)
 performs zero p lists = ((pos 0, refl), (refl, (refl, ((pos 1, refl), ((pos 0, refl), (refl, (refl, tt)))))))
 performs (suc zero) p lists = ((pos 1, refl), (refl, tt))
 performs (suc (suc i)) p lists =
@@ -94,7 +98,8 @@ performs (suc (suc i)) p lists =
 
 -- ---- entries and traces
 
-traced : (i j k : ℕ) (p : Program) (lists : ListIdentities) → k < 3 → entries_of_instance (at i j) (shard_at example_shards k) ≡ entries_of_shard 3 k (trace_of (example_book p lists) (at i j))
+traced : (i j k : ℕ) (p : Program) (lists : ListIdentities) → k < 3 → entries_of_instance (at i j)
+    (shard_at example_shards k) ≡ entries_of_shard 3 k (trace_of (example_book p lists) (at i j))
 traced zero zero zero p lists l = refl
 traced zero (suc zero) zero p lists l = refl
 traced zero (suc (suc j)) zero p lists l = refl
@@ -130,12 +135,20 @@ traced i j (suc (suc (suc k))) p lists l = absurd (omega (arith, l))
 -- ---- tickets
 
 book_rises : AllPairs (λ (a : BookEntry) (b : BookEntry). a.ticket < b.ticket) example_log
-book_rises = rises_pairs (λ (b : BookEntry). b.ticket) 0 10 example_log
-    (omega arith, omega arith, (omega arith, omega arith, (omega arith, omega arith, (omega arith, omega arith, (omega arith, omega arith, (omega arith, omega arith, tt))))))
+book_rises = rises_pairs (λ (b : BookEntry). b.ticket) 0 10 example_log (
+  omega arith,
+  omega arith,
+  (
+    omega arith,
+    omega arith,
+    (omega arith, omega arith, (omega arith, omega arith, (omega arith, omega arith, (omega arith, omega arith, tt)))),
+  ),
+)
 
 shards_rise : (k : ℕ) → AllPairs (λ (a : ShardEntry) (b : ShardEntry). a.ticket < b.ticket) (shard_at example_shards k)
 shards_rise zero = λ i j d l w. absurd (omega (arith, w))
-shards_rise (suc zero) = rises_pairs (λ (b : ShardEntry). b.ticket) 0 10 (shard_at example_shards 1) (omega arith, omega arith, (omega arith, omega arith, tt))
+shards_rise (suc zero) = rises_pairs (λ (b : ShardEntry). b.ticket) 0 10 (shard_at example_shards 1)
+    (omega arith, omega arith, (omega arith, omega arith, tt))
 shards_rise (suc (suc zero)) = rises_pairs (λ (b : ShardEntry). b.ticket) 0 10 (shard_at example_shards 2)
     (omega arith, omega arith, (omega arith, omega arith, (omega arith, omega arith, (omega arith, omega arith, tt))))
 shards_rise (suc (suc (suc k))) = λ i j d l w. absurd (omega (arith, w))
@@ -157,7 +170,8 @@ in_instance (suc zero) zero = rises_in_trace 6 8 (made example_traces 1 0) trace
 in_instance (suc zero) (suc k) = tt
 in_instance (suc (suc i)) k = tt
 
-from_start : (i k : ℕ) (x : TimedAction) → Among x (made example_traces i k) → (start : ℕ) × (start_ticket_of example_log i k ≡ Some start) × (start < x.ticket)
+from_start : (i k : ℕ) (x : TimedAction) → Among x (made example_traces i k) → (start : ℕ) × (start_ticket_of example_log i k ≡ Some start)
+    × (start < x.ticket)
 from_start zero zero x m = (1, refl, (rises_within time 1 4 (made example_traces 0 0) trace_00 x m).0)
 from_start zero (suc zero) x m = (5, refl, (rises_within time 5 9 (made example_traces 0 1) trace_01 x m).0)
 from_start zero (suc (suc k)) x m = absurd (none_among x m)
@@ -165,11 +179,15 @@ from_start (suc zero) zero x m = (6, refl, (rises_within time 6 8 (made example_
 from_start (suc zero) (suc k) x m = absurd (none_among x m)
 from_start (suc (suc i)) k x m = absurd (none_among x m)
 
-to_end : (i k : ℕ) (x : TimedAction) (end : ℕ) → Among x (made example_traces i k) → end_ticket_of example_log i k ≡ Some end → x.ticket < end
-to_end zero zero x end m e = (let same : 4 ≡ end = cc in let l = (rises_within time 1 4 (made example_traces 0 0) trace_00 x m).1 in omega (arith, same, l))
-to_end zero (suc zero) x end m e = (let same : 9 ≡ end = cc in let l = (rises_within time 5 9 (made example_traces 0 1) trace_01 x m).1 in omega (arith, same, l))
+to_end : (i k : ℕ) (x : TimedAction) (end : ℕ) → Among x (made example_traces i k) → end_ticket_of example_log i k ≡ Some end
+    → x.ticket < end
+to_end zero zero x end m e = (let same : 4 ≡ end = cc in let l = (rises_within time 1 4 (made example_traces 0 0) trace_00 x m).1 in
+    omega (arith, same, l))
+to_end zero (suc zero) x end m e = (let same : 9 ≡ end = cc in let l = (rises_within time 5 9 (made example_traces 0 1) trace_01 x m).1 in
+    omega (arith, same, l))
 to_end zero (suc (suc k)) x end m e = absurd (none_among x m)
-to_end (suc zero) zero x end m e = (let same : 8 ≡ end = cc in let l = (rises_within time 6 8 (made example_traces 1 0) trace_10 x m).1 in omega (arith, same, l))
+to_end (suc zero) zero x end m e = (let same : 8 ≡ end = cc in let l = (rises_within time 6 8 (made example_traces 1 0) trace_10 x m).1 in
+    omega (arith, same, l))
 to_end (suc zero) (suc k) x end m e = absurd (none_among x m)
 to_end (suc (suc i)) k x end m e = absurd (none_among x m)
 
@@ -207,7 +225,8 @@ closed : (p : Program) (lists : ListIdentities) → tree_of p ≡ emitting_once 
 closed p lists tree = record {
   book = record {
     control = control_run;
-    performs = λ i. subst (λ t. Performs ((pipeline_of t []).behaviour i) (actions_at (example_book p lists) i)) (sym tree) (performs i p lists);
+    performs = λ i. subst (λ t. Performs ((pipeline_of t []).behaviour i) (actions_at (example_book p lists) i)) (sym tree)
+        (performs i p lists);
     out = λ going i o. absurd (none_out p lists i o);
   };
   logs = record {

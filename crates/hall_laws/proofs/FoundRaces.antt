@@ -1,5 +1,6 @@
 -- What the histories of a closed hall have found are the first races of the run.
-use Rattle.std.proofs.Common.{◌≡◌, ◌∙◌, refl, sym, ap, subst, ℕ, zero, suc, ◌<◌, ◌≤◌, List, [], ◌∷◌, length, map, get_or, false, ◌==◌, Contains, Option, Some, None, arith, inl, inr, if◌then◌else◌}
+use Rattle.std.proofs.Common.{◌≡◌, ◌∙◌, refl, sym, ap, subst, ℕ, zero, suc, ◌<◌, ◌≤◌, List, [], ◌∷◌, length, map, get_or, false, ◌==◌}
+use Rattle.std.proofs.Common.{Contains, Option, Some, None, arith, inl, inr, if◌then◌else◌}
 use Rattle.std.proofs.lemmas.Bool.{cases_lt, ne_eqb}
 use Rattle.std.proofs.lemmas.List.{get_or-map, length-map}
 use Rattle.std.proofs.lemmas.List.Elements.{Contains-append_cases, Contains-append_left, Contains-append_right, Contains-get_or}
@@ -37,7 +38,8 @@ use Rattle.race_detection.specs.FoundReports.{cell_bound, found_reports}
 use Rattle.race_report.specs.RaceReports.{IsFoundIn, report_found}
 use Rattle.run_laws.proofs.RaceHistories.RunHistories.{histories_find_the_first_race}
 use Rattle.run_laws.proofs.RunStates.IterationCounts.{runs_keep_rules}
-use Rattle.hall_laws.specs.HallReports.{AreFound, FindsRacesOf, HaveNotedEntries, HistoriesFindRaces, cell_of, columns_of_book, starts_of_book}
+use Rattle.hall_laws.specs.HallReports.{AreFound, FindsRacesOf, HaveNotedEntries, HistoriesFindRaces, cell_of, columns_of_book}
+use Rattle.hall_laws.specs.HallReports.{starts_of_book}
 use Rattle.hall_laws.specs.HallRuns.{IsRunOfHall, entries_to, pipeline_after}
 use Rattle.hall_laws.proofs.RisingReports.{one_list}
 
@@ -90,7 +92,8 @@ column_inside (c ∷ cs) (suc i) k w = let h = column_inside cs i k w in omega (
 
 -- the instance of a noted access is one of the run's
 noted_inside : (p : Pipeline) (limit : ℕ) (events : List Event) (c n : ℕ) → Run p limit events (state_after events)
-    → n < length (accesses_to c (accesses_after events)) → IsNodeOf (columns_after events) (access_at (accesses_to c (accesses_after events)) n).who
+    → n < length (accesses_to c (accesses_after events)) → IsNodeOf (columns_after events)
+    (access_at (accesses_to c (accesses_after events)) n).who
 noted_inside p limit events c n run w =
     let placed = one_place c (accesses_after events) n w in
     let index = (runs_keep_rules p limit events (state_after events) run).inside placed.access (placed_among placed) in
@@ -100,10 +103,12 @@ noted_inside p limit events c n run w =
 -- both instances of the first race of a cell are the run's
 race_inside : (p : Pipeline) (limit : ℕ) (events : List Event) (c : ℕ) (race : FoundRace) → Run p limit events (state_after events)
     → found_race_of_cell (columns_after events) (starts_of events) (accesses_after events) c ≡ Some race
-    → IsNodeOf (columns_after events) race.earlier.who × IsNodeOf (columns_after events) (access_at (accesses_to c (accesses_after events)) race.number).who
+    → IsNodeOf (columns_after events) race.earlier.who
+    × IsNodeOf (columns_after events) (access_at (accesses_to c (accesses_after events)) race.number).who
 race_inside p limit events c race run is =
     let columns = columns_after events in
-    let verdict = subst (λ o. IsRightVerdict columns (accesses_to c (accesses_after events)) o) is (histories_find_the_first_race p limit events (state_after events) run c) in
+    let verdict = subst (λ o. IsRightVerdict columns (accesses_to c (accesses_after events)) o) is
+    (histories_find_the_first_race p limit events (state_after events) run c) in
     let racy = verdict.racy in
     let races = racy.1 in
     let first = races.within in
@@ -143,7 +148,8 @@ module _ (v : BookState) (before : List Cell_access) (shards : List (List ShardE
       let right = right_place (columns_of_book v) (starts_of_book v) in
       (noted.each c).report ∙ ap (report_of_race (entries_to shards c)) (histories_are_states down right (entries_to shards c)).found
       ∙ (ap (λ l. report_of_race l (found_race down right l)) (sym (run.accesses c))
-      ∙ λ i. report_of_race (accesses_to c accesses) (found_race (down_place (starts_are i)) (right_place (columns_are i) (starts_are i)) (accesses_to c accesses)))
+      ∙ λ i. report_of_race (accesses_to c accesses) (found_race (down_place (starts_are i)) (right_place (columns_are i) (starts_are i))
+      (accesses_to c accesses)))
 
   abbrev found_report : CellId × Found → Report
   found_report f = report_found columns f.0 f.1
@@ -215,7 +221,8 @@ module _ (v : BookState) (before : List Cell_access) (shards : List (List ShardE
       )
 
   -- a race that a history reports is in the run's columns
-  found_inside : (c : ℕ) (f : Found) (o : Option FoundRace) → race c ≡ o → report_of_race (accesses_to c accesses) o ≡ Some f → IsFoundIn columns f
+  found_inside : (c : ℕ) (f : Found) (o : Option FoundRace) → race c ≡ o → report_of_race (accesses_to c accesses) o ≡ Some f
+      → IsFoundIn columns f
   found_inside c f None is e = absurd (cc)
   found_inside c f (Some x) is e =
       let both = race_inside p v.limit events c x run.run is in

@@ -1,5 +1,6 @@
 -- The logs of a closed hall meet what is required of the logs of a closed run.
-use Rattle.std.proofs.Common.{◌≡◌, ◌∙◌, refl, sym, ap, subst, ℕ, ◌<◌, ◌%◌, List, [], ◌∷◌, ◌++◌, length, map, All, arith, inl, inr, append-nil, append_assoc, true}
+use Rattle.std.proofs.Common.{◌≡◌, ◌∙◌, refl, sym, ap, subst, ℕ, ◌<◌, ◌%◌, List, [], ◌∷◌, ◌++◌, length, map, All, arith, inl, inr}
+use Rattle.std.proofs.Common.{append-nil, append_assoc, true}
 use Rattle.std.proofs.lemmas.Bool.{cases_lt, false≢true}
 use Rattle.std.proofs.lemmas.List.{get_or_past, map-append}
 use Rattle.std.proofs.lemmas.Nat.{mod_below}
@@ -31,7 +32,8 @@ use Rattle.run_record.proofs.RisingLists.{among_map}
 use Rattle.run_record.specs.MergedLogs.{shard_at}
 use Rattle.hall_laws.specs.ClosedHalls.{ClosedHall, HasShardLogs, IsOutInstance, NoTokenIsOut, ReadsAreRight, entry_in_trace, trace_of}
 use Rattle.hall_laws.specs.HallRuns.{pipeline_after}
-use Rattle.hall_laws.proofs.TraceEntries.{all_among, entry_is_of_trace, map_has, shard_entry_of, shard_has_trace, trace_has_entry, trace_is_of_shard}
+use Rattle.hall_laws.proofs.TraceEntries.{all_among, entry_is_of_trace, map_has, shard_entry_of, shard_has_trace, trace_has_entry}
+use Rattle.hall_laws.proofs.TraceEntries.{trace_is_of_shard}
 
 -- ---- shards
 
@@ -44,18 +46,22 @@ shard_there shards k e m = elim (cases_lt k (length shards)) [
 
 -- ---- entries and traces
 
-module _ (v : BookState) (before : List Cell_access) (shards : List (List ShardEntry)) (h : HasShardLogs v before shards) (none : NoTokenIsOut v) where
+module _ (v : BookState) (before : List Cell_access) (shards : List (List ShardEntry)) (h : HasShardLogs v before shards)
+    (none : NoTokenIsOut v) where
   no_instance_out : (x : NodeId) → IsOutInstance v x → ⊥
   no_instance_out x o = none x.iteration o.out
 
   -- an entry of a shard is in the trace of its instance, and its cell is in the shard
-  entry_traced : (k : ℕ) (e : ShardEntry) → Among e (shard_at shards k) → Among (entry_in_trace e) (trace_of v e.node) × (e.access.cell.0 % length shards ≡ k)
+  entry_traced : (k : ℕ) (e : ShardEntry) → Among e (shard_at shards k) → Among (entry_in_trace e) (trace_of v e.node)
+      × (e.access.cell.0 % length shards ≡ k)
   entry_traced k e m =
       entry_is_of_trace (length shards) k (entry_in_trace e) (trace_of v e.node)
-      (subst (λ l. Among (entry_in_trace e) l) (h.traces e.node k (shard_there shards k e m) (no_instance_out e.node)) (shard_has_trace e (shard_at shards k) m))
+      (subst (λ l. Among (entry_in_trace e) l) (h.traces e.node k (shard_there shards k e m) (no_instance_out e.node))
+      (shard_has_trace e (shard_at shards k) m))
 
   -- an entry of a trace is in the shard of its cell
-  trace_entered : (x : NodeId) (t : Entry) → Among t (trace_of v x) → Among (shard_entry_of x t) (shard_at shards (t.access.cell.0 % length shards))
+  trace_entered : (x : NodeId) (t : Entry) → Among t (trace_of v x) → Among (shard_entry_of x t)
+      (shard_at shards (t.access.cell.0 % length shards))
   trace_entered x t m =
       let k = t.access.cell.0 % length shards in
       let there : k < length shards = mod_below t.access.cell.0 (length shards) h.some in
@@ -84,7 +90,8 @@ module _ (v : BookState) (before : List Cell_access) (shards : List (List ShardE
 -- ---- reads
 
 -- each read of the list has the value after the accesses before it
-reads_at : (store : InitialStore) (before : List Cell_access) (earlier rest : List ShardEntry) (e : ShardEntry) → ReadsAreRight store before (earlier ++ e ∷ rest)
+reads_at : (store : InitialStore) (before : List Cell_access) (earlier rest : List ShardEntry) (e : ShardEntry)
+    → ReadsAreRight store before (earlier ++ e ∷ rest)
     → HasReply store (before ++ map (λ x. x.access) earlier) e.access
 reads_at store before [] rest e h = subst (λ l. HasReply store l e.access) (sym (append-nil before)) h.0
 reads_at store before (x ∷ earlier) rest e h =
@@ -145,12 +152,14 @@ stopped_at limit log c t r m = by_rest p.rest p.is
         let events : events_of log ≡ earlier ++ y.event ∷ events_of rest =
         events_at (y ∷ rest) is ∙ sym (append_assoc (events_of p.earlier) (Stop ∷ []) (y.event ∷ events_of rest)) in
         let next : IsAllowedAt limit earlier y.event = allowed_at r earlier y.event (events_of rest) events in
-        let over : next.state.stopped ≡ true = ap (λ (s : State). s.stopped) (control_state_is next.before) ∙ after_stop (events_of p.earlier) in
+        let over : next.state.stopped ≡ true = ap (λ (s : State). s.stopped) (control_state_is next.before)
+        ∙ after_stop (events_of p.earlier) in
         absurd (false≢true (sym next.going ∙ over))
 
 -- ---- all together
 
-pub closed_logs : (v : BookState) (before : List Cell_access) (shards : List (List ShardEntry)) → ClosedHall v before shards → NoTokenIsOut v
+pub closed_logs : (v : BookState) (before : List Cell_access) (shards : List (List ShardEntry)) → ClosedHall v before shards
+    → NoTokenIsOut v
     → ClosedLogs (pipeline_after v before) v.limit (length shards) v.log (shard_at shards) (made v.traces) (state_of v)
 closed_logs v before shards h none = record {
   control = h.book.control;

@@ -9,7 +9,8 @@ use Rattle.run_laws.proofs.ListOrders.LongerLogs.{logs_name_what_stands, longer_
 use Rattle.hall_laws.specs.HallOrders.{WholeOrdersAgree}
 
 -- two elements of the list of a prefix are in the same order in the whole list
-part_order : (whole seen : List ℕ) (x y : ℕ) → IsLog 1 whole → BeginsWith whole seen → has x (list_of_log seen) ≡ true → has y (list_of_log seen) ≡ true
+part_order : (whole seen : List ℕ) (x y : ℕ) → IsLog 1 whole → BeginsWith whole seen → has x (list_of_log seen) ≡ true
+    → has y (list_of_log seen) ≡ true
     → StandsBefore (list_of_log seen) x y ↔ StandsBefore (list_of_log whole) x y
 part_order whole seen x y ok begins a b =
     let kept = longer_logs_keep_the_order seen begins.0 x y (subst (IsLog 1) begins.1 ok) a b in

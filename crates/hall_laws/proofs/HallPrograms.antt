@@ -24,7 +24,8 @@ nodes_of_frames (f ∷ frames) = ap (λ ns. f.nodes ∷ ns) (nodes_of_frames fra
 
 pub merged_halls_are_program_runs : MergedHallsAreProgramRuns
 merged_halls_are_program_runs v shards log h =
-    let r : IsRunOfHall v (init_accesses (whole_in v)) shards log.events = closed_halls_are_runs v (init_accesses (whole_in v)) shards log.events h.closed h.none h.events in
+    let r : IsRunOfHall v (init_accesses (whole_in v)) shards log.events = closed_halls_are_runs v
+    (init_accesses (whole_in v)) shards log.events h.closed h.none h.events in
     let p : Pipeline = loop_after_init (whole_in v) in
     let columns : log.columns ≡ ended_columns_after log.events = h.columns ∙ runs_make_their_columns p v.limit log.events r.run in
     record {
@@ -43,9 +44,11 @@ finished_halls_meet_the_headline v shards log reports races rules h finished rig
 
 pub merged_halls_report_their_races : MergedHallsReportTheirRaces
 merged_halls_report_their_races v shards log history found reports h noted are =
-    let r : IsRunOfHall v (init_accesses (whole_in v)) shards log.events = closed_halls_are_runs v (init_accesses (whole_in v)) shards log.events h.closed h.none h.events in
+    let r : IsRunOfHall v (init_accesses (whole_in v)) shards log.events = closed_halls_are_runs v
+    (init_accesses (whole_in v)) shards log.events h.closed h.none h.events in
     let finds = histories_find_races v (init_accesses (whole_in v)) shards log.events history found r noted are in
     let nodes = (merged_halls_are_program_runs v shards log h).nodes in (
       subst (λ cs. All (λ (f : CellId × Found). IsFoundIn cs f.1) found) (sym nodes) finds.inside,
-      λ same rise. finds.reports reports (subst (λ cs. IsPermutation (map (λ (f : CellId × Found). report_found cs f.0 f.1) found) reports) nodes same) rise,
+      λ same rise. finds.reports reports (subst (λ cs. IsPermutation (map (λ (f : CellId × Found). report_found cs f.0 f.1) found) reports)
+          nodes same) rise,
     )

@@ -29,12 +29,14 @@ use Rattle.run_laws.proofs.LogMerge.MergeSplits.{among_events, among_shard, cont
 use Rattle.run_laws.proofs.RunStates.FrontAndBack.{run_state_is}
 use Rattle.run_laws.specs.LogLaws.{MakesRun}
 use Rattle.run_record.specs.MergedLogs.{ShardRises, shard_at}
-use Rattle.hall_laws.specs.HallRuns.{ClosedHallsAreRuns, EndsWithStop, IsRunOfHall, LogsCanBeMerged, FinishedBooksHaveNoTokenOut, node_accesses, pipeline_after}
+use Rattle.hall_laws.specs.HallRuns.{ClosedHallsAreRuns, EndsWithStop, IsRunOfHall, LogsCanBeMerged, FinishedBooksHaveNoTokenOut}
+use Rattle.hall_laws.specs.HallRuns.{node_accesses, pipeline_after}
 use Rattle.hall_laws.proofs.HallLogs.{closed_logs}
 use Rattle.hall_laws.proofs.OwnAccesses.{accesses_are_entries, book_events, cell_entries, cell_writes, merged_accesses}
 
 -- a run that was stopped ends with `Stop`
-pub stopped_ends : {p : Pipeline} {limit : ℕ} {events : List Event} {s : State} → Run p limit events s → s.stopped ≡ true → EndsWithStop events
+pub stopped_ends : {p : Pipeline} {limit : ℕ} {events : List Event} {s : State} → Run p limit events s → s.stopped ≡ true
+    → EndsWithStop events
 stopped_ends EmptyRun e = absurd (false≢true e)
 stopped_ends {p} {limit} (RunThen {events = es} {s = t} r x h) e = by_event x e
   where
@@ -106,7 +108,8 @@ run_of_logs v before shards merged closed merge = record {
 
 pub closed_halls_are_runs : ClosedHallsAreRuns
 closed_halls_are_runs v before shards events h none m =
-    subst (λ es. IsRunOfHall v before shards es) (sym m.are) (run_of_logs v before shards m.entries (closed_logs v before shards h none) m.merge)
+    subst (λ es. IsRunOfHall v before shards es) (sym m.are)
+    (run_of_logs v before shards m.entries (closed_logs v before shards h none) m.merge)
 
 pub logs_can_be_merged : LogsCanBeMerged
 logs_can_be_merged v before shards h = (

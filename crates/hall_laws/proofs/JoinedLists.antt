@@ -21,9 +21,11 @@ pairs_join R xs ys p q across i j d l w =
             | inl near ↦ (
                 let a : get_or (xs ++ ys) i d ≡ get_or xs i d = get_or_append_left xs ys d i near in
                 subst (λ y. R y (get_or ys (j - length xs) d)) (sym a)
-                (across (get_or xs i d) (get_or ys (j - length xs) d) (Contains-get_or xs i d near) (Contains-get_or ys (j - length xs) d there)))
+                (across (get_or xs i d) (get_or ys (j - length xs) d) (Contains-get_or xs i d near)
+                (Contains-get_or ys (j - length xs) d there)))
             | inr also ↦ (
                 let a : get_or (xs ++ ys) i d ≡ get_or ys (i - length xs) d = get_or-append_right xs ys (length xs) i d refl also in
-                subst (λ y. R y (get_or ys (j - length xs) d)) (sym a) (q (i - length xs) (j - length xs) d (omega (arith, l, far, also)) there))
+                subst (λ y. R y (get_or ys (j - length xs) d)) (sym a)
+                (q (i - length xs) (j - length xs) d (omega (arith, l, far, also)) there))
           ]))
     ]

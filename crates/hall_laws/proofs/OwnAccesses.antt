@@ -1,5 +1,6 @@
 -- The accesses of a merge, with the instances that make them in the run.
-use Rattle.std.proofs.Common.{◌≡◌, ◌∙◌, refl, sym, ap, ap₂, subst, ℕ, zero, suc, ◌<◌, ◌≤◌, ◌%◌, List, [], ◌∷◌, ◌++◌, length, map, true, false, ◌==◌, Option, Some, None, arith, inl, inr, append-nil, append_assoc, if◌then◌else◌}
+use Rattle.std.proofs.Common.{◌≡◌, ◌∙◌, refl, sym, ap, ap₂, subst, ℕ, zero, suc, ◌<◌, ◌≤◌, ◌%◌, List, [], ◌∷◌, ◌++◌, length, map, true}
+use Rattle.std.proofs.Common.{false, ◌==◌, Option, Some, None, arith, inl, inr, append-nil, append_assoc, if◌then◌else◌}
 use Rattle.std.proofs.lemmas.Bool.{cases_eq, cases_lt, eq-eqb, ne_eqb, false≢true}
 use Rattle.std.proofs.lemmas.List.{map-append}
 use Rattle.pipe_model.specs.declared.access.NodeAccess.{NodeAccess}
@@ -17,13 +18,15 @@ use Rattle.pipe_model.specs.Runs.ControlRun.{ControlRun, is_access}
 use Rattle.pipe_model.specs.Runs.Run.{Run}
 use Rattle.pipe_model.specs.Runs.RunLogs.{state_after}
 use Rattle.pipe_model.specs.Runs.State.{Frame, State, accesses_of, current_index, frame_at, initial_state, next_state}
-use Rattle.pipe_model.specs.Runs.TicketLogs.{IsMerge, InOrder, LogEntry, OfBook, OfShard, book_in, end_tickets, event_of, if_shard, shard_in, start_tickets, ticket_at}
+use Rattle.pipe_model.specs.Runs.TicketLogs.{IsMerge, InOrder, LogEntry, OfBook, OfShard, book_in, end_tickets, event_of, if_shard}
+use Rattle.pipe_model.specs.Runs.TicketLogs.{shard_in, start_tickets, ticket_at}
 use Rattle.pipe_model.proofs.Members.{among_left, among_right}
 use Rattle.program_laws.proofs.ControlOutlines.{runs_have_control_runs}
 use Rattle.run_laws.proofs.Iterations.CellWrites.{other_cell_writes_none}
 use Rattle.run_laws.proofs.LogMerge.FittingLogs.{IsWithinInstance}
 use Rattle.run_laws.proofs.LogMerge.InstanceCounts.{control_counts, end_tickets_counted, one_open, start_tickets_counted, started_in}
-use Rattle.run_laws.proofs.LogMerge.InstanceTickets.{HasTicket, end_has, end_tickets-append, start_has, start_tickets-append, ticket_left, ticket_right}
+use Rattle.run_laws.proofs.LogMerge.InstanceTickets.{HasTicket, end_has, end_tickets-append, start_has, start_tickets-append, ticket_left}
+use Rattle.run_laws.proofs.LogMerge.InstanceTickets.{ticket_right}
 use Rattle.run_laws.proofs.LogMerge.MergeSplits.{among_book, book_in-append, order_after, order_before}
 use Rattle.run_laws.proofs.RunStates.FrontAndBack.{front_is_run, state_from-push}
 use Rattle.hall_laws.specs.HallRuns.{node_access_of, node_accesses}
@@ -78,8 +81,10 @@ open_at book left right k e order parts within =
       | inl less ↦ omega (arith, is, less)
       | inr same ↦ (let q = same.1 in absurd (omega (arith, q)))
     ]) in
-    let starts : start_tickets i book ≡ start_tickets i before ++ start_tickets i later = ap (start_tickets i) parts ∙ start_tickets-append i before later in
-    let ends : end_tickets i book ≡ end_tickets i before ++ end_tickets i later = ap (end_tickets i) parts ∙ end_tickets-append i before later in
+    let starts : start_tickets i book ≡ start_tickets i before ++ start_tickets i later = ap (start_tickets i) parts
+    ∙ start_tickets-append i before later in
+    let ends : end_tickets i book ≡ end_tickets i before ++ end_tickets i later = ap (end_tickets i) parts
+    ∙ end_tickets-append i before later in
     record {
       begun = elim (ticket_right (start_tickets i before) (start_tickets i later) n within.start
           (subst (λ l. ticket_at l n ≡ Some within.start) starts within.started)) [
@@ -117,7 +122,8 @@ current_is p limit left i n run silent h =
     let s = state_after (map event_of left) in
     let d = control_after (map event_of left) in
     let k = runs_have_control_runs p limit (map event_of left) s run in
-    let control : ControlRun limit (map (λ (b : BookEntry). b.event) (book_in left)) d = subst (λ l. ControlRun limit l d) (book_events left silent) k.run in
+    let control : ControlRun limit (map (λ (b : BookEntry). b.event) (book_in left)) d = subst (λ l. ControlRun limit l d)
+    (book_events left silent) k.run in
     let counts = control_counts control i in
     let c1 = counts.starts in
     let c2 = counts.ends in
@@ -142,7 +148,8 @@ adds_none s (Enter i) n = refl
 adds_none s (Finish i e) n = refl
 adds_none s Stop n = refl
 
-module _ (p : Pipeline) (limit : ℕ) (book : List BookEntry) (shards : ℕ → List ShardEntry) (merged : List LogEntry) (merge : IsMerge book shards merged)
+module _ (p : Pipeline) (limit : ℕ) (book : List BookEntry) (shards : ℕ → List ShardEntry) (merged : List LogEntry)
+    (merge : IsMerge book shards merged)
     (silent : (b : BookEntry) → Among b book → is_access b.event ≡ false)
     (within : (k : ℕ) (e : ShardEntry) → Among (OfShard k e) merged → IsWithinInstance book e)
     (run : Run p limit (map event_of merged) (state_after (map event_of merged))) where
@@ -152,7 +159,8 @@ module _ (p : Pipeline) (limit : ℕ) (book : List BookEntry) (shards : ℕ → 
   abbrev Holds : List LogEntry → Type 0
   Holds left = (state_after (events left)).accesses ≡ merged_accesses left
 
-  events_push : (left : List LogEntry) (y : LogEntry) → state_after (events (left ++ y ∷ [])) ≡ next_state (state_after (events left)) (event_of y)
+  events_push : (left : List LogEntry) (y : LogEntry) → state_after (events (left ++ y ∷ [])) ≡ next_state (state_after (events left))
+      (event_of y)
   events_push left y = ap state_after (map-append event_of left (y ∷ [])) ∙ state_from-push initial_state (events left) (event_of y)
 
   parts : (left right : List LogEntry) → merged ≡ left ++ right → book ≡ book_in left ++ book_in right
@@ -160,21 +168,26 @@ module _ (p : Pipeline) (limit : ℕ) (book : List BookEntry) (shards : ℕ → 
 
   step : (left right : List LogEntry) (y : LogEntry) → merged ≡ left ++ y ∷ right → Holds left → Holds (left ++ y ∷ [])
   step left right (OfBook b) is h =
-      let there : Among b book = subst (λ l. Among b l) (sym (parts left (OfBook b ∷ right) is)) (among_right b (book_in left) (b ∷ book_in right) Here) in
+      let there : Among b book = subst (λ l. Among b l) (sym (parts left (OfBook b ∷ right) is))
+      (among_right b (book_in left) (b ∷ book_in right) Here) in
       ap (λ (s : State). s.accesses) (events_push left (OfBook b)) ∙ adds_none (state_after (events left)) b.event (silent b there) ∙ h
       ∙ sym (merged_accesses-append left (OfBook b ∷ []) ∙ append-nil (merged_accesses left))
   step left right (OfShard k e) is h =
       let i = e.node.iteration in
       let s = state_after (events left) in
-      let there : Among (OfShard k e) merged = subst (λ l. Among (OfShard k e) l) (sym is) (among_right (OfShard k e) left (OfShard k e ∷ right) Here) in
-      let events_is : events merged ≡ events left ++ events (OfShard k e ∷ right) = ap events is ∙ map-append event_of left (OfShard k e ∷ right) in
+      let there : Among (OfShard k e) merged = subst (λ l. Among (OfShard k e) l) (sym is)
+      (among_right (OfShard k e) left (OfShard k e ∷ right) Here) in
+      let events_is : events merged ≡ events left ++ events (OfShard k e ∷ right) = ap events is
+      ∙ map-append event_of left (OfShard k e ∷ right) in
       let run_so_far : Run p limit (events left) s =
       front_is_run p limit (events left) (events (OfShard k e ∷ right)) (state_after (events merged))
       (subst (λ l. Run p limit l (state_after (events merged))) events_is run) in
       let quiet : (b : BookEntry) → Among b (book_in left) → is_access b.event ≡ false =
-      λ b m. silent b (subst (λ l. Among b l) (sym (parts left (OfShard k e ∷ right) is)) (among_left b (book_in left) (book_in right) m)) in
+      λ b m. silent b (subst (λ l. Among b l) (sym (parts left (OfShard k e ∷ right) is)) (among_left b (book_in left) (book_in right) m))
+      in
       let current : current_index (frame_at s.frames i) ≡ e.node.index =
-      current_is p limit left i e.node.index run_so_far quiet (open_at book left right k e (subst InOrder is merge.order) (parts left (OfShard k e ∷ right) is)
+      current_is p limit left i e.node.index run_so_far quiet
+      (open_at book left right k e (subst InOrder is merge.order) (parts left (OfShard k e ∷ right) is)
       (within k e there)) in
       let made : NodeAccess = record { node = at i (current_index (frame_at s.frames i)); access = e.access } in
       let same : made ≡ node_access_of e = ap (λ n. record { node = at i n; access = e.access }) current in
@@ -208,7 +221,8 @@ cell_entries c width (OfShard k e ∷ xs) cells =
       | inr other ↦ (
           let t : (k == c % width) ≡ false = ne_eqb k (c % width) other in
           let apart : (e.access.cell.0 == c) ≡ false = ne_eqb e.access.cell.0 c (λ q. other (sym own ∙ ap (λ m. m % width) q)) in
-          ap (λ b. if b then noted_access e.node e.access.kind ∷ accesses_to c (merged_accesses xs) else accesses_to c (merged_accesses xs)) apart ∙ rest
+          ap (λ b. if b then noted_access e.node e.access.kind ∷ accesses_to c (merged_accesses xs) else accesses_to c
+          (merged_accesses xs)) apart ∙ rest
           ∙ ap (λ b. accesses_to c (node_accesses (if_shard b e (shard_in (c % width) xs)))) (sym t))
     ]
 

@@ -43,19 +43,24 @@ book_ends limit log c r stopped = by_last log (last_of_list log) refl
 
     by_last : (l : List BookEntry) → LastOf l → log ≡ l → EndsAt log
     by_last l IsEmpty is =
-        let none : false ≡ true = sym (ap (λ (s : State). s.stopped) (control_state_is r ∙ ap (λ (bs : List BookEntry). state_after (events_of bs)) is)) ∙ stopped in
+        let none : false ≡ true = sym (ap (λ (s : State). s.stopped)
+        (control_state_is r ∙ ap (λ (bs : List BookEntry). state_after (events_of bs)) is)) ∙ stopped in
         absurd (false≢true none)
     by_last l (HasLast earlier b) is =
-        let events : events_of log ≡ events_of earlier ++ b.event ∷ [] = ap events_of is ∙ map-append (λ (x : BookEntry). x.event) earlier (b ∷ []) in
+        let events : events_of log ≡ events_of earlier ++ b.event ∷ [] = ap events_of is ∙ map-append (λ (x : BookEntry). x.event) earlier
+        (b ∷ []) in
         let at_last : IsAllowedAt limit (events_of earlier) b.event = allowed_at r (events_of earlier) b.event [] events in
-        let going : (state_after (events_of earlier)).stopped ≡ false = ap (λ (s : State). s.stopped) (sym (control_state_is at_last.before)) ∙ at_last.going in
+        let going : (state_after (events_of earlier)).stopped ≡ false = ap (λ (s : State). s.stopped)
+        (sym (control_state_is at_last.before)) ∙ at_last.going in
         let over : (next_state (state_after (events_of earlier)) b.event).stopped ≡ true =
-        ap (λ (s : State). s.stopped) (sym (control_state_is r ∙ ap state_after events ∙ state_from-push initial_state (events_of earlier) b.event)) ∙ stopped in
+        ap (λ (s : State). s.stopped) (sym (control_state_is r ∙ ap state_after events ∙ state_from-push initial_state
+        (events_of earlier) b.event)) ∙ stopped in
         by_event earlier b.ticket b.event is going over
 
 -- ---- tickets of instances
 
-raised_push : (earlier : List BookEntry) (b : BookEntry) (least : ℕ) → with_last_raised (earlier ++ b ∷ []) least ≡ earlier ++ record b { ticket = max b.ticket least } ∷ []
+raised_push : (earlier : List BookEntry) (b : BookEntry) (least : ℕ) → with_last_raised (earlier ++ b ∷ []) least ≡ earlier ++ record b
+    { ticket = max b.ticket least } ∷ []
 raised_push [] b least = refl
 raised_push (x ∷ []) b least = refl
 raised_push (x ∷ (y ∷ earlier)) b least = ap (λ l. x ∷ l) (raised_push (y ∷ earlier) b least)
@@ -66,12 +71,14 @@ stop_at t = record { ticket = t; event = Stop }
 starts_raised : (i : ℕ) (log : List BookEntry) (least : ℕ) → EndsAt log → start_tickets i (with_last_raised log least) ≡ start_tickets i log
 starts_raised i log least h =
     ap (λ l. start_tickets i (with_last_raised l least)) h.is ∙ ap (start_tickets i) (raised_push h.earlier (stop_at h.ticket) least)
-    ∙ start_tickets-append i h.earlier (stop_at (max h.ticket least) ∷ []) ∙ sym (start_tickets-append i h.earlier (stop_at h.ticket ∷ [])) ∙ ap (start_tickets i) (sym h.is)
+    ∙ start_tickets-append i h.earlier (stop_at (max h.ticket least) ∷ []) ∙ sym (start_tickets-append i h.earlier (stop_at h.ticket ∷ []))
+    ∙ ap (start_tickets i) (sym h.is)
 
 ends_raised : (i : ℕ) (log : List BookEntry) (least : ℕ) → EndsAt log → end_tickets i (with_last_raised log least) ≡ end_tickets i log
 ends_raised i log least h =
     ap (λ l. end_tickets i (with_last_raised l least)) h.is ∙ ap (end_tickets i) (raised_push h.earlier (stop_at h.ticket) least)
-    ∙ end_tickets-append i h.earlier (stop_at (max h.ticket least) ∷ []) ∙ sym (end_tickets-append i h.earlier (stop_at h.ticket ∷ [])) ∙ ap (end_tickets i) (sym h.is)
+    ∙ end_tickets-append i h.earlier (stop_at (max h.ticket least) ∷ []) ∙ sym (end_tickets-append i h.earlier (stop_at h.ticket ∷ []))
+    ∙ ap (end_tickets i) (sym h.is)
 
 not_empty : (log : List BookEntry) → EndsAt log → 0 < length log
 not_empty [] h = absurd (no_last h.earlier h.is)
@@ -97,7 +104,11 @@ raised_stops_close v before shards least book logs stopped below =
       logs = record {
         some = logs.some;
         traces = λ x k l out. logs.traces x k l
-            (λ o. out (record { out = o.out; last = ap (λ es. length (nodes_at (own_columns (state_after es)) x.iteration)) same ∙ o.last }));
+            (λ o. out (record {
+              out = o.out;
+              last = ap (λ es. length (nodes_at (own_columns (state_after es)) x.iteration)) same
+                  ∙ o.last;
+            }));
         tickets = record {
           in_book = rise_raised v.log least logs.tickets.in_book;
           in_shards = logs.tickets.in_shards;
@@ -110,5 +121,6 @@ raised_stops_close v before shards least book logs stopped below =
         reads = logs.reads;
       };
       stop = λ q. All-weaker (All (λ (e : ShardEntry). e.ticket < least)) (All (λ (e : ShardEntry). e.ticket < last_ticket raised.log))
-          (λ log h. All-weaker (λ (e : ShardEntry). e.ticket < least) (λ (e : ShardEntry). e.ticket < last_ticket raised.log) (λ e l. omega (arith, l, last)) log h) shards below;
+          (λ log h. All-weaker (λ (e : ShardEntry). e.ticket < least) (λ (e : ShardEntry). e.ticket < last_ticket raised.log)
+          (λ e l. omega (arith, l, last)) log h) shards below;
     }

@@ -25,7 +25,8 @@ among_others x xs r less c = elim (first_or_other x xs r c) [
   | inr other ↦ other
 ]
 
-one_first : (x y : Report) (xs ys : List Report) → RiseByCell (x ∷ xs) → RiseByCell (y ∷ ys) → Contains (y ∷ ys) x → Contains (x ∷ xs) y → x ≡ y
+one_first : (x y : Report) (xs ys : List Report) → RiseByCell (x ∷ xs) → RiseByCell (y ∷ ys) → Contains (y ∷ ys) x → Contains (x ∷ xs) y
+    → x ≡ y
 one_first x y xs ys p q a b = elim (first_or_other y ys x a) [
   | inl same ↦ sym same
   | inr later ↦ elim (first_or_other x xs y b) [

@@ -1,5 +1,6 @@
 -- What the shards have found, one shard after the other.
-use Rattle.std.proofs.Common.{◌≡◌, ◌≢◌, refl, ap, subst, ℕ, zero, suc, ◌+◌, ◌<◌, ◌%◌, List, [], ◌∷◌, length, get_or, AllPairs, Contains, arith, inl, inr}
+use Rattle.std.proofs.Common.{◌≡◌, ◌≢◌, refl, ap, subst, ℕ, zero, suc, ◌+◌, ◌<◌, ◌%◌, List, [], ◌∷◌, length, get_or, AllPairs, Contains}
+use Rattle.std.proofs.Common.{arith, inl, inr}
 use Rattle.std.proofs.lemmas.List.Elements.{Contains-append_cases, Contains-append_left, Contains-append_right}
 use Rattle.std.proofs.lemmas.Nat.{mod_below}
 use Rattle.std.specs.List.{flat_map}
@@ -20,12 +21,14 @@ at_shard founds k = get_or founds k []
 
 -- ---- members
 
-in_all : (founds : List Races) (k : ℕ) (x : CellId × Found) → k < length founds → Contains (at_shard founds k) x → Contains (all_of founds) x
+in_all : (founds : List Races) (k : ℕ) (x : CellId × Found) → k < length founds → Contains (at_shard founds k) x
+    → Contains (all_of founds) x
 in_all [] k x l m = absurd (omega (arith, l))
 in_all (f ∷ fs) zero x l m = Contains-append_left f (all_of fs) x m
 in_all (f ∷ fs) (suc k) x l m = Contains-append_right f (all_of fs) x (in_all fs k x (omega (arith, l)) m)
 
-of_all : (founds : List Races) (x : CellId × Found) → Contains (all_of founds) x → (k : ℕ) × (k < length founds) × Contains (at_shard founds k) x
+of_all : (founds : List Races) (x : CellId × Found) → Contains (all_of founds) x → (k : ℕ) × (k < length founds)
+    × Contains (at_shard founds k) x
 of_all [] x m = absurd (let w = m.1 in omega (arith, w))
 of_all (f ∷ fs) x m = elim (Contains-append_cases f (all_of fs) x m) [
   | inl a ↦ (0, omega arith, a)
@@ -45,11 +48,13 @@ module _ (width : ℕ) (history : ℕ → History) where
   all_apart : (founds : List Races) (k : ℕ) → AreOfShards k founds → AllPairs Apart (all_of founds)
   all_apart [] k h = λ i j d l w. absurd (omega (arith, w))
   all_apart (f ∷ fs) k h =
-      let first : AreFoundInShard width k history f = (let z : k + 0 ≡ k = omega arith in subst (λ n. AreFoundInShard width n history f) z (h 0 (omega arith))) in
+      let first : AreFoundInShard width k history f = (let z : k + 0 ≡ k = omega arith in subst (λ n. AreFoundInShard width n history f) z
+      (h 0 (omega arith))) in
       let rest : AreOfShards (suc k) fs = λ j l. (
       let z : k + suc j ≡ suc k + j = omega arith in
       subst (λ n. AreFoundInShard width n history (at_shard fs j)) z (h (suc j) (omega (arith, l)))) in
-      pairs_join Apart f (all_of fs) (λ i j d l w e. (let up = first.rise i j d l w in let same = ap (λ (c : CellId). c.0) e in omega (arith, up, same)))
+      pairs_join Apart f (all_of fs) (λ i j d l w e. (let up = first.rise i j d l w in let same = ap (λ (c : CellId). c.0) e in
+      omega (arith, up, same)))
       (all_apart fs (suc k) rest)
       (λ x y m n e. (
       let there = of_all fs y n in

@@ -1,5 +1,6 @@
 -- The worked example of a hall that was stopped.
-use Rattle.std.proofs.Common.{is_some, ◌≡◌, refl, sym, subst, ℕ, zero, suc, ◌<◌, pos, List, [], ◌∷◌, All, AllPairs, false, ◌==◌, Some, None, arith, inl}
+use Rattle.std.proofs.Common.{is_some, ◌≡◌, refl, sym, subst, ℕ, zero, suc, ◌<◌, pos, List, [], ◌∷◌, All, AllPairs, false, ◌==◌, Some, None}
+use Rattle.std.proofs.Common.{arith, inl}
 use Rattle.std.proofs.lemmas.Bool.{ne_eqb}
 use Rattle.pipe_model.specs.declared.event.Event.TheVariants.{Begin, Stop}
 use Rattle.pipe_model.specs.declared.ticket.BookEntry.{BookEntry}
@@ -38,7 +39,8 @@ module _ (p : Program) (lists : ListIdentities) (token : TokenFields) where
   performs zero = ((pos 0, refl), (refl, tt))
   performs (suc i) = tt
 
-  traced : (i j k : ℕ) → k < 3 → entries_of_instance (at i j) (shard_at stopped_shards k) ≡ entries_of_shard 3 k (trace_of (stopped_book p lists token) (at i j))
+  traced : (i j k : ℕ) → k < 3 → entries_of_instance (at i j) (shard_at stopped_shards k) ≡ entries_of_shard 3 k
+      (trace_of (stopped_book p lists token) (at i j))
   traced zero zero zero l = refl
   traced zero (suc j) zero l = refl
   traced (suc i) j zero l = refl
@@ -65,7 +67,8 @@ module _ (p : Program) (lists : ListIdentities) (token : TokenFields) where
   in_instance zero (suc k) = tt
   in_instance (suc i) k = tt
 
-  from_start : (i k : ℕ) (x : TimedAction) → Among x (traces i k) → (start : ℕ) × (start_ticket_of stopped_log i k ≡ Some start) × (start < x.ticket)
+  from_start : (i k : ℕ) (x : TimedAction) → Among x (traces i k) → (start : ℕ) × (start_ticket_of stopped_log i k ≡ Some start)
+      × (start < x.ticket)
   from_start zero zero x m = (1, refl, (rises_within time 1 4 (traces 0 0) trace_00 x m).0)
   from_start zero (suc k) x m = absurd (none_among x m)
   from_start (suc i) k x m = absurd (none_among x m)
@@ -78,7 +81,8 @@ module _ (p : Program) (lists : ListIdentities) (token : TokenFields) where
   shards_rise : (k : ℕ) → AllPairs (λ (a : ShardEntry) (b : ShardEntry). a.ticket < b.ticket) (shard_at stopped_shards k)
   shards_rise zero = λ i j d l w. absurd (omega (arith, w))
   shards_rise (suc zero) = λ i j d l w. absurd (omega (arith, w))
-  shards_rise (suc (suc zero)) = rises_pairs (λ (b : ShardEntry). b.ticket) 0 4 (shard_at stopped_shards 2) (omega arith, omega arith, (omega arith, omega arith, tt))
+  shards_rise (suc (suc zero)) = rises_pairs (λ (b : ShardEntry). b.ticket) 0 4 (shard_at stopped_shards 2)
+      (omega arith, omega arith, (omega arith, omega arith, tt))
   shards_rise (suc (suc (suc k))) = λ i j d l w. absurd (omega (arith, w))
 
   reads : All (ReadsAreRight (store_of emitting_once) []) stopped_shards
@@ -103,7 +107,8 @@ module _ (p : Program) (lists : ListIdentities) (token : TokenFields) where
   closed tree = record {
     book = record {
       control = control_run;
-      performs = λ i. subst (λ t. Performs ((pipeline_of t []).behaviour i) (actions_at (stopped_book p lists token) i)) (sym tree) (performs i);
+      performs = λ i. subst (λ t. Performs ((pipeline_of t []).behaviour i) (actions_at (stopped_book p lists token) i)) (sym tree)
+          (performs i);
       out = λ going i o. absurd (none_out i o);
     };
     logs = record {
@@ -153,7 +158,8 @@ pub stopped_hall_is_merged : StoppedHallIsMerged
 stopped_hall_is_merged p lists token tree = record {
   merged = record {
     opened = subst (λ t. is_some (init_trap (whole_of t [])) ≡ false) (sym tree) refl;
-    closed = subst (λ t. ClosedHall (stopped_book p lists token) (init_accesses (whole_of t [])) stopped_shards) (sym tree) (closed p lists token tree);
+    closed = subst (λ t. ClosedHall (stopped_book p lists token) (init_accesses (whole_of t [])) stopped_shards) (sym tree)
+        (closed p lists token tree);
     none = none_out p lists token;
     events = merged p lists token;
     columns = refl;

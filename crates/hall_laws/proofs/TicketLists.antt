@@ -11,19 +11,23 @@ abbrev pub Rises : {A : Type 0} → (A → ℕ) → ℕ → ℕ → List A → T
 Rises number low top [] = Unit {0}
 Rises number low top (x ∷ xs) = (low < number x) × (number x < top) × Rises number (number x) top xs
 
-pub rises_within : {A : Type 0} (number : A → ℕ) (low top : ℕ) (xs : List A) → Rises number low top xs → (x : A) → Among x xs → (low < number x) × (number x < top)
+pub rises_within : {A : Type 0} (number : A → ℕ) (low top : ℕ) (xs : List A) → Rises number low top xs → (x : A) → Among x xs
+    → (low < number x) × (number x < top)
 rises_within number low top [] h x m = absurd (none_among x m)
 rises_within number low top (y ∷ ys) h x m = elim (among_either x (y ∷ []) ys m) [
   | inl here ↦ (let same = ap number (only_one x y here) in let a = h.0 in let b = h.1 in (omega (arith, same, a), omega (arith, same, b)))
   | inr there ↦ (let w = rises_within number (number y) top ys h.2 x there in let a = w.0 in let b = h.0 in (omega (arith, a, b), w.1))
 ]
 
-pub rises_pairs : {A : Type 0} (number : A → ℕ) (low top : ℕ) (xs : List A) → Rises number low top xs → AllPairs (λ (a : A) (b : A). number a < number b) xs
+pub rises_pairs : {A : Type 0} (number : A → ℕ) (low top : ℕ) (xs : List A) → Rises number low top xs
+    → AllPairs (λ (a : A) (b : A). number a < number b) xs
 rises_pairs number low top [] h i j d l w = absurd (omega (arith, w))
 rises_pairs number low top (x ∷ xs) h zero zero d l w = absurd (omega (arith, l))
-rises_pairs number low top (x ∷ xs) h zero (suc j) d l w = (rises_within number (number x) top xs h.2 (get_or xs j d) (among_at xs j d (omega (arith, w)))).0
+rises_pairs number low top (x ∷ xs) h zero (suc j) d l w =
+    (rises_within number (number x) top xs h.2 (get_or xs j d) (among_at xs j d (omega (arith, w)))).0
 rises_pairs number low top (x ∷ xs) h (suc i) zero d l w = absurd (omega (arith, l))
-rises_pairs number low top (x ∷ xs) h (suc i) (suc j) d l w = rises_pairs number (number x) top xs h.2 i j d (omega (arith, l)) (omega (arith, w))
+rises_pairs number low top (x ∷ xs) h (suc i) (suc j) d l w = rises_pairs number (number x) top xs h.2 i j d (omega (arith, l))
+    (omega (arith, w))
 
 abbrev pub time : TimedAction → ℕ
 time x = x.ticket

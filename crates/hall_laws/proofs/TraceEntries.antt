@@ -1,5 +1,6 @@
 -- Which entries of a shard belong to an instance, and which entries of a trace belong to a shard.
-use Rattle.std.proofs.Common.{◌≡◌, ◌∙◌, refl, sym, ap, ap₂, subst, ℕ, suc, ◌%◌, List, [], ◌∷◌, map, Bool, true, false, ◌==◌, ◌&&◌, cond, filter, All, arith, inl, inr}
+use Rattle.std.proofs.Common.{◌≡◌, ◌∙◌, refl, sym, ap, ap₂, subst, ℕ, suc, ◌%◌, List, [], ◌∷◌, map, Bool, true, false, ◌==◌, ◌&&◌, cond}
+use Rattle.std.proofs.Common.{filter, All, arith, inl, inr}
 use Rattle.std.proofs.lemmas.Bool.{eq-eqb, eqb-true, false≢true}
 use Rattle.pipe_model.specs.declared.node.NodeId.{NodeId}
 use Rattle.pipe_model.specs.declared.ticket.Entry.{Entry}
@@ -73,7 +74,8 @@ shard_has_trace e log m =
 abbrev pub shard_entry_of : NodeId → Entry → ShardEntry
 shard_entry_of x t = record { ticket = t.ticket; node = x; access = t.access }
 
-pub trace_is_of_shard : (x : NodeId) (t : Entry) (log : List ShardEntry) → Among t (entries_of_instance x log) → Among (shard_entry_of x t) log
+pub trace_is_of_shard : (x : NodeId) (t : Entry) (log : List ShardEntry) → Among t (entries_of_instance x log)
+    → Among (shard_entry_of x t) log
 trace_is_of_shard x t log m =
     let h = among_map entry_in_trace t (filter (λ (d : ShardEntry). is_same_node d.node x) log) m in
     let e : ShardEntry = h.0 in
@@ -84,7 +86,8 @@ trace_is_of_shard x t log m =
 
 -- ---- the entries of a shard in a trace
 
-pub trace_has_entry : (width : ℕ) (t : Entry) (trace : List Entry) → Among t trace → Among t (entries_of_shard width (t.access.cell.0 % width) trace)
+pub trace_has_entry : (width : ℕ) (t : Entry) (trace : List Entry) → Among t trace → Among t
+    (entries_of_shard width (t.access.cell.0 % width) trace)
 trace_has_entry width t trace m =
     filter_has (λ (u : Entry). u.access.cell.0 % width == t.access.cell.0 % width) t trace m
     (eq-eqb (t.access.cell.0 % width) (t.access.cell.0 % width) refl)

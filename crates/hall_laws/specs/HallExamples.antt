@@ -1,4 +1,5 @@
--- Worked examples, which show that the premises of the laws can be met: a finished hall of two iterations that overlap, with three shards, and
+-- Worked examples, which show that the premises of the laws can be met: a finished hall of two iterations that overlap, with three shards,
+-- and
 -- a hall that was stopped.
 use Rattle.std.specs.Prelude.{◌≡◌, ℕ, pos, true, List, [], ◌∷◌}
 use Rattle.access_history.specs.declared.history.History.{History}
@@ -76,7 +77,8 @@ abbrev pub example_shards : List (List ShardEntry)
 example_shards =
     []
     ∷ (entry_by 7 (at 0 1) (read_access 1 (pos 0)) ∷ entry_by 8 (at 0 1) (write_access 1 (pos 1)) ∷ [])
-    ∷ (entry_by 2 (at 0 0) (read_access 2 (pos 0)) ∷ entry_by 3 (at 0 0) (write_access 2 (pos 1)) ∷ entry_by 6 (at 0 1) (read_access 2 (pos 1))
+    ∷ (entry_by 2 (at 0 0) (read_access 2 (pos 0)) ∷ entry_by 3 (at 0 0) (write_access 2 (pos 1)) ∷ entry_by 6 (at 0 1)
+    (read_access 2 (pos 1))
     ∷ entry_by 7 (at 1 0) (read_access 2 (pos 1)) ∷ [])
     ∷ []
 
@@ -148,4 +150,5 @@ pub record IsStoppedHall (v : BookState) : Type 0 where
   pub stopped : (state_of v).stopped ≡ true
 
 abbrev pub StoppedHallIsMerged : Type 0
-StoppedHallIsMerged = (p : Program) (lists : ListIdentities) (token : TokenFields) → tree_of p ≡ emitting_once → IsStoppedHall (stopped_book p lists token)
+StoppedHallIsMerged = (p : Program) (lists : ListIdentities) (token : TokenFields) → tree_of p ≡ emitting_once
+    → IsStoppedHall (stopped_book p lists token)

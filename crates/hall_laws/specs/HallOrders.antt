@@ -23,6 +23,8 @@ abbrev pub WholeOrdersAgree : Type 0
 WholeOrdersAgree =
     (limit : ℕ) (events : List Event) (down right : List ℕ) (x y : NodeId) → ControlRun limit events (state_after events)
     → BeginsWith (down_first_log (starts_of events)) down → BeginsWith (right_first_log (columns_after events) (starts_of events)) right
-    → AreIn (list_of_log down) (list_of_log right) (marked events x).marks → AreIn (list_of_log down) (list_of_log right) (marked events y).marks
-    → AgreeOn (list_of_log down) (list_of_log right) (down_place (starts_of events)) (right_place (columns_after events) (starts_of events)) (marked events x)
+    → AreIn (list_of_log down) (list_of_log right) (marked events x).marks → AreIn (list_of_log down) (list_of_log right)
+    (marked events y).marks
+    → AgreeOn (list_of_log down) (list_of_log right) (down_place (starts_of events))
+    (right_place (columns_after events) (starts_of events)) (marked events x)
     (marked events y)

@@ -49,7 +49,8 @@ pub record IsProgramRunOfHall (v : BookState) (log : RunLog) : Type 0 where
   pub stopped : (state_of v).stopped ≡ true → EndsWithStop log.events
 
 abbrev pub MergedHallsAreProgramRuns : Type 0
-MergedHallsAreProgramRuns = (v : BookState) (shards : List (List ShardEntry)) (log : RunLog) → IsMergedHall v shards log → IsProgramRunOfHall v log
+MergedHallsAreProgramRuns = (v : BookState) (shards : List (List ShardEntry)) (log : RunLog) → IsMergedHall v shards log
+    → IsProgramRunOfHall v log
 
 -- if the program breaks no rule, the book is finished and the reports are right for the run, they meet the headline with the run's output
 -- and trap
@@ -61,11 +62,13 @@ FinishedHallsMeetTheHeadline =
     → MeetsProgramHeadline (whole_in v) v.limit log reports races (exit_status reports (run_trap (whole_in v) (state_after log.events)))
     (printed_text reports races (run_output (whole_in v) (state_after log.events)) (run_trap (whole_in v) (state_after log.events)))
 
--- what the histories of the shards have found is in the columns of the run log, as `gather` requires; its reports, sorted by cell, are those
+-- what the histories of the shards have found is in the columns of the run log, as `gather` requires; its reports, sorted by cell, are
+-- those
 -- of the run
 abbrev pub MergedHallsReportTheirRaces : Type 0
 MergedHallsReportTheirRaces =
-    (v : BookState) (shards : List (List ShardEntry)) (log : RunLog) (history : ℕ → History) (found : List (CellId × Found)) (reports : List Report)
+    (v : BookState) (shards : List (List ShardEntry)) (log : RunLog) (history : ℕ → History) (found : List (CellId × Found))
+    (reports : List Report)
     → IsMergedHall v shards log → HaveNotedEntries v shards history → AreFound history found
     → All (λ (f : CellId × Found). IsFoundIn (column_nodes log.columns) f.1) found
     × (IsPermutation (map (λ (f : CellId × Found). report_found (column_nodes log.columns) f.0 f.1) found) reports → RiseByCell reports

@@ -1,5 +1,6 @@
 -- The access histories and the cells of a closed hall: they are those of the run.
-use Rattle.std.specs.Prelude.{◌≡◌, ◌≢◌, ◌+◌, ◌*◌, ◌/◌, suc, ◌%◌, ◌<◌, ◌++◌, [], ◌∷◌, ℕ, List, map, length, slice_index_or, Some, All, AllPairs, Contains}
+use Rattle.std.specs.Prelude.{◌≡◌, ◌≢◌, ◌+◌, ◌*◌, ◌/◌, suc, ◌%◌, ◌<◌, ◌++◌, [], ◌∷◌, ℕ, List, map, length, slice_index_or, Some, All}
+use Rattle.std.specs.Prelude.{AllPairs, Contains}
 use Rattle.std.specs.List.{flat_map}
 use Rattle.std.specs.List.Sorted.{IsPermutation}
 use Rattle.access_history.specs.declared.history.Found.{Found}
@@ -41,7 +42,8 @@ cell_of c = record { 0 = c }
 
 -- the history of each cell has noted the cell's entries, by the two orders of the book's lists; that of a cell without entries is empty
 pub record HaveNotedEntries (v : BookState) (shards : List (List ShardEntry)) (history : ℕ → History) : Type 0 where
-  pub each : (c : ℕ) → IsHistoryAfter (down_place (starts_of_book v)) (right_place (columns_of_book v) (starts_of_book v)) (entries_to shards c) (history c)
+  pub each : (c : ℕ) → IsHistoryAfter (down_place (starts_of_book v)) (right_place (columns_of_book v) (starts_of_book v))
+      (entries_to shards c) (history c)
 
 -- what the histories of the cells of shard k report, in rising order of cells
 pub record AreFoundInShard (width k : ℕ) (history : ℕ → History) (found : List (CellId × Found)) : Type 0 where
@@ -82,7 +84,8 @@ pub record AreReportsOf (events : List Event) (reports : List Report) : Type 0 w
 -- what was found is in the run's own columns, as `gather` requires; its reports, sorted by cell, are those of the run
 pub record FindsRacesOf (events : List Event) (found : List (CellId × Found)) : Type 0 where
   pub inside : All (λ (f : CellId × Found). IsFoundIn (columns_after events) f.1) found
-  pub reports : (reports : List Report) → IsPermutation (map (λ (f : CellId × Found). report_found (columns_after events) f.0 f.1) found) reports
+  pub reports : (reports : List Report) → IsPermutation (map (λ (f : CellId × Found). report_found (columns_after events) f.0 f.1) found)
+      reports
       → RiseByCell reports → AreReportsOf events reports
 
 abbrev pub HistoriesFindRaces : Type 0
@@ -96,7 +99,8 @@ HistoriesFindRaces =
 -- the cells of a shard after the entries in its log are its cells after the run
 abbrev pub ShardStatesAreOfRuns : Type 0
 ShardStatesAreOfRuns =
-    (v : BookState) (before : List Access) (shards : List (List ShardEntry)) (events : List Event) (state : ShardState) → IsRunOfHall v before shards events
+    (v : BookState) (before : List Access) (shards : List (List ShardEntry)) (events : List Event) (state : ShardState)
+    → IsRunOfHall v before shards events
     → state.shard.shards ≡ length shards
     → IsStateAfter (store_of (tree_of v.program)) (before ++ map (λ (e : ShardEntry). e.access) (shard_at shards state.shard.number)) state
     → IsStateAfter (store_of (tree_of v.program)) (before ++ accesses_of (accesses_after events)) state

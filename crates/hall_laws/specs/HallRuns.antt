@@ -50,14 +50,16 @@ pub record IsRunOfHall (v : BookState) (before : List Access) (shards : List (Li
   pub book : without_accesses events ≡ events_of v.log
   pub same : HaveSameControl (state_after events) (state_of v)
   pub accesses : (c : ℕ) → accesses_to c (accesses_after events) ≡ entries_to shards c
-  pub writes : (c : ℕ) → written c (accesses_of (accesses_after events)) ≡ written c (map (λ (e : ShardEntry). e.access) (log_of_cell shards c))
+  pub writes : (c : ℕ) → written c (accesses_of (accesses_after events)) ≡ written c
+      (map (λ (e : ShardEntry). e.access) (log_of_cell shards c))
   pub finished : IsFinished (state_of v) → IsFinished (state_after events)
   pub stopped : (state_of v).stopped ≡ true → EndsWithStop events
 
 -- if no token is out, the merge of the logs of a closed hall is a run
 abbrev pub ClosedHallsAreRuns : Type 0
 ClosedHallsAreRuns =
-    (v : BookState) (before : List Access) (shards : List (List ShardEntry)) (events : List Event) → ClosedHall v before shards → NoTokenIsOut v
+    (v : BookState) (before : List Access) (shards : List (List ShardEntry)) (events : List Event) → ClosedHall v before shards
+    → NoTokenIsOut v
     → AreMerged v.log shards events → IsRunOfHall v before shards events
 
 -- ---- before the merge
@@ -65,7 +67,8 @@ ClosedHallsAreRuns =
 -- tickets rise in the logs, as `merge` requires
 abbrev pub LogsCanBeMerged : Type 0
 LogsCanBeMerged =
-    (v : BookState) (before : List Access) (shards : List (List ShardEntry)) → HasShardLogs v before shards → BookRises v.log × All ShardRises shards
+    (v : BookState) (before : List Access) (shards : List (List ShardEntry)) → HasShardLogs v before shards
+    → BookRises v.log × All ShardRises shards
 
 -- no token of a finished book is out
 abbrev pub FinishedBooksHaveNoTokenOut : Type 0
@@ -93,7 +96,8 @@ pub record AreApart (log : List BookEntry) (x y : LogEntry) : Type 0 where
 -- two entries of a closed hall with one ticket are of different logs and of different instances
 abbrev pub EqualTicketsAreApart : Type 0
 EqualTicketsAreApart =
-    (v : BookState) (before : List Access) (shards : List (List ShardEntry)) (merged : List LogEntry) → ClosedHall v before shards → NoTokenIsOut v
+    (v : BookState) (before : List Access) (shards : List (List ShardEntry)) (merged : List LogEntry) → ClosedHall v before shards
+    → NoTokenIsOut v
     → IsMerge v.log (shard_at shards) merged
     → (earlier between later : List LogEntry) (x y : LogEntry) → merged ≡ earlier ++ x ∷ (between ++ y ∷ later) → ticket_of x ≡ ticket_of y
     → AreApart v.log x y

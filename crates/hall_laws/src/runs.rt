@@ -1,6 +1,7 @@
 //! The merge of the logs of a closed hall is a run.
 
-ghost use Rattle.hall_laws.specs.HallRuns.{ClosedHallsAreRuns, EntriesAreOfInstances, EqualTicketsAreApart, FinishedBooksHaveNoTokenOut, LogsCanBeMerged, RaisedStopsClose};
+ghost use Rattle.hall_laws.specs.HallRuns.{ClosedHallsAreRuns, EntriesAreOfInstances, EqualTicketsAreApart, FinishedBooksHaveNoTokenOut};
+ghost use Rattle.hall_laws.specs.HallRuns.{LogsCanBeMerged, RaisedStopsClose};
 
 /// If no token is out, the merge of the logs of a closed hall is a run of the book's program. Its
 /// events other than accesses are those of the book, and its accesses to a cell are those in the log

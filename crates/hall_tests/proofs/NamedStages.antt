@@ -9,7 +9,8 @@ use Rattle.stage_interp.specs.MachineState.{RunState}
 use Rattle.stage_interp.specs.Standing.{EndsAs, StandsFor}
 
 -- the machine has a behaviour left to do
-pub at_next_stage : (code : FlatCode) (cells : ℕ) (input : List ℤ) (end : StageEnd) (run : RunState) (t : Behaviour) → EndsAs code cells input end run t
+pub at_next_stage : (code : FlatCode) (cells : ℕ) (input : List ℤ) (end : StageEnd) (run : RunState) (t : Behaviour)
+    → EndsAs code cells input end run t
     → NamesNextStage end → (left : Behaviour) × StandsFor code cells input run left
 at_next_stage code cells input (stage_ends.Wait n) run t h names = (h.0, h.2)
 at_next_stage code cells input (stage_ends.Continue n) run t h names = (h.0, h.2)

@@ -17,7 +17,8 @@ token_tie t = tie_of t.payload.passes t.payload.seat
 -- a token of a hall with this name, whose machine has this code and is at the start of its instance
 abbrev pub IsGivenIn : {B : Type 0} → FlatCode → HallName → FrameToken (Carried B) → Type 0
 IsGivenIn code h t =
-    IsGivenToken (λ tree input x i replies. HasMachine x.machine (λ m. IsAtInstance code tree input m i replies)) (λ x. tie_of x.passes x.seat) h t
+    IsGivenToken (λ tree input x i replies. HasMachine x.machine (λ m. IsAtInstance code tree input m i replies))
+    (λ x. tie_of x.passes x.seat) h t
 
 -- a token with these fields, whose payload has this tie, is out, and its instance has made these accesses
 pub record IsOutWith (h : HallName) (f : TokenFields) (tie : Tie) (trace : List Entry) : Type 0 where

@@ -9,6 +9,7 @@ use Rattle.pipe_hall.specs.WorkerSeats.{WorkerSeat, hall_name}
 use Rattle.stage_code.specs.FlatCode.{FlatCode}
 
 -- the seat is one of the hall with this name, and a token beside it is one of that hall
-pub record IsWorkerOf {B : Type 0} (code : FlatCode) (h : HallName) (seat : WorkerSeat) (token : Option (FrameToken (Carried B))) : Type 0 where
-  pub hall_is : hall_name seat.hall ≡ h
-  pub given : IfSome token (IsGivenIn code h)
+pub record IsWorkerOf {B : Type 0} (code : FlatCode) (h : HallName) (seat : WorkerSeat) (token : Option (FrameToken (Carried B))) : Type 0
+  where
+    pub hall_is : hall_name seat.hall ≡ h
+    pub given : IfSome token (IsGivenIn code h)

@@ -91,11 +91,14 @@ impl<M: Stands + Drop, H: Hall<M>> Hall<M> for Counting<H> {
         requires out { IsSeated (H.named self.old.hall) (fields_of token) (M.tie token.payload) }
         requires trace { trace ≡ seated_entries (M.tie token.payload) }
         requires whole { M.whole (H.named self.old.hall).tree token.payload }
-        requires performs { IsPerformed (pipeline_of (H.named self.old.hall).tree (H.named self.old.hall).input) token.iteration (seated_replies (M.tie token.payload)) trace end }
-        requires ready { NamesNextStage end → M.ready_at (H.named self.old.hall).tree (H.named self.old.hall).input token.payload token.iteration (seated_replies (M.tie token.payload) ++ replies_of trace ∷ []) }
+        requires performs { IsPerformed (pipeline_of (H.named self.old.hall).tree (H.named self.old.hall).input) token.iteration
+            (seated_replies (M.tie token.payload)) trace end }
+        requires ready { NamesNextStage end → M.ready_at (H.named self.old.hall).tree (H.named self.old.hall).input token.payload
+            token.iteration (seated_replies (M.tie token.payload) ++ replies_of trace ∷ []) }
         requires stopped { end ≡ StageEnd.Stopped → (state_after (H.seen self.old.hall)).stopped ≡ true }
         ensures named { H.named self.new.hall ≡ H.named self.old.hall }
-        ensures sees { Sees (H.seen self.old.hall) (H.seen self.new.hall) (advance_events token.iteration end result) (λ s. AdvanceReturns s token.iteration token.index end result) }
+        ensures sees { Sees (H.seen self.old.hall) (H.seen self.new.hall) (advance_events token.iteration end result)
+            (λ s. AdvanceReturns s token.iteration token.index end result) }
         ensures tokens { Exchanges (tokens_next result) 1 (H.tokens self.old.hall) (H.tokens self.new.hall) }
         ensures seen_runs { ControlRun (H.named self.new.hall).limit (H.seen self.new.hall) (state_after (H.seen self.new.hall)) }
         ensures token { IfGo result (IsGivenToken M.ready_at M.tie (H.named self.old.hall)) }
@@ -118,7 +121,8 @@ impl<M: Stands + Drop, H: Hall<M>> Hall<M> for Counting<H> {
     fn leave_ready<R: Wait>(&mut self, rt: &R, token: FrameToken<M>)
         requires out { IsSeated (H.named self.old.hall) (fields_of token) (M.tie token.payload) }
         requires fresh { seated_entries (M.tie token.payload) ≡ [] }
-        requires ready { M.ready_at (H.named self.old.hall).tree (H.named self.old.hall).input token.payload token.iteration (seated_replies (M.tie token.payload)) }
+        requires ready { M.ready_at (H.named self.old.hall).tree (H.named self.old.hall).input token.payload token.iteration
+            (seated_replies (M.tie token.payload)) }
         ensures named { H.named self.new.hall ≡ H.named self.old.hall }
         ensures sees { Sees (H.seen self.old.hall) (H.seen self.new.hall) [] (λ s. Unit {0}) }
         ensures tokens { Exchanges 0 1 (H.tokens self.old.hall) (H.tokens self.new.hall) }

@@ -11,7 +11,8 @@ use Rattle.pipe_model.specs.declared.stage.StageEnd.{StageEnd}
 use Rattle.pipe_model.specs.declared.stage.StageEnd.TheVariants as stage_ends
 use Rattle.pipe_model.specs.declared.ticket.Entry.{Entry}
 use Rattle.pipe_model.specs.Language.Interaction.{reply_of}
-use Rattle.pipe_model.specs.Pipelines.Behaviour.{Accessed, Staged, Ended, Behaviour, Reading, Writing, Staging, Ending, Offers, Performs, behaviour_after_all, read_access, write_access}
+use Rattle.pipe_model.specs.Pipelines.Behaviour.{Accessed, Staged, Ended, Behaviour, Reading, Writing, Staging, Ending, Offers, Performs}
+use Rattle.pipe_model.specs.Pipelines.Behaviour.{behaviour_after_all, read_access, write_access}
 use Rattle.pipe_model.specs.Pipelines.Pipeline.{Pipeline}
 use Rattle.pipe_model.specs.Runs.NextEvents.{event_of_behaviour}
 use Rattle.pipe_model.specs.Runs.StageEnds.{stage_end_events}
@@ -50,7 +51,8 @@ after_trace (Writing c v d) (a ∷ as') k n rest h e =
 after_trace (Staging j m d) (a ∷ as') k n rest h e = absurd (let is : Accessed a.access ≡ Staged j m = h.0 in cc)
 after_trace (Ending x) (a ∷ as') k n rest h e = absurd (let is : Accessed a.access ≡ Ended x = h.0 in cc)
 
-module _ (code : FlatCode) (cells : ℕ) (input : List ℤ) (t : Behaviour) (run : RunState) (trace : List Entry) (h : Performs t (accessed trace)) where
+module _ (code : FlatCode) (cells : ℕ) (input : List ℤ) (t : Behaviour) (run : RunState) (trace : List Entry)
+    (h : Performs t (accessed trace)) where
   names_next : (k : Kind) (n : ℤ) (rest : Behaviour) → behaviour_after_all t (accessed trace) ≡ Staging k n rest
       → Performs t (accessed trace ++ Staged k n ∷ [])
   names_next k n rest is = performs_push t (accessed trace) (Staged k n) h (subst (λ d. Offers d (Staged k n)) (sym is) refl)
@@ -59,7 +61,8 @@ module _ (code : FlatCode) (cells : ℕ) (input : List ℤ) (t : Behaviour) (run
   ends_now x is = performs_push t (accessed trace) (Ended x) h (subst (λ d. Offers d (Ended x)) (sym is) refl)
 
   -- a machine that has come to rest so has ended its instance
-  pub ends_so : (end : StageEnd) → EndsAs code cells input end run (behaviour_after_all t (accessed trace)) → HasEnded code cells input t run trace end
+  pub ends_so : (end : StageEnd) → EndsAs code cells input end run (behaviour_after_all t (accessed trace))
+      → HasEnded code cells input t run trace end
   ends_so (stage_ends.Wait n) e = record {
     performs = names_next kinds.Wait n e.0 e.1;
     stands = λ names. subst (StandsFor code cells input run) (after_trace t trace kinds.Wait n e.0 h e.1) e.2;
@@ -71,11 +74,16 @@ module _ (code : FlatCode) (cells : ℕ) (input : List ℤ) (t : Behaviour) (run
   ends_so stage_ends.End e = record { performs = ends_now ends.End e; stands = λ names. elim names [ ] }
   ends_so stage_ends.Closed e = record { performs = ends_now ends.Closed e; stands = λ names. elim names [ ] }
   ends_so (stage_ends.Trap w) e = record { performs = ends_now (ends.Trapped w) e; stands = λ names. elim names [ ] }
-  ends_so stage_ends.Stopped e = record { performs = subst (Performs t) (sym (append-nil (accessed trace))) h; stands = λ names. elim names [ ] }
+  ends_so stage_ends.Stopped e = record {
+    performs = subst (Performs t) (sym (append-nil (accessed trace))) h;
+    stands =
+        λ names. elim names [ ];
+  }
 
 -- the end of an instance that was not stopped is the next event of what is left
 pub end_event : (code : FlatCode) (cells : ℕ) (input : List ℤ) (run : RunState) (d : Behaviour) (end : StageEnd) → end ≢ stage_ends.Stopped
-    → EndsAs code cells input end run d → (p : Pipeline) (before : List Access) (i : ℕ) → stage_end_events i end ≡ event_of_behaviour p before i d ∷ []
+    → EndsAs code cells input end run d → (p : Pipeline) (before : List Access) (i : ℕ) → stage_end_events i end ≡ event_of_behaviour p
+    before i d ∷ []
 end_event code cells input run d (stage_ends.Wait n) going e p before i = ap (λ b. event_of_behaviour p before i b ∷ []) (sym e.1)
 end_event code cells input run d (stage_ends.Continue n) going e p before i = ap (λ b. event_of_behaviour p before i b ∷ []) (sym e.1)
 end_event code cells input run d stage_ends.End going e p before i = ap (λ b. event_of_behaviour p before i b ∷ []) (sym e)

@@ -15,13 +15,16 @@ use Rattle.stage_interp.specs.Standing.{RanInstance, StandsFor}
 abbrev pub accesses_of : List Entry → List Access
 accesses_of trace = map (λ e. e.access) trace
 
--- an instance, which began with behaviour t, has performed its accesses and its end; if it names a next stage, the machine is at the beginning of
+-- an instance, which began with behaviour t, has performed its accesses and its end; if it names a next stage, the machine is at the
+-- beginning of
 -- the next instance
-pub record HasEnded (code : FlatCode) (cells : ℕ) (input : List ℤ) (t : Behaviour) (run : RunState) (trace : List Entry) (end : StageEnd) : Type 0 where
+pub record HasEnded (code : FlatCode) (cells : ℕ) (input : List ℤ) (t : Behaviour) (run : RunState) (trace : List Entry)
+    (end : StageEnd) : Type 0 where
   pub performs : Performs t (accessed trace ++ stage_end_actions end)
   pub stands : NamesNextStage end → StandsFor code cells input run (after_instance t (replies_of trace))
 
 -- a machine that ran over a memory without accesses, which now has those of the trace, has ended its instance
 abbrev pub MachinesPerformTheirInstances : Type 0
-MachinesPerformTheirInstances = (code : FlatCode) (cells : ℕ) (input : List ℤ) (t : Behaviour) (run : RunState) (trace : List Entry) (end : StageEnd)
+MachinesPerformTheirInstances = (code : FlatCode) (cells : ℕ) (input : List ℤ) (t : Behaviour) (run : RunState) (trace : List Entry)
+    (end : StageEnd)
     → RanInstance code cells input t [] (accesses_of trace) run end → HasEnded code cells input t run trace end

@@ -1,5 +1,6 @@
 -- Stage numbers rise along the tree of an iteration.
-use Rattle.std.proofs.Common.{◌≡◌, ◌≢◌, ℕ, zero, suc, ℤ, pos, negsuc, Bool, true, false, List, Option, Some, None, if◌then◌else◌, nat_lt, ◌<ℤ◌, ◌+ℤ◌, refl, arith}
+use Rattle.std.proofs.Common.{◌≡◌, ◌≢◌, ℕ, zero, suc, ℤ, pos, negsuc, Bool, true, false, List, Option, Some, None, if◌then◌else◌, nat_lt}
+use Rattle.std.proofs.Common.{◌<ℤ◌, ◌+ℤ◌, refl, arith}
 use Rattle.std.specs.Prelude.{int_lt}
 use Rattle.std.specs.Ordering.{int_eq}
 use Rattle.std.proofs.lemmas.Int.{ints}
@@ -9,12 +10,15 @@ use Rattle.pipe_model.specs.declared.tree.StageKind.{StageKind}
 use Rattle.pipe_model.specs.declared.tree.StageKind.TheVariants as kinds
 use Rattle.pipe_model.specs.declared.column.ColumnEnd.{ColumnEnd}
 use Rattle.pipe_model.specs.declared.column.ColumnEnd.TheVariants as ends
-use Rattle.pipe_model.specs.Language.Evaluation.{CellRange, Setting, StagePosition, Environment, evaluate, execute, execute_all, assign, emit, go_to_stage, go_to_next_stage, if_zero, leave_block, loop_turns, local_value}
+use Rattle.pipe_model.specs.Language.Evaluation.{CellRange, Setting, StagePosition, Environment, evaluate, execute, execute_all, assign}
+use Rattle.pipe_model.specs.Language.Evaluation.{emit, go_to_stage, go_to_next_stage, if_zero, leave_block, loop_turns, local_value}
 use Rattle.pipe_model.specs.Language.Interaction.{Interaction, Return, Raise, Step, Get, Set, Stage, bind, with_budget}
 use Rattle.pipe_model.specs.Pipelines.Pipeline.{HasLegalStages}
 use Rattle.pipe_model.specs.Language.SyntaxTree as syntax
-use Rattle.pipe_model.specs.Language.SyntaxTree.{Expression, Statement, Let, Assign, AssignElement, Emit, If, While, NextStage, Statements, Empty, Then, kind_of_stage}
-use Rattle.language_laws.proofs.Straight.{IsStraight, Returns, Raises, Steps, Gets, Sets, Anything, straight-evaluate, straight-element_of, straight-fitting}
+use Rattle.pipe_model.specs.Language.SyntaxTree.{Expression, Statement, Let, Assign, AssignElement, Emit, If, While, NextStage, Statements}
+use Rattle.pipe_model.specs.Language.SyntaxTree.{Empty, Then, kind_of_stage}
+use Rattle.language_laws.proofs.Straight.{IsStraight, Returns, Raises, Steps, Gets, Sets, Anything, straight-evaluate, straight-element_of}
+use Rattle.language_laws.proofs.Straight.{straight-fitting}
 use Rattle.language_laws.proofs.Straight.{either as straight_either}
 use Rattle.pipe_model.specs.declared.trap.Trap.{Trap}
 
@@ -25,10 +29,12 @@ pub data Rises {A : Type 0} (P : Bool → ℤ → A → Type 0) : Bool → ℤ �
   RisesStep : {first : Bool} {n : ℤ} {d : Interaction A} → Rises P first n d → Rises P first n (Step d)
   RisesGet : {first : Bool} {n : ℤ} {go : ℤ → Interaction A} (c : ℕ) → ((v : ℤ) → Rises P first n (go v)) → Rises P first n (Get c go)
   RisesSet : {first : Bool} {n : ℤ} {d : Interaction A} (c : ℕ) (v : ℤ) → Rises P first n d → Rises P first n (Set c v d)
-  RisesStage : {first : Bool} {n m : ℤ} {k : Kind} {d : Interaction A} → k ≢ Zero → n <ℤ m → Rises P false m d → Rises P first n (Stage k m d)
+  RisesStage : {first : Bool} {n m : ℤ} {k : Kind} {d : Interaction A} → k ≢ Zero → n <ℤ m → Rises P false m d
+      → Rises P first n (Stage k m d)
 
 -- one tree after another
-pub rises-bind : {A B : Type 0} {P : Bool → ℤ → A → Type 0} {Q : Bool → ℤ → B → Type 0} {first : Bool} {n : ℤ} {d : Interaction A} {f : A → Interaction B}
+pub rises-bind : {A B : Type 0} {P : Bool → ℤ → A → Type 0} {Q : Bool → ℤ → B → Type 0} {first : Bool} {n : ℤ} {d : Interaction A}
+    {f : A → Interaction B}
     → Rises P first n d → ((now : Bool) (m : ℤ) (a : A) → P now m a → Rises Q now m (f a)) → Rises Q first n (bind d f)
 rises-bind (RisesReturn {first} {n} {a} p) h = h first n a p
 rises-bind (RisesRaise t) h = RisesRaise t
@@ -38,7 +44,8 @@ rises-bind (RisesSet c v r) h = RisesSet c v (rises-bind r h)
 rises-bind (RisesStage k l r) h = RisesStage k l (rises-bind r h)
 
 -- a tree without stages, followed by another tree
-pub straight-then : {A B : Type 0} {P : A → Type 0} {Q : Bool → ℤ → B → Type 0} {first : Bool} {n : ℤ} {d : Interaction A} {f : A → Interaction B}
+pub straight-then : {A B : Type 0} {P : A → Type 0} {Q : Bool → ℤ → B → Type 0} {first : Bool} {n : ℤ} {d : Interaction A}
+    {f : A → Interaction B}
     → IsStraight P d → ((a : A) → P a → Rises Q first n (f a)) → Rises Q first n (bind d f)
 straight-then (Returns {a} p) h = h a p
 straight-then (Raises t) h = RisesRaise t
@@ -76,14 +83,16 @@ rises-go_to_stage : (stages : ℕ) (kind : StageKind) (here : StagePosition) (fi
     → Rises IsPosition first n (go_to_stage stages kind here m)
 rises-go_to_stage stages kind here first n m at =
     either (int_lt here.number m) (λ above. either (nat_lt here.count stages)
-    (λ room. RisesStage (enters_no_zero kind) (rw (← at) (let t = above in grind (arith, ints))) (RisesReturn refl)) (RisesRaise _)) (RisesRaise _)
+    (λ room. RisesStage (enters_no_zero kind) (rw (← at) (let t = above in grind (arith, ints))) (RisesReturn refl)) (RisesRaise _))
+    (RisesRaise _)
 
 rises-go_to_next_stage : (stages : ℕ) (kind : StageKind) (here : StagePosition) (first : Bool) (n : ℤ) → here.number ≡ n
     → Rises IsPosition first n (go_to_next_stage stages kind here)
 rises-go_to_next_stage stages kind here first n at =
     straight-then (straight-fitting (here.number +ℤ pos 1)) (λ m h. rises-go_to_stage stages kind here first n m at)
 
-rises-assign : (env : Environment) (o : Option ℤ) (range : Option CellRange) (x : List ℕ) (v : ℤ) (first : Bool) (n : ℤ) → env.stage.number ≡ n
+rises-assign : (env : Environment) (o : Option ℤ) (range : Option CellRange) (x : List ℕ) (v : ℤ) (first : Bool) (n : ℤ)
+    → env.stage.number ≡ n
     → Rises KnowsStage first n (assign env o range x v)
 rises-assign env (Some old) range x v first n at = RisesReturn at
 rises-assign env None (Some range) x v first n at = RisesSet _ _ (RisesReturn at)
@@ -93,8 +102,10 @@ straight-emit : (limit : ℕ) (v : ℤ) → IsStraight Anything (emit limit v)
 straight-emit limit v = Gets 1 (λ count. straight_either Anything (int_eq count (pos limit)) _ _ (Raises _) (Sets 1 v (Returns tt)))
 
 -- the turns of a loop whose body rises
-rises-turns : (turns : ℕ) (test : Environment → Interaction ℤ) (body : Environment → Interaction Environment) (env : Environment) (first : Bool) (n : ℤ)
-    → ((now : Environment) → IsStraight Anything (test now)) → ((now : Environment) (f : Bool) (m : ℤ) → now.stage.number ≡ m → Rises KnowsStage f m (body now))
+rises-turns : (turns : ℕ) (test : Environment → Interaction ℤ) (body : Environment → Interaction Environment) (env : Environment)
+    (first : Bool) (n : ℤ)
+    → ((now : Environment) → IsStraight Anything (test now))
+    → ((now : Environment) (f : Bool) (m : ℤ) → now.stage.number ≡ m → Rises KnowsStage f m (body now))
     → env.stage.number ≡ n → Rises KnowsStage first n (loop_turns turns test body env)
 rises-turns zero test body env first n straight rises at = RisesRaise _
 rises-turns (suc turns) test body env first n straight rises at =
@@ -105,17 +116,22 @@ mutual
   -- statements continue at rising numbers
   pub rises-execute : (setting : Setting) (s : Statement) (env : Environment) (first : Bool) (n : ℤ) → env.stage.number ≡ n
       → Rises KnowsStage first n (execute setting s env)
-  rises-execute setting (Let x e) env first n at = straight-then (straight-evaluate setting env.locals e) (λ v h. RisesStep (RisesReturn at))
+  rises-execute setting (Let x e) env first n at = straight-then (straight-evaluate setting env.locals e)
+      (λ v h. RisesStep (RisesReturn at))
   rises-execute setting (Assign x e) env first n at =
-      straight-then (straight-evaluate setting env.locals e) (λ v h. RisesStep (rises-assign env (local_value env.locals x) (setting.cells x) x v first n at))
+      straight-then (straight-evaluate setting env.locals e)
+      (λ v h. RisesStep (rises-assign env (local_value env.locals x) (setting.cells x) x v first n at))
   rises-execute setting (AssignElement x i e) env first n at =
-      straight-then (straight-evaluate setting env.locals i) (λ j h. straight-then (straight-evaluate setting env.locals e) (λ v h'. RisesStep
+      straight-then (straight-evaluate setting env.locals i)
+      (λ j h. straight-then (straight-evaluate setting env.locals e) (λ v h'. RisesStep
       (straight-then (straight-element_of (setting.cells x) j) (λ c h''. RisesSet c v (RisesReturn at)))))
   rises-execute setting (Emit e) env first n at =
-      straight-then (straight-evaluate setting env.locals e) (λ v h. RisesStep (straight-then (straight-emit setting.world.emits v) (λ u h'. RisesReturn at)))
+      straight-then (straight-evaluate setting env.locals e)
+      (λ v h. RisesStep (straight-then (straight-emit setting.world.emits v) (λ u h'. RisesReturn at)))
   rises-execute setting (If e a b) env first n at =
       straight-then (straight-evaluate setting env.locals e) (λ v h. RisesStep (rises-bind
-      (either_by_zero v (rises-execute_all setting b env first n at) (rises-execute_all setting a env first n at)) (λ f m after known. RisesReturn known)))
+      (either_by_zero v (rises-execute_all setting b env first n at) (rises-execute_all setting a env first n at))
+      (λ f m after known. RisesReturn known)))
   rises-execute setting (While e a) env first n at =
       rises-turns setting.turns (λ now. evaluate setting now.locals e) (execute_all setting a) env first n
       (λ now. straight-evaluate setting now.locals e) (λ now f m known. rises-execute_all setting a now f m known) at

@@ -1,7 +1,9 @@
 -- If a program breaks a rule at a mark, that mark has an offset in each source that spells the program.
-use Rattle.std.proofs.Common.{◌≡◌, refl, ℕ, zero, suc, ◌+◌, ◌<◌, ℤ, pos, Bool, true, false, List, [], ◌∷◌, length, slice_get, Option, Some, None, if◌then◌else◌, arith}
+use Rattle.std.proofs.Common.{◌≡◌, refl, ℕ, zero, suc, ◌+◌, ◌<◌, ℤ, pos, Bool, true, false, List, [], ◌∷◌, length, slice_get, Option, Some}
+use Rattle.std.proofs.Common.{None, if◌then◌else◌, arith}
 use Rattle.pipe_model.specs.declared.token.Token.{Token}
-use Rattle.pipe_model.specs.Language.CheckingRules.{Fault, Broken, CheckingRule, broken_at, fault_of, fault_or, first_fault, limit_fault_or, first_limit_out}
+use Rattle.pipe_model.specs.Language.CheckingRules.{Fault, Broken, CheckingRule, broken_at, fault_of, fault_or, first_fault, limit_fault_or}
+use Rattle.pipe_model.specs.Language.CheckingRules.{first_limit_out}
 use Rattle.pipe_model.specs.Language.MarkPlaces.{is_mark, mark_places}
 use Rattle.pipe_model.specs.Language.Marks.{Mark, marks_of}
 use Rattle.pipe_model.specs.Language.SourceSpelling.{SourceSpells}
@@ -11,16 +13,19 @@ use Rattle.language_laws.proofs.MarkedTokens.{marks_have_places}
 -- ---- the mark of a broken rule is one of the marks
 
 -- a rule that is broken at the first mark or at a later one is broken at one of all marks
-broken_here : (o : Option CheckingRule) (rest : Option Fault) (n many mark : ℕ) (rule : CheckingRule) → (rest ≡ Some (Broken rule mark) → mark < n + 1 + many)
+broken_here : (o : Option CheckingRule) (rest : Option Fault) (n many mark : ℕ) (rule : CheckingRule)
+    → (rest ≡ Some (Broken rule mark) → mark < n + 1 + many)
     → fault_or o n rest ≡ Some (Broken rule mark) → mark < n + (1 + many)
 broken_here (Some r) rest n many mark rule following h = let same : n ≡ mark = cc (h) in omega (arith, same)
 broken_here None rest n many mark rule following h = let within = following h in omega (arith, within)
 
 -- if the first fault of the marks is a broken rule, its mark is one of them
-broken_among : (n mark : ℕ) (marks : List Mark) (rule : CheckingRule) → first_fault n marks ≡ Some (Broken rule mark) → mark < n + length marks
+broken_among : (n mark : ℕ) (marks : List Mark) (rule : CheckingRule) → first_fault n marks ≡ Some (Broken rule mark)
+    → mark < n + length marks
 broken_among n mark [] rule h = cc (h)
 broken_among n mark (m ∷ marks) rule h =
-    let within = broken_here (broken_at m) (first_fault (n + 1) marks) n (length marks) mark rule (broken_among (n + 1) mark marks rule) h in
+    let within = broken_here (broken_at m) (first_fault (n + 1) marks) n (length marks) mark rule
+    (broken_among (n + 1) mark marks rule) h in
     omega (arith, within)
 
 -- if a rule is broken, no limit is out of its range
@@ -30,9 +35,11 @@ after_limits None rest rule mark h = h
 after_limits (Some which) rest rule mark h = cc (h)
 
 -- the mark at which a program breaks a rule is one of its marks
-broken_within : (tree : SyntaxTree) (rule : CheckingRule) (mark : ℕ) → fault_of tree ≡ Some (Broken rule mark) → mark < length (marks_of tree)
+broken_within : (tree : SyntaxTree) (rule : CheckingRule) (mark : ℕ) → fault_of tree ≡ Some (Broken rule mark)
+    → mark < length (marks_of tree)
 broken_within tree rule mark h =
-    let within = broken_among 0 mark (marks_of tree) rule (after_limits (first_limit_out tree.limits) (first_fault 0 (marks_of tree)) rule mark h) in
+    let within = broken_among 0 mark (marks_of tree) rule
+    (after_limits (first_limit_out tree.limits) (first_fault 0 (marks_of tree)) rule mark h) in
     omega (arith, within)
 
 -- ---- each mark has an offset

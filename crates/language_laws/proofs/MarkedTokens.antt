@@ -1,5 +1,6 @@
 -- If a source spells a program, its marked tokens are the marks of the program, one by one.
-use Rattle.std.proofs.Common.{◌≡◌, ◌∙◌, ap, sym, refl, ℕ, ℤ, pos, Bool, true, false, List, [], ◌∷◌, ◌++◌, length, arith, inl, inr, if◌then◌else◌, ◌==◌, ◌||◌}
+use Rattle.std.proofs.Common.{◌≡◌, ◌∙◌, ap, sym, refl, ℕ, ℤ, pos, Bool, true, false, List, [], ◌∷◌, ◌++◌, length, arith, inl, inr}
+use Rattle.std.proofs.Common.{if◌then◌else◌, ◌==◌, ◌||◌}
 use Rattle.std.proofs.lemmas.Bool.Decides.{nat_tests}
 use Rattle.pipe_model.specs.declared.symbol.Symbol.{Symbol}
 use Rattle.pipe_model.specs.declared.symbol.Symbol.TheVariants as symbols
@@ -12,7 +13,8 @@ use Rattle.pipe_model.specs.Language.SourceSpelling.{SourceSpells}
 use Rattle.pipe_model.specs.Language.SyntaxTree.{SyntaxTree}
 use Rattle.pipe_model.specs.Language.Tokens.{text_in, symbol_as, symbols_in}
 use Rattle.language_laws.specs.MarkLaws.{OccursAs, HaveMarks, NoToken, OtherToken, MarkToken}
-use Rattle.language_laws.proofs.SpelledMarks.{MarkText, NameText, IterText, StageText, text_at, texts_of, marked_text, texts_in, program_texts}
+use Rattle.language_laws.proofs.SpelledMarks.{MarkText, NameText, IterText, StageText, text_at, texts_of, marked_text, texts_in}
+use Rattle.language_laws.proofs.SpelledMarks.{program_texts}
 
 -- ---- the kinds of occurrences, by the text at the mark
 
@@ -64,7 +66,8 @@ first_word : (source : List ℕ) (k place size : ℕ) (tokens : List Token) (ms 
     → RestHasMarks source tokens → HaveMarks source (token_of (kinds.Word k) place size ∷ tokens) ms
     (mark_places (token_of (kinds.Word k) place size ∷ tokens))
 first_word source k place size tokens ms e b =
-    by_word (k == 9) (k == 10) (k == 19) (λ h. grind (arith, nat_tests, h)) (λ h. grind (arith, nat_tests, h)) (λ h. grind (arith, nat_tests, h)) refl e
+    by_word (k == 9) (k == 10) (k == 19) (λ h. grind (arith, nat_tests, h)) (λ h. grind (arith, nat_tests, h))
+    (λ h. grind (arith, nat_tests, h)) refl e
   where
     iter_word : k ≡ 19 → (o : Occurrence) → text_at o ≡ IterText → OccursAs o (symbols.Word k)
     iter_word same o w = occurs_as_iter o k same w
@@ -101,19 +104,26 @@ have_marks source [] = record { marks = none }
     none : (ms : List Mark) → texts_of ms ≡ [] → HaveMarks source [] ms []
     none [] e = NoToken
     none (m ∷ ms) e = cc (e)
-have_marks source (token ∷ tokens) = record { marks = λ ms e. first_token source token.kind token.place token.length tokens ms e (have_marks source tokens) }
+have_marks source (token ∷ tokens) = record {
+  marks = λ ms e. first_token source token.kind token.place token.length tokens ms e
+      (have_marks source tokens);
+}
 
 -- ---- programs
 
 -- the tokens of a source have the marks of its program
-pub source_marks : (source : List ℕ) (tree : SyntaxTree) (s : SourceSpells source tree) → HaveMarks source s.tokens (marks_of tree) (mark_places s.tokens)
-source_marks source tree s = (have_marks source s.tokens).marks (marks_of tree) (program_texts s.spelled.derived ∙ ap texts_in (sym s.spelled.split))
+pub source_marks : (source : List ℕ) (tree : SyntaxTree) (s : SourceSpells source tree) → HaveMarks source s.tokens (marks_of tree)
+    (mark_places s.tokens)
+source_marks source tree s = (have_marks source s.tokens).marks (marks_of tree)
+    (program_texts s.spelled.derived ∙ ap texts_in (sym s.spelled.split))
 
-as_many : {source : List ℕ} {tokens : List Token} {ms : List Mark} {places : List ℤ} → HaveMarks source tokens ms places → length ms ≡ length places
+as_many : {source : List ℕ} {tokens : List Token} {ms : List Mark} {places : List ℤ} → HaveMarks source tokens ms places
+    → length ms ≡ length places
 as_many NoToken = refl
 as_many (OtherToken token h m) = as_many m
 as_many (MarkToken token mark h o m) = let same = as_many m in omega (arith, same)
 
 -- each mark has an offset
-pub marks_have_places : (source : List ℕ) (tree : SyntaxTree) (s : SourceSpells source tree) → length (marks_of tree) ≡ length (mark_places s.tokens)
+pub marks_have_places : (source : List ℕ) (tree : SyntaxTree) (s : SourceSpells source tree)
+    → length (marks_of tree) ≡ length (mark_places s.tokens)
 marks_have_places source tree s = as_many (source_marks source tree s)

@@ -1,14 +1,21 @@
 -- If symbols derive a program, the marked symbols are the marks of the program, one by one.
-use Rattle.std.proofs.Common.{◌≡◌, ◌∙◌, ap, sym, refl, ℕ, ◌≤◌, ℤ, Bool, true, false, List, [], ◌∷◌, ◌++◌, append_assoc, append-nil, length, length-append, map, arith, if◌then◌else◌, ◌==◌, ◌||◌, Option}
+use Rattle.std.proofs.Common.{◌≡◌, ◌∙◌, ap, sym, refl, ℕ, ◌≤◌, ℤ, Bool, true, false, List, [], ◌∷◌, ◌++◌, append_assoc, append-nil, length}
+use Rattle.std.proofs.Common.{length-append, map, arith, if◌then◌else◌, ◌==◌, ◌||◌, Option}
 use Rattle.std.proofs.lemmas.List.{map-append, length-map}
 use Rattle.pipe_model.specs.declared.symbol.Symbol.{Symbol}
 use Rattle.pipe_model.specs.declared.symbol.Symbol.TheVariants as symbols
 use Rattle.pipe_model.specs.declared.region.Region.TheVariants as regions
 use Rattle.pipe_model.specs.declared.tree.Declaration.{Declaration}
 use Rattle.pipe_model.specs.Language.Marks as marks
-use Rattle.pipe_model.specs.Language.Marks.{Scope, Occurrence, Mark, opening, after_statement, after_block, marks_of_expression, marks_of_statement, marks_of_statements, marks_of_cells, marks_of}
+use Rattle.pipe_model.specs.Language.Marks.{Scope, Occurrence, Mark, opening, after_statement, after_block, marks_of_expression}
+use Rattle.pipe_model.specs.Language.Marks.{marks_of_statement, marks_of_statements, marks_of_cells, marks_of}
 use Rattle.pipe_model.specs.Language.SyntaxTree.{Expression, And, Or, Binary, binary_expression, Statement, Statements, SyntaxTree}
-use Rattle.pipe_model.specs.Language.Grammar.{any_expression, Derives, Numeral, Named, Indexed, CallsMore, CallsTake, CallsIter, Negative, Not, Bracketed, Tighter, Joined, Piece, Single, flat, DerivesStatement, LetIs, AssignIs, AssignElementIs, EmitIs, IfIs, WhileIs, WaitIs, WaitNextIs, ContinueIs, ContinueNextIs, DerivesStatements, NoStatement, OneMore, DerivesBlock, BlockIs, DerivesPart, NoPart, PartIs, DerivesSize, NoSize, SizeIs, DerivesValue, ValueIs, NegativeValueIs, declaration, DerivesCells, NoCell, CellIs, DerivesProgram, ProgramIs}
+use Rattle.pipe_model.specs.Language.Grammar.{any_expression, Derives, Numeral, Named, Indexed, CallsMore, CallsTake, CallsIter, Negative}
+use Rattle.pipe_model.specs.Language.Grammar.{Not, Bracketed, Tighter, Joined, Piece, Single, flat, DerivesStatement, LetIs, AssignIs}
+use Rattle.pipe_model.specs.Language.Grammar.{AssignElementIs, EmitIs, IfIs, WhileIs, WaitIs, WaitNextIs, ContinueIs, ContinueNextIs}
+use Rattle.pipe_model.specs.Language.Grammar.{DerivesStatements, NoStatement, OneMore, DerivesBlock, BlockIs, DerivesPart, NoPart, PartIs}
+use Rattle.pipe_model.specs.Language.Grammar.{DerivesSize, NoSize, SizeIs, DerivesValue, ValueIs, NegativeValueIs, declaration}
+use Rattle.pipe_model.specs.Language.Grammar.{DerivesCells, NoCell, CellIs, DerivesProgram, ProgramIs}
 use Rattle.pipe_model.specs.Language.Words.{semicolon, equals, close_round, close_square, close_brace}
 use Rattle.grammar_laws.proofs.Pieces.{flat_append}
 
@@ -50,7 +57,8 @@ texts_in (t ∷ ts) = marked_text t ++ texts_in ts
 
 texts_append : (ts us : List Symbol) → texts_in (ts ++ us) ≡ texts_in ts ++ texts_in us
 texts_append [] us = refl
-texts_append (t ∷ ts) us = ap (λ x. marked_text t ++ x) (texts_append ts us) ∙ sym (append_assoc (marked_text t) (texts_in ts) (texts_in us))
+texts_append (t ∷ ts) us = ap (λ x. marked_text t ++ x) (texts_append ts us)
+    ∙ sym (append_assoc (marked_text t) (texts_in ts) (texts_in us))
 
 texts_flat : (ps qs : List Piece) → texts_in (flat (ps ++ qs)) ≡ texts_in (flat ps) ++ texts_in (flat qs)
 texts_flat ps qs = ap texts_in (flat_append ps qs) ∙ texts_append (flat ps) (flat qs)
@@ -64,7 +72,8 @@ quiet_end : (ts us : List Symbol) → texts_in us ≡ [] → texts_in (ts ++ us)
 quiet_end ts us h = texts_append ts us ∙ ap (λ x. texts_in ts ++ x) h ∙ append-nil (texts_in ts)
 
 -- the marks of two parts are the marks of their symbols
-of_both : (ms ns : List Mark) (ts us : List Symbol) → texts_of ms ≡ texts_in ts → texts_of ns ≡ texts_in us → texts_of (ms ++ ns) ≡ texts_in (ts ++ us)
+of_both : (ms ns : List Mark) (ts us : List Symbol) → texts_of ms ≡ texts_in ts → texts_of ns ≡ texts_in us
+    → texts_of (ms ++ ns) ≡ texts_in (ts ++ us)
 of_both ms ns ts us h i = texts_both ms ns ∙ ap (λ x. x ++ texts_of ns) h ∙ ap (λ x. texts_in ts ++ x) i ∙ sym (texts_append ts us)
 
 of_pieces : (ms ns : List Mark) (ps qs : List Piece) → texts_of ms ≡ texts_in (flat ps) → texts_of ns ≡ texts_in (flat qs)
@@ -74,7 +83,8 @@ of_pieces ms ns ps qs h i = of_both ms ns (flat ps) (flat qs) h i ∙ ap texts_i
 -- ---- expressions
 
 joined_texts : (code : ℕ) (scope : Scope) (a b : Expression)
-    → texts_of (marks_of_expression scope (binary_expression code a b)) ≡ texts_of (marks_of_expression scope a ++ marks_of_expression scope b)
+    → texts_of (marks_of_expression scope (binary_expression code a b)) ≡ texts_of
+    (marks_of_expression scope a ++ marks_of_expression scope b)
 joined_texts code scope a b = by_code (code == 1) (code == 2)
   where
     by_code : (p q : Bool) → texts_of (marks_of_expression scope (if p then Or a b else (if q then And a b else Binary code a b)))
@@ -84,10 +94,12 @@ joined_texts code scope a b = by_code (code == 1) (code == 2)
     by_code false false = refl
 
 -- an expression has the marks of its symbols
-expression_texts : {level : ℕ} {ts : List Symbol} {e : Expression} (scope : Scope) → Derives level ts e → texts_of (marks_of_expression scope e) ≡ texts_in ts
+expression_texts : {level : ℕ} {ts : List Symbol} {e : Expression} (scope : Scope) → Derives level ts e
+    → texts_of (marks_of_expression scope e) ≡ texts_in ts
 expression_texts scope (Numeral n) = refl
 expression_texts scope (Named x) = refl
-expression_texts scope (Indexed {inside} x d) = ap (λ r. NameText x ∷ r) (expression_texts scope d ∙ sym (quiet_end inside (close_square ∷ []) refl))
+expression_texts scope (Indexed {inside} x d) = ap (λ r. NameText x ∷ r)
+    (expression_texts scope d ∙ sym (quiet_end inside (close_square ∷ []) refl))
 expression_texts scope CallsMore = refl
 expression_texts scope CallsTake = refl
 expression_texts scope CallsIter = refl
@@ -105,14 +117,16 @@ last_texts : {ts : List Symbol} {e : Expression} (scope : Scope) (us : List Symb
     → texts_of (marks_of_expression scope e) ≡ texts_in (ts ++ us)
 last_texts {ts} scope us d h = expression_texts scope d ∙ sym (quiet_end ts us h)
 
-front_texts : {ts : List Symbol} {e : Expression} (scope : Scope) (ms : List Mark) (us : List Symbol) → Derives any_expression ts e → texts_of ms ≡ texts_in us
+front_texts : {ts : List Symbol} {e : Expression} (scope : Scope) (ms : List Mark) (us : List Symbol) → Derives any_expression ts e
+    → texts_of ms ≡ texts_in us
     → texts_of (marks_of_expression scope e ++ ms) ≡ texts_in (ts ++ us)
 front_texts {ts} {e} scope ms us d h = of_both (marks_of_expression scope e) ms ts us (expression_texts scope d) h
 
 -- ---- statements
 
 mutual
-  statement_texts : {ps : List Piece} {s : Statement} (scope : Scope) → DerivesStatement ps s → texts_of (marks_of_statement scope s) ≡ texts_in (flat ps)
+  statement_texts : {ps : List Piece} {s : Statement} (scope : Scope) → DerivesStatement ps s
+      → texts_of (marks_of_statement scope s) ≡ texts_in (flat ps)
   statement_texts scope (LetIs x d) = ap (λ r. NameText x ∷ r) (last_texts scope (semicolon ∷ []) d refl)
   statement_texts scope (AssignIs x d) = ap (λ r. NameText x ∷ r) (last_texts scope (semicolon ∷ []) d refl)
   statement_texts scope (AssignElementIs {us} {ts} {index} {e} x i d) =
@@ -137,11 +151,13 @@ mutual
       of_pieces (marks_of_statement scope s) (marks_of_statements (after_statement scope s) ss) ps qs (statement_texts scope d)
       (statements_texts (after_statement scope s) ds)
 
-  block_texts : {ps : List Piece} {ss : Statements} (scope : Scope) → DerivesBlock ps ss → texts_of (marks_of_statements scope ss) ≡ texts_in (flat ps)
+  block_texts : {ps : List Piece} {ss : Statements} (scope : Scope) → DerivesBlock ps ss → texts_of
+      (marks_of_statements scope ss) ≡ texts_in (flat ps)
   block_texts scope (BlockIs {ps} d) =
       statements_texts scope d ∙ sym (ap texts_in (flat_append ps (Single close_brace ∷ [])) ∙ quiet_end (flat ps) (close_brace ∷ []) refl)
 
-  part_texts : {word : ℕ} {ps : List Piece} {ss : Statements} (scope : Scope) → marked_text (symbols.Word word) ≡ [] → DerivesPart (symbols.Word word) ps ss
+  part_texts : {word : ℕ} {ps : List Piece} {ss : Statements} (scope : Scope) → marked_text (symbols.Word word) ≡ []
+      → DerivesPart (symbols.Word word) ps ss
       → texts_of (marks_of_statements scope ss) ≡ texts_in (flat ps)
   part_texts scope h NoPart = refl
   part_texts scope h (PartIs {ps = ps} d) = block_texts scope d ∙ sym (ap (λ x. x ++ texts_in (flat ps)) h)
@@ -214,6 +230,7 @@ few_texts (t ∷ ts) =
 pub marks_within : {ps : List Piece} {tree : SyntaxTree} → DerivesProgram ps tree → length (marks_of tree) ≤ length (flat ps)
 marks_within {ps} {tree} d =
     let same : length (texts_of (marks_of tree)) ≡ length (texts_in (flat ps)) = ap length (program_texts d) in
-    let mapped : length (texts_of (marks_of tree)) ≡ length (marks_of tree) = length-map (marks_of tree) (λ (m : Mark). text_at m.occurrence) in
+    let mapped : length (texts_of (marks_of tree)) ≡ length (marks_of tree) = length-map (marks_of tree)
+    (λ (m : Mark). text_at m.occurrence) in
     let few = few_texts (flat ps) in
     omega (arith, same, mapped, few)

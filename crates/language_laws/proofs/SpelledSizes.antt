@@ -1,13 +1,19 @@
 -- The size of a program, compared with the symbols that derive it: it has at most as many expression nodes and statements as symbols.
-use Rattle.std.proofs.Common.{◌≡◌, refl, ℕ, ◌+◌, ◌≤◌, ℤ, Bool, true, false, List, [], ◌∷◌, ◌++◌, length, length-append, arith, All, if◌then◌else◌, ◌==◌}
+use Rattle.std.proofs.Common.{◌≡◌, refl, ℕ, ◌+◌, ◌≤◌, ℤ, Bool, true, false, List, [], ◌∷◌, ◌++◌, length, length-append, arith, All}
+use Rattle.std.proofs.Common.{if◌then◌else◌, ◌==◌}
 use Rattle.std.specs.Prelude.{sum_by}
 use Rattle.std.proofs.lemmas.List.Elements.{All-nil, All-cons, All-append}
 use Rattle.std.proofs.lemmas.List.Sums.{sum_by-append, sum_by-cons}
 use Rattle.pipe_model.specs.declared.symbol.Symbol.{Symbol}
 use Rattle.pipe_model.specs.declared.symbol.Symbol.TheVariants as symbols
-use Rattle.pipe_model.specs.Language.SpellablePrograms.{node_count, expressions_of_statement, expressions_of_statements, statement_count, statement_counts, expressions_of}
+use Rattle.pipe_model.specs.Language.SpellablePrograms.{node_count, expressions_of_statement, expressions_of_statements, statement_count}
+use Rattle.pipe_model.specs.Language.SpellablePrograms.{statement_counts, expressions_of}
 use Rattle.pipe_model.specs.Language.SyntaxTree.{Expression, And, Or, Binary, binary_expression, Statement, Statements, SyntaxTree}
-use Rattle.pipe_model.specs.Language.Grammar.{any_expression, Derives, Numeral, Named, Indexed, CallsMore, CallsTake, CallsIter, Negative, Not, Bracketed, Tighter, Joined, Piece, Single, FullExpression, flat, DerivesStatement, LetIs, AssignIs, AssignElementIs, EmitIs, IfIs, WhileIs, WaitIs, WaitNextIs, ContinueIs, ContinueNextIs, DerivesStatements, NoStatement, OneMore, DerivesBlock, BlockIs, DerivesPart, NoPart, PartIs, DerivesProgram, ProgramIs, limits_before}
+use Rattle.pipe_model.specs.Language.Grammar.{any_expression, Derives, Numeral, Named, Indexed, CallsMore, CallsTake, CallsIter, Negative}
+use Rattle.pipe_model.specs.Language.Grammar.{Not, Bracketed, Tighter, Joined, Piece, Single, FullExpression, flat, DerivesStatement, LetIs}
+use Rattle.pipe_model.specs.Language.Grammar.{AssignIs, AssignElementIs, EmitIs, IfIs, WhileIs, WaitIs, WaitNextIs, ContinueIs}
+use Rattle.pipe_model.specs.Language.Grammar.{ContinueNextIs, DerivesStatements, NoStatement, OneMore, DerivesBlock, BlockIs, DerivesPart}
+use Rattle.pipe_model.specs.Language.Grammar.{NoPart, PartIs, DerivesProgram, ProgramIs, limits_before}
 use Rattle.pipe_model.specs.Language.Spelling.{AreShort}
 use Rattle.pipe_model.specs.Language.Words.{close_round, close_square}
 use Rattle.grammar_laws.proofs.Pieces.{flat_append, short_front, short_back}
@@ -80,7 +86,8 @@ full {ps} {es} {n} {ts} {e} d m =
       short = λ h. All-cons (λ e. node_count e ≤ 256) e es (let x = h.0 in omega (arith, x, size)) (m.short h.1);
     }
 
-both : {ps qs : List Piece} {es fs : List Expression} {n k : ℕ} → Measured ps es n → Measured qs fs k → Measured (ps ++ qs) (es ++ fs) (n + k)
+both : {ps qs : List Piece} {es fs : List Expression} {n k : ℕ} → Measured ps es n → Measured qs fs k
+    → Measured (ps ++ qs) (es ++ fs) (n + k)
 both {ps} {qs} {es} {fs} m o =
     let split = flat_length ps qs in
     let sum = sum_by-append node_count es fs in
@@ -111,7 +118,8 @@ following {qs} ps m =
     }
 
 mutual
-  measured_statement : {ps : List Piece} {s : Statement} → DerivesStatement ps s → Measured ps (expressions_of_statement s) (statement_count s)
+  measured_statement : {ps : List Piece} {s : Statement} → DerivesStatement ps s → Measured ps (expressions_of_statement s)
+      (statement_count s)
   measured_statement (LetIs x d) = one _ (plain _ (plain _ (full d (plain _ nothing))))
   measured_statement (AssignIs x d) = one _ (plain _ (full d (plain _ nothing)))
   measured_statement (AssignElementIs x i d) = one _ (plain _ (full i (plain _ (plain _ (full d (plain _ nothing))))))
@@ -123,11 +131,13 @@ mutual
   measured_statement (ContinueIs d) = one _ (plain _ (full d (plain _ (plain _ nothing))))
   measured_statement ContinueNextIs = one _ (plain _ (plain _ (plain _ nothing)))
 
-  measured_statements : {ps : List Piece} {ss : Statements} → DerivesStatements ps ss → Measured ps (expressions_of_statements ss) (statement_counts ss)
+  measured_statements : {ps : List Piece} {ss : Statements} → DerivesStatements ps ss → Measured ps (expressions_of_statements ss)
+      (statement_counts ss)
   measured_statements NoStatement = nothing
   measured_statements (OneMore d ds) = both (measured_statement d) (measured_statements ds)
 
-  measured_block : {ps : List Piece} {ss : Statements} → DerivesBlock ps ss → Measured ps (expressions_of_statements ss) (statement_counts ss)
+  measured_block : {ps : List Piece} {ss : Statements} → DerivesBlock ps ss → Measured ps (expressions_of_statements ss)
+      (statement_counts ss)
   measured_block (BlockIs d) = plain _ (closed _ (measured_statements d))
 
   measured_part : {word : ℕ} {ps : List Piece} {ss : Statements} → DerivesPart (symbols.Word word) ps ss
@@ -147,7 +157,8 @@ limits_measured iterations stages steps emits m =
     plain _ (plain _ (plain _ (plain _ (plain _ (plain _ (plain _ (plain _ (plain _ (plain _ (plain _ (plain _ (plain _ m))))))))))))
 
 -- a program, compared with the pieces that derive it
-pub measured_program : {ps : List Piece} {tree : SyntaxTree} → DerivesProgram ps tree → Measured ps (expressions_of tree) (statements_in_all tree)
+pub measured_program : {ps : List Piece} {tree : SyntaxTree} → DerivesProgram ps tree → Measured ps (expressions_of tree)
+    (statements_in_all tree)
 measured_program (ProgramIs {cs} iterations stages steps emits cells init test body last) =
     limits_measured iterations stages steps emits
     (following cs (both (measured_part init) (plain _ (plain _ (full test (plain _ (both (measured_block body) (measured_part last))))))))

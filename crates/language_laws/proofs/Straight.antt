@@ -1,9 +1,11 @@
 -- Trees that name no next stage; the trees of expressions are such.
-use Rattle.std.proofs.Common.{◌==◌, ℕ, zero, suc, ℤ, pos, negsuc, Bool, true, false, List, Option, Some, None, if◌then◌else◌, nat_lt, length}
+use Rattle.std.proofs.Common.{◌==◌, ℕ, zero, suc, ℤ, pos, negsuc, Bool, true, false, List, Option, Some, None, if◌then◌else◌, nat_lt}
+use Rattle.std.proofs.Common.{length}
 use Rattle.std.specs.Prelude.{int_div, int_rem}
 use Rattle.std.proofs.Math.IntN.{◌+ℤ◌, ◌-ℤ◌, ◌*ℤ◌, neg_ℤ}
 use Rattle.pipe_model.specs.declared.trap.Trap.{Trap}
-use Rattle.pipe_model.specs.Language.Evaluation.{Local, CellRange, Setting, evaluate, operate, operate_one, fitting, divided, if_zero, named_value, element_of, element_in, take_at, local_value, is_i64}
+use Rattle.pipe_model.specs.Language.Evaluation.{Local, CellRange, Setting, evaluate, operate, operate_one, fitting, divided, if_zero}
+use Rattle.pipe_model.specs.Language.Evaluation.{named_value, element_of, element_in, take_at, local_value, is_i64}
 use Rattle.pipe_model.specs.Language.Interaction.{Interaction, Return, Raise, Step, Get, Set, bind}
 use Rattle.pipe_model.specs.Language.SyntaxTree.{Expression, Number, Name, Element, And, Or, Binary, Unary, More, Take, Iter}
 
@@ -29,12 +31,14 @@ straight-bind (Gets c s) h = Gets c (λ v. straight-bind (s v) h)
 straight-bind (Sets c v s) h = Sets c v (straight-bind s h)
 
 -- one of two straight trees, chosen by a test
-pub either : {A : Type 0} (P : A → Type 0) (b : Bool) (x y : Interaction A) → IsStraight P x → IsStraight P y → IsStraight P (if b then x else y)
+pub either : {A : Type 0} (P : A → Type 0) (b : Bool) (x y : Interaction A) → IsStraight P x → IsStraight P y
+    → IsStraight P (if b then x else y)
 either P true x y s t = s
 either P false x y s t = t
 
 -- one of two straight trees, chosen by a number
-pub either_by_zero : {A : Type 0} (P : A → Type 0) (v : ℤ) (x y : Interaction A) → IsStraight P x → IsStraight P y → IsStraight P (if_zero v x y)
+pub either_by_zero : {A : Type 0} (P : A → Type 0) (v : ℤ) (x y : Interaction A) → IsStraight P x → IsStraight P y
+    → IsStraight P (if_zero v x y)
 either_by_zero P (pos zero) x y s t = s
 either_by_zero P (pos (suc n)) x y s t = t
 either_by_zero P (negsuc n) x y s t = t
@@ -49,7 +53,8 @@ straight-divided a b v = either_by_zero Anything b _ _ (Raises _) (straight-bind
 straight-operate : (code : ℕ) (a b : ℤ) → IsStraight Anything (operate code a b)
 straight-operate code a b =
     either Anything (code == 3) _ _ (Returns tt) (either Anything (code == 4) _ _ (Returns tt) (either Anything (code == 5) _ _ (Returns tt)
-    (either Anything (code == 6) _ _ (Returns tt) (either Anything (code == 7) _ _ (Returns tt) (either Anything (code == 8) _ _ (Returns tt)
+    (either Anything (code == 6) _ _ (Returns tt) (either Anything (code == 7) _ _ (Returns tt)
+    (either Anything (code == 8) _ _ (Returns tt)
     (either Anything (code == 9) _ _ (straight-fitting (a +ℤ b)) (either Anything (code == 10) _ _ (straight-fitting (a -ℤ b))
     (either Anything (code == 11) _ _ (straight-fitting (a *ℤ b)) (either Anything (code == 12) _ _ (straight-divided a b (int_div a b))
     (either Anything (code == 13) _ _ (straight-divided a b (int_rem a b)) (Returns tt)))))))))))
@@ -90,8 +95,10 @@ straight-evaluate setting locals (Or a b) =
     straight-bind (straight-evaluate setting locals a) (λ x h. Steps
     (either_by_zero Anything x _ _ (straight-bind (straight-evaluate setting locals b) (λ y k. Returns tt)) (Returns tt)))
 straight-evaluate setting locals (Binary code a b) =
-    straight-bind (straight-evaluate setting locals a) (λ x h. straight-bind (straight-evaluate setting locals b) (λ y k. Steps (straight-operate code x y)))
-straight-evaluate setting locals (Unary code a) = straight-bind (straight-evaluate setting locals a) (λ x h. Steps (straight-operate_one code x))
+    straight-bind (straight-evaluate setting locals a)
+    (λ x h. straight-bind (straight-evaluate setting locals b) (λ y k. Steps (straight-operate code x y)))
+straight-evaluate setting locals (Unary code a) = straight-bind (straight-evaluate setting locals a)
+    (λ x h. Steps (straight-operate_one code x))
 straight-evaluate setting locals More = Steps (Gets 0 (λ v. Returns tt))
 straight-evaluate setting locals Take = Steps (Gets 0 (λ v. straight-take_at setting.world.input v))
 straight-evaluate setting locals Iter = Steps (Returns tt)

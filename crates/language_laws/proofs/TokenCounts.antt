@@ -10,7 +10,8 @@ some_byte : (text : List ℕ) (s : Symbol) → symbol_of text ≡ Some s → 0 <
 some_byte [] s e = let none : None ≡ Some s = e in cc (none)
 some_byte (b ∷ bs) s e = omega arith
 
-scanned_within : {place : ℕ} {bytes rest : List ℕ} {tokens : List Token} → Scans place bytes tokens rest → length tokens + length rest ≤ length bytes
+scanned_within : {place : ℕ} {bytes rest : List ℕ} {tokens : List Token} → Scans place bytes tokens rest
+    → length tokens + length rest ≤ length bytes
 scanned_within (Stops place rest) = omega arith
 scanned_within (Blank b h d) = let few = scanned_within d in omega (arith, few)
 scanned_within (Comment {bytes = bytes} text h d) =

@@ -11,7 +11,8 @@ use Rattle.pipe_model.specs.Language.Interaction.{Interaction, with_budget}
 use Rattle.pipe_model.specs.Pipelines.Pipeline.{AlwaysClosesLoop, IsWellFormed}
 use Rattle.pipe_model.specs.Language.Programs.{natural, pipeline_of, setting_of}
 use Rattle.pipe_model.specs.Language.SyntaxTree.{Expression, Statements, SyntaxTree}
-use Rattle.language_laws.proofs.LegalStages.{Rises, RisesReturn, RisesRaise, RisesStep, EndsRightly, either_by_zero, legal-with_budget, rises-bind, rises-execute_all, straight-then}
+use Rattle.language_laws.proofs.LegalStages.{Rises, RisesReturn, RisesRaise, RisesStep, EndsRightly, either_by_zero, legal-with_budget}
+use Rattle.language_laws.proofs.LegalStages.{rises-bind, rises-execute_all, straight-then}
 use Rattle.language_laws.proofs.Straight.{IsStraight, Returns, Raises, Steps, Gets, Sets, straight-bind, straight-evaluate}
 use Rattle.language_laws.proofs.Straight.{either_by_zero as straight_by_zero}
 
@@ -22,7 +23,8 @@ rises_either first n true x y s t = s
 rises_either first n false x y s t = t
 
 -- stage numbers rise from 0 in an iteration, and only its instance 0 ends with Closed
-rises-run_iteration : (setting : Setting) (test : Expression) (body : Statements) → Rises EndsRightly true (pos 0) (run_iteration setting test body)
+rises-run_iteration : (setting : Setting) (test : Expression) (body : Statements) → Rises EndsRightly true (pos 0)
+    (run_iteration setting test body)
 rises-run_iteration setting test body =
     straight-then (straight-evaluate setting [] test) (λ v h. RisesStep (either_by_zero v (RisesReturn (λ e. refl))
     (rises_either true (pos 0) (int_eq (pos setting.world.iteration) setting.world.iterations) _ _ (RisesRaise traps.IterLimit)
@@ -67,7 +69,8 @@ no_limit_out (Some which) rest h = cc (h)
 
 -- the iteration limit of a program without a fault is in its range
 iterations_in_range : (tree : SyntaxTree) → fault_of tree ≡ None → is_between (pos 1) (pos 65536) tree.limits.iterations ≡ true
-iterations_in_range tree h = first_in_range (is_between (pos 1) (pos 65536) tree.limits.iterations) _ (no_limit_out (first_limit_out tree.limits) _ h)
+iterations_in_range tree h = first_in_range (is_between (pos 1) (pos 65536) tree.limits.iterations) _
+    (no_limit_out (first_limit_out tree.limits) _ h)
 
 -- an accepted program is a well-formed pipeline
 pub accepted_is_well_formed : (tree : SyntaxTree) (input : List ℤ) → BreaksNoRule tree → IsWellFormed (pipeline_of tree input)

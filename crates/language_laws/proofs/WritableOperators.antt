@@ -1,13 +1,18 @@
 -- A program that can be written has only known operators, and no negative number where the grammar has no sign.
-use Rattle.std.proofs.Common.{◌≡◌, refl, ℕ, ◌≤◌, ◌≤ℤ◌, ℤ, pos, true, List, [], ◌∷◌, ◌++◌, ◌&&◌, inl, inr, ◌⊎◌, Option, Some, None, nat_le, arith, All}
+use Rattle.std.proofs.Common.{◌≡◌, refl, ℕ, ◌≤◌, ◌≤ℤ◌, ℤ, pos, true, List, [], ◌∷◌, ◌++◌, ◌&&◌, inl, inr, ◌⊎◌, Option, Some, None, nat_le}
+use Rattle.std.proofs.Common.{arith, All}
 use Rattle.std.proofs.lemmas.Bool.{and_from}
 use Rattle.std.proofs.lemmas.Bool.Decides.{nat_tests}
 use Rattle.std.proofs.lemmas.Int.{ints}
 use Rattle.std.proofs.lemmas.List.Elements.{All-nil, All-cons, All-append}
 use Rattle.pipe_model.specs.declared.tree.Declaration.{Declaration}
-use Rattle.pipe_model.specs.Language.SpellablePrograms.{has_known_operators, expressions_of_statement, expressions_of_statements, expressions_of, HasNoNegativeSize}
-use Rattle.pipe_model.specs.Language.SyntaxTree.{Expression, Number, Name, Element, And, Or, Binary, Unary, More, Take, Iter, Statement, Let, Assign, AssignElement, Emit, If, While, Stage, NextStage, Statements, Empty, Then, SyntaxTree}
-use Rattle.grammar_laws.proofs.CanonicalSymbols.{IsNumeral, Numeral, IsWritable, IsWritableStatement, AreWritable, IsWritableSize, AreWritableCells, IsWritableProgram}
+use Rattle.pipe_model.specs.Language.SpellablePrograms.{has_known_operators, expressions_of_statement, expressions_of_statements}
+use Rattle.pipe_model.specs.Language.SpellablePrograms.{expressions_of, HasNoNegativeSize}
+use Rattle.pipe_model.specs.Language.SyntaxTree.{Expression, Number, Name, Element, And, Or, Binary, Unary, More, Take, Iter, Statement}
+use Rattle.pipe_model.specs.Language.SyntaxTree.{Let, Assign, AssignElement, Emit, If, While, Stage, NextStage, Statements, Empty, Then}
+use Rattle.pipe_model.specs.Language.SyntaxTree.{SyntaxTree}
+use Rattle.grammar_laws.proofs.CanonicalSymbols.{IsNumeral, Numeral, IsWritable, IsWritableStatement, AreWritable, IsWritableSize}
+use Rattle.grammar_laws.proofs.CanonicalSymbols.{AreWritableCells, IsWritableProgram}
 
 -- ---- operators
 
@@ -27,7 +32,8 @@ known_operators (Or a b) w = and_from (has_known_operators a) (has_known_operato
 known_operators (Binary code a b) w =
     and_from (nat_le 1 code && nat_le code 13) (has_known_operators a && has_known_operators b) (binary_known code w.0 w.1)
     (and_from (has_known_operators a) (has_known_operators b) (known_operators a w.2) (known_operators b w.3))
-known_operators (Unary code a) w = and_from (nat_le 1 code && nat_le code 2) (has_known_operators a) (unary_known code w.0) (known_operators a w.1)
+known_operators (Unary code a) w = and_from (nat_le 1 code && nat_le code 2) (has_known_operators a) (unary_known code w.0)
+    (known_operators a w.1)
 known_operators More w = refl
 known_operators Take w = refl
 known_operators Iter w = refl
@@ -84,4 +90,5 @@ known_size (Some n) w = not_negative n w
 -- no array has a negative size
 pub no_negative_size : (ds : List Declaration) → AreWritableCells ds → All (λ (d : Declaration). HasNoNegativeSize d.size) ds
 no_negative_size [] w = All-nil (λ (d : Declaration). HasNoNegativeSize d.size)
-no_negative_size (d ∷ ds) w = All-cons (λ (d : Declaration). HasNoNegativeSize d.size) d ds (known_size d.size w.1) (no_negative_size ds w.3)
+no_negative_size (d ∷ ds) w = All-cons (λ (d : Declaration). HasNoNegativeSize d.size) d ds (known_size d.size w.1)
+    (no_negative_size ds w.3)

@@ -106,7 +106,8 @@ PrefixSumsHaveStages =
 
 -- the printed lines of an output and of a trap
 abbrev pub LinesArePrinted : Type 0
-LinesArePrinted = (output_lines (pos 1 ∷ pos 3 ∷ []) ≡ codes "1\n3\n") × (trap_line (trap_at traps.IterLimit 2 0 (pos 0)) ≡ codes "trap IterLimit at 2/0\n")
+LinesArePrinted = (output_lines (pos 1 ∷ pos 3 ∷ []) ≡ codes "1\n3\n")
+    × (trap_line (trap_at traps.IterLimit 2 0 (pos 0)) ≡ codes "trap IterLimit at 2/0\n")
 
 -- a line of source
 abbrev pub let_text : List ℕ

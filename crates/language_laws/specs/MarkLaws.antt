@@ -30,8 +30,10 @@ pub data HaveMarks (source : List ℕ) : List Token → List Mark → List ℤ �
 
 -- a program has as many marks as its source has marked tokens, so each mark has an offset
 abbrev pub MarksAreThoseOfTokens : Type 0
-MarksAreThoseOfTokens = (source : List ℕ) (tree : SyntaxTree) (s : SourceSpells source tree) → length (marks_of tree) ≡ length (mark_places s.tokens)
+MarksAreThoseOfTokens = (source : List ℕ) (tree : SyntaxTree) (s : SourceSpells source tree)
+    → length (marks_of tree) ≡ length (mark_places s.tokens)
 
 -- each mark of a program is that of its token
 abbrev pub MarksOccurAsTokens : Type 0
-MarksOccurAsTokens = (source : List ℕ) (tree : SyntaxTree) (s : SourceSpells source tree) → HaveMarks source s.tokens (marks_of tree) (mark_places s.tokens)
+MarksOccurAsTokens = (source : List ℕ) (tree : SyntaxTree) (s : SourceSpells source tree) → HaveMarks source s.tokens (marks_of tree)
+    (mark_places s.tokens)

@@ -9,12 +9,15 @@ SourcesHaveOneRefusal = (source : List ℕ) (refusal other : Refusal) → IsRefu
 
 -- a source that is refused is not accepted
 abbrev pub RefusedSourcesAreNotAccepted : Type 0
-RefusedSourcesAreNotAccepted = (source : List ℕ) (refusal : Refusal) (tree : SyntaxTree) → IsRefused source refusal → IsAccepted source tree → ⊥
+RefusedSourcesAreNotAccepted = (source : List ℕ) (refusal : Refusal) (tree : SyntaxTree) → IsRefused source refusal
+    → IsAccepted source tree → ⊥
 
 -- a source is accepted as at most one program
 abbrev pub SourcesAreAcceptedAsOneProgram : Type 0
-SourcesAreAcceptedAsOneProgram = (source : List ℕ) (tree other : SyntaxTree) → IsAccepted source tree → IsAccepted source other → tree ≡ other
+SourcesAreAcceptedAsOneProgram = (source : List ℕ) (tree other : SyntaxTree) → IsAccepted source tree → IsAccepted source other
+    → tree ≡ other
 
 -- each source is accepted or refused
 abbrev pub SourcesAreAcceptedOrRefused : Type 0
-SourcesAreAcceptedOrRefused = (source : List ℕ) → ((tree : SyntaxTree) × IsAccepted source tree) ⊎ ((refusal : Refusal) × IsRefused source refusal)
+SourcesAreAcceptedOrRefused = (source : List ℕ) → ((tree : SyntaxTree) × IsAccepted source tree) ⊎
+    ((refusal : Refusal) × IsRefused source refusal)

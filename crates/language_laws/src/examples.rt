@@ -1,6 +1,7 @@
 //! Worked examples, which the checker computes from the definitions.
 
-ghost use Rattle.language_laws.specs.LanguageExamples.{CountingEnds, CountingTraps, StepsAreCounted, PrefixSumsHaveStages, LinesArePrinted, LetIsSpelled};
+ghost use Rattle.language_laws.specs.LanguageExamples.{CountingEnds, CountingTraps, StepsAreCounted, PrefixSumsHaveStages, LinesArePrinted};
+ghost use Rattle.language_laws.specs.LanguageExamples.{LetIsSpelled};
 
 /// A loop that counts to 2 emits 1 and 2 and ends by its test.
 pub fn counting_ends()

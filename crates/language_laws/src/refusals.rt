@@ -1,6 +1,7 @@
 //! Which sources are accepted, and why the others are refused.
 
-ghost use Rattle.language_laws.specs.RefusalLaws.{SourcesHaveOneRefusal, RefusedSourcesAreNotAccepted, SourcesAreAcceptedAsOneProgram, SourcesAreAcceptedOrRefused};
+ghost use Rattle.language_laws.specs.RefusalLaws.{SourcesHaveOneRefusal, RefusedSourcesAreNotAccepted, SourcesAreAcceptedAsOneProgram};
+ghost use Rattle.language_laws.specs.RefusalLaws.{SourcesAreAcceptedOrRefused};
 
 /// A source is refused for at most one reason.
 pub fn sources_have_one_refusal()

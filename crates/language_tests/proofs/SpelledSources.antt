@@ -10,4 +10,5 @@ use Rattle.pipe_model.specs.Language.Tokens.{IsLexed, symbols_in}
 -- a program that the symbols of a source spell
 pub parsed_is_spellable : (source : List ℕ) (tokens : List Token) (tree : SyntaxTree) → IsLexed source tokens
     → Spells (symbols_in source tokens) tree → IsSpellable tree
-parsed_is_spellable source tokens tree lexed spelled = spelled_is_spellable source tree (record { tokens = tokens; lexed = lexed; spelled = spelled })
+parsed_is_spellable source tokens tree lexed spelled =
+    spelled_is_spellable source tree (record { tokens = tokens; lexed = lexed; spelled = spelled })

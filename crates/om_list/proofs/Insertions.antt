@@ -1,5 +1,6 @@
 -- An insertion: links, labels and log with the new element.
-use Rattle.std.proofs.Common.{◌≡◌, ◌≢◌, ℕ, ◌+◌, ◌^◌, ◌<◌, ◌≤◌, ◌↔◌, List, [], ◌∷◌, ◌++◌, length, slice_index, slice_set, true, IsTrue, ltb, refl, sym, ap, ◌∙◌, subst, arith, eq-eqb, ne_eqb, inl, inr, length-set}
+use Rattle.std.proofs.Common.{◌≡◌, ◌≢◌, ℕ, ◌+◌, ◌^◌, ◌<◌, ◌≤◌, ◌↔◌, List, [], ◌∷◌, ◌++◌, length, slice_index, slice_set, true, IsTrue, ltb}
+use Rattle.std.proofs.Common.{refl, sym, ap, ◌∙◌, subst, arith, eq-eqb, ne_eqb, inl, inr, length-set}
 use Rattle.std.proofs.lemmas.Bool.{cases_eq, lt-ltb, ltb-true}
 use Rattle.std.proofs.lemmas.List.{get_or_append_left, get_or_push, get_or-set_other, get_or-set_same, length_push}
 use Rattle.pipe_model.specs.Orders.OrderList.{has, insert_after, list_of_log, StandsBefore}
@@ -12,7 +13,8 @@ use Rattle.om_relabel.specs.Links.{AreLinked, AreLinkedBack, chain, first_of, fo
 use Rattle.om_relabel.proofs.RisingLabels.{before_by_label, rises_same}
 use Rattle.om_relabel.proofs.Walks.{length_followed}
 use Rattle.om_list.specs.KeptLists.{IsKept, links_back, links_with}
-use Rattle.om_list.proofs.LinkedLists.{BackAfter, LinksAfter, back_inserted, first_inserted, followed_is, length_inserted, link_within, linked_inserted, rises_inserted}
+use Rattle.om_list.proofs.LinkedLists.{BackAfter, LinksAfter, back_inserted, first_inserted, followed_is, length_inserted, link_within}
+use Rattle.om_list.proofs.LinkedLists.{linked_inserted, rises_inserted}
 
 links_changed : (next : List ℕ) (x : ℕ) → x < length next
     → LinksAfter (λ y. slice_index next y) (λ y. slice_index (links_with next x) y) x (length next)
@@ -22,7 +24,8 @@ links_changed next x l =
       here = get_or_append_left (slice_set next x (length next)) (slice_index next x ∷ []) 0 x (omega (arith, l, long))
           ∙ get_or-set_same next x (length next) 0 l;
       new = get_or_push (slice_set next x (length next)) (slice_index next x) 0 (length next) long;
-      other = λ y below apart. get_or_append_left (slice_set next x (length next)) (slice_index next x ∷ []) 0 y (omega (arith, below, long))
+      other = λ y below apart. get_or_append_left (slice_set next x (length next)) (slice_index next x ∷ []) 0 y
+          (omega (arith, below, long))
           ∙ get_or-set_other next x y (length next) 0 apart;
     }
 
@@ -137,7 +140,8 @@ labelled_inserted old new h x label i l above below few =
     let no_end : (y : ℕ) → has y (elements old) ≡ true → y ≢ END = λ y m q. let w = h.only y m in omega (arith, q, w, few) in
     let changed = subst (λ n. LinksAfter (λ y. slice_index next y) (λ y. slice_index (links_with next x) y) x n) same
     (links_changed next x (omega (arith, l, same))) in
-    let back = subst (λ n. BackAfter (λ y. slice_index prev y) (λ y. slice_index (links_back prev x (slice_index next x)) y) x n (slice_index next x)) same_back
+    let back = subst (λ n. BackAfter (λ y. slice_index prev y) (λ y. slice_index (links_back prev x (slice_index next x)) y) x n
+    (slice_index next x)) same_back
     (back_changed prev x (slice_index next x) (λ apart. let w = link_below old h x l apart in omega (arith, w, same_back))) in
     record {
       same = omega (arith, next_long, same, long);

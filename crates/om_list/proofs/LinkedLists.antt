@@ -1,5 +1,6 @@
 -- Lists that are kept as links, and an insertion of an element with a label between two others.
-use Rattle.std.proofs.Common.{◌≡◌, ◌≢◌, ℕ, zero, suc, ◌+◌, ◌<◌, List, [], ◌∷◌, length, true, refl, sym, ap, ◌∙◌, subst, arith, eq-eqb, ne_eqb, ◌⊎◌, inl, inr}
+use Rattle.std.proofs.Common.{◌≡◌, ◌≢◌, ℕ, zero, suc, ◌+◌, ◌<◌, List, [], ◌∷◌, length, true, refl, sym, ap, ◌∙◌, subst, arith, eq-eqb}
+use Rattle.std.proofs.Common.{ne_eqb, ◌⊎◌, inl, inr}
 use Rattle.std.proofs.lemmas.Bool.{cases_eq}
 use Rattle.pipe_model.specs.Orders.OrderList.{has, insert_after}
 use Rattle.om_relabel.specs.declared.links.TheConstants.{END}
@@ -141,7 +142,8 @@ back_inserted next prev prev' label low top before [] x e r below c h changed b 
 back_inserted next prev prev' label low top before (z ∷ zs) x e r below c h changed b = elim (cases_eq z x) [
   | inl same ↦ (
       let after : next x ≡ first_of zs = ap next (sym same) ∙ c.0 in
-      let apart : z ≢ next x = λ q. first_apart zs (λ y m. head_once label low top z zs r y m) (λ m. (below z (has_head z zs)).1 m) (q ∙ after) in
+      let apart : z ≢ next x = λ q. first_apart zs (λ y m. head_once label low top z zs r y m) (λ m. (below z (has_head z zs)).1 m)
+      (q ∙ after) in
       rw (eq-eqb z x same) (
         changed.other z (below z (has_head z zs)).0 apart ∙ b.0,
         (

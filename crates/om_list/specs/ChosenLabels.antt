@@ -1,6 +1,7 @@
 -- The label that an insertion chooses (Bender et al. 2002), given by `xs`, the elements in the order of the list, and by
 -- the label of each.
-use Rattle.std.specs.Prelude.{◌≡◌, ◌≢◌, ℕ, ◌+◌, ◌-◌, ◌*◌, ◌/◌, ◌^◌, ◌<◌, ◌≤◌, List, [], ◌∷◌, ◌++◌, ◌==◌, if◌then◌else◌, length, slice_index, true}
+use Rattle.std.specs.Prelude.{◌≡◌, ◌≢◌, ℕ, ◌+◌, ◌-◌, ◌*◌, ◌/◌, ◌^◌, ◌<◌, ◌≤◌, List, [], ◌∷◌, ◌++◌, ◌==◌, if◌then◌else◌, length, slice_index}
+use Rattle.std.specs.Prelude.{true}
 use Rattle.pipe_model.specs.Orders.OrderList.{has}
 use Rattle.om_relabel.specs.Ranges.{aligned, elements_within, most_in}
 

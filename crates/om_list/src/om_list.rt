@@ -32,7 +32,8 @@ impl Model for OmList {
     ghost view = { λ l. record { log = l.log.items; capacity = l.capacity; labels = l.links.label.items } };
 
     ghost invariant = { λ l. IsKept l.links l.log.items
-        × HasRoom l.capacity (length l.log.items) (vec_capacity l.links.next) (vec_capacity l.links.prev) (vec_capacity l.links.label) (vec_capacity l.log) };
+        × HasRoom l.capacity (length l.log.items) (vec_capacity l.links.next) (vec_capacity l.links.prev) (vec_capacity l.links.label)
+        (vec_capacity l.log) };
 }
 
 impl OmList {

@@ -1,5 +1,6 @@
 -- The elements whose labels are within bounds, where the labels rise along the list. `label` is any function.
-use Rattle.std.proofs.Common.{◌≡◌, ℕ, zero, suc, ◌+◌, ◌<◌, ◌≤◌, max, List, [], ◌∷◌, length, get_or, true, refl, sym, ap, ◌∙◌, subst, arith, ne_eqb, ◌⊎◌, inl, inr}
+use Rattle.std.proofs.Common.{◌≡◌, ℕ, zero, suc, ◌+◌, ◌<◌, ◌≤◌, max, List, [], ◌∷◌, length, get_or, true, refl, sym, ap, ◌∙◌, subst, arith}
+use Rattle.std.proofs.Common.{ne_eqb, ◌⊎◌, inl, inr}
 use Rattle.std.proofs.lemmas.Bool.{cases_eq, cases_lt, le-leb, le-ltb, lt-leb, lt-ltb}
 use Rattle.pipe_model.specs.Orders.OrderList.{has}
 use Rattle.om_relabel.specs.declared.links.TheConstants.{END}
@@ -310,7 +311,8 @@ within_rises label low end bottom top (x ∷ xs) r l m =
               (within_rises label low end (label x + 1) top xs r.1 l (omega (arith, inside)))),
         )
         | inr high ↦ (
-            let none = nothing (elements_within label low end xs) (count_below label low end (label x + 1) top xs r.1 (omega (arith, high))) in
+            let none = nothing (elements_within label low end xs)
+            (count_below label low end (label x + 1) top xs r.1 (omega (arith, high))) in
             subst (LabelsRise label (max low bottom) end) (sym (within_high label low end x xs high ∙ none)) (omega (arith, l, m)))
       ]
     ]

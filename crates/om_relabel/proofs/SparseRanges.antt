@@ -1,6 +1,7 @@
 -- Aligned ranges of labels, and how many elements sparse ones have.
 use Rattle.std.proofs.Common.{◌≡◌, ℕ, suc, ◌+◌, ◌-◌, ◌*◌, ◌/◌, ◌^◌, ◌<◌, ◌≤◌, sym, ap, ◌∙◌, subst, arith}
-use Rattle.std.proofs.Math.Nat.{add-mul, div-mul-le_self, lt-div-mul-add, lt_of_mul-lt-mul_right, mul-div-le, mul-le-mul_right, pow-le-pow_right, two-pow-succ}
+use Rattle.std.proofs.Math.Nat.{add-mul, div-mul-le_self, lt-div-mul-add, lt_of_mul-lt-mul_right, mul-div-le, mul-le-mul_right}
+use Rattle.std.proofs.Math.Nat.{pow-le-pow_right, two-pow-succ}
 use Rattle.std.proofs.lemmas.Nat.{le-div, pow-add, pow_pos}
 use Rattle.om_relabel.specs.declared.label_range.LabelRange.{LabelRange}
 use Rattle.om_relabel.specs.declared.links.TheConstants.{LABEL_BITS, MOST_ELEMENTS, TOP}

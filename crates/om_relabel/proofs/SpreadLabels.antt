@@ -1,5 +1,6 @@
 -- The labels of a range are spread anew. `label` is any function.
-use Rattle.std.proofs.Common.{◌≡◌, ◌≢◌, ℕ, zero, suc, ◌+◌, ◌*◌, ◌/◌, ◌^◌, ◌<◌, ◌≤◌, max, List, [], ◌∷◌, length, get_or, slice_index, slice_set, true, refl, sym, ap, ◌∙◌, subst, arith, eq-eqb, ne_eqb, inl, inr}
+use Rattle.std.proofs.Common.{◌≡◌, ◌≢◌, ℕ, zero, suc, ◌+◌, ◌*◌, ◌/◌, ◌^◌, ◌<◌, ◌≤◌, max, List, [], ◌∷◌, length, get_or, slice_index}
+use Rattle.std.proofs.Common.{slice_set, true, refl, sym, ap, ◌∙◌, subst, arith, eq-eqb, ne_eqb, inl, inr}
 use Rattle.std.proofs.Math.Nat.{mul-div-le}
 use Rattle.std.proofs.lemmas.Bool.{cases_eq, cases_lt}
 use Rattle.std.proofs.lemmas.Grind.{get_or-set_at}
@@ -79,7 +80,8 @@ rises_inside label label' low end bottom top m (x ∷ xs) r after new l e =
             omega (arith, here, high, bound),
             subst (λ (n : ℕ). LabelsRise label' (n + 1) top xs) (sym here)
                 (rises_same label label' (label x + 1) top xs
-                (λ y h. let w = label_within label (label x + 1) top xs y r.1 h in let low_y = w.0 in after y (omega (arith, low_y, high))) r.1),
+                (λ y h. let w = label_within label (label x + 1) top xs y r.1 h in let low_y = w.0 in after y (omega (arith, low_y, high)))
+                r.1),
           ))
     ]
 
@@ -170,7 +172,8 @@ one_more_spread links h range s labels long k element label l at label_is before
             ∙ (label_is ∙ ap (spread_label range) (sym same)))
         | inr apart ↦ (
             let earlier : j < k = omega (arith, m, apart) in
-            let less = rises_at (label_of links) (max range.low 0) (range.low + 2 ^ range.bits) ms j k 0 rises earlier (omega (arith, l, count)) in
+            let less = rises_at (label_of links) (max range.low 0) (range.low + 2 ^ range.bits) ms j k 0 rises earlier
+            (omega (arith, l, count)) in
             let other : get_or ms j 0 ≢ element = λ q.
             let equal : label_of links (get_or ms j 0) ≡ label_of links (get_or ms k 0) = ap (label_of links) (q ∙ at) in
             omega (arith, less, equal) in
@@ -267,7 +270,8 @@ labels_apart links h label' range s d x y m n less =
             let e : label_of links (get_or ms a.0 0) ≡ label_of links (get_or ms b.0 0) = ap (λ k. label_of links (get_or ms k 0)) same in
             absurd (omega (arith, e, a_old, b_old, less)))
         | inr other ↦ (
-            let r = rises_at (label_of links) (max range.low 0) (range.low + 2 ^ range.bits) ms b.0 a.0 0 rises (omega (arith, not_order, other)) a_inside in
+            let r = rises_at (label_of links) (max range.low 0) (range.low + 2 ^ range.bits) ms b.0 a.0 0 rises
+            (omega (arith, not_order, other)) a_inside in
             absurd (omega (arith, r, a_old, b_old, less)))
       ]
     ]

@@ -60,4 +60,5 @@ pub around_count : (links : Links) {first last count : ℕ} → IsStretch links 
 around_count links s x bits low width low_is width_is below above before after =
     range_count links s low (low + width) below above before after
     ∙ (ap (λ l. length (elements_within (label_of links) l (l + width) (elements links))) low_is
-    ∙ ap (λ w. length (elements_within (label_of links) (aligned (label_of links x) bits) (aligned (label_of links x) bits + w) (elements links))) width_is)
+    ∙ ap (λ w. length (elements_within (label_of links) (aligned (label_of links x) bits) (aligned (label_of links x) bits + w)
+    (elements links))) width_is)

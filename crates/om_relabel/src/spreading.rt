@@ -37,10 +37,12 @@ pub fn relabel(links: &mut Links, range: &LabelRange)
     requires top { range.now.low + 2 ^ range.now.bits ≤ TOP }
     ensures next { links.new.next ≡ links.old.next }
     ensures prev { links.new.prev ≡ links.old.prev }
-    ensures spread { (k : ℕ) → k < range.now.count → label_of links.new (slice_index (elements_of links.old range.now) k) ≡ spread_label range.now k }
+    ensures spread { (k : ℕ) → k < range.now.count → label_of links.new (slice_index (elements_of links.old range.now) k) ≡ spread_label
+        range.now k }
     ensures others { (x : ℕ) → has x (elements_of links.old range.now) ≢ true → label_of links.new x ≡ label_of links.old x }
     ensures labelled { AreLabelled links.new }
-    ensures free { (x : ℕ) → has x (elements_of links.old range.now) ≡ true → label_of links.new x + 2 ≤ label_after links.new.label.items (slice_index links.new.next.items x) }
+    ensures free { (x : ℕ) → has x (elements_of links.old range.now) ≡ true → label_of links.new x + 2 ≤ label_after links.new.label.items
+        (slice_index links.new.next.items x) }
     ensures capacity { vec_capacity links.new.label ≡ vec_capacity links.old.label }
     ensures long { length links.new.label.items ≡ length links.old.label.items }
 {

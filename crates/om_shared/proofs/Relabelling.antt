@@ -1,5 +1,6 @@
 -- Labels that move: the words and the links have the same new labels.
-use Rattle.std.proofs.Common.{◌≡◌, ◌≢◌, ℕ, ◌+◌, ◌-◌, ◌^◌, ◌<◌, ◌≤◌, List, length, set, slice_index, Bool, true, false, refl, sym, ap, ◌∙◌, subst, arith, ◌⊎◌, inl, inr, length-set}
+use Rattle.std.proofs.Common.{◌≡◌, ◌≢◌, ℕ, ◌+◌, ◌-◌, ◌^◌, ◌<◌, ◌≤◌, List, length, set, slice_index, Bool, true, false, refl, sym, ap, ◌∙◌}
+use Rattle.std.proofs.Common.{subst, arith, ◌⊎◌, inl, inr, length-set}
 use Rattle.pipe_model.specs.Orders.OrderList.{has}
 use Rattle.om_relabel.specs.declared.label_range.LabelRange.{LabelRange}
 use Rattle.om_relabel.specs.declared.links.Links.{Links}

@@ -13,7 +13,8 @@ abbrev NoLonger : List ℕ → OpRow → OpRow → Type 0
 NoLonger bytes row other = StartsWith (text_of other) bytes → length (text_of other) ≤ length (text_of row)
 
 -- a row is the best if its symbol begins the bytes and is longer than the symbol of the best row so far
-pub takes : (rows : List OpRow) (bytes : List ℕ) (best : Option OpRow) (row : OpRow) → IsBest rows bytes best → StartsWith (text_of row) bytes
+pub takes : (rows : List OpRow) (bytes : List ℕ) (best : Option OpRow) (row : OpRow) → IsBest rows bytes best
+    → StartsWith (text_of row) bytes
     → Outdoes row best
     → IsBest (rows ++ row ∷ []) bytes (Some row)
 takes rows bytes None row b f o = record {
@@ -46,11 +47,13 @@ keeps rows bytes (Some best) row b n = record {
     not_less x y h = omega (arith, h)
 
 -- the best of all rows has the longest symbol
-pub best_is_longest : (rows : List OpRow) (bytes : List ℕ) (best : Option OpRow) → IsBest rows bytes best → IfSome best (λ row. IsLongestMatch rows bytes row)
+pub best_is_longest : (rows : List OpRow) (bytes : List ℕ) (best : Option OpRow) → IsBest rows bytes best
+    → IfSome best (λ row. IsLongestMatch rows bytes row)
 best_is_longest rows bytes None b = tt
 best_is_longest rows bytes (Some row) b = b
 
 -- if there is no best row, the bytes begin with no symbol
-pub best_is_none : (rows : List OpRow) (bytes : List ℕ) (best : Option OpRow) → IsBest rows bytes best → IfNone best (HasNoSymbol rows bytes)
+pub best_is_none : (rows : List OpRow) (bytes : List ℕ) (best : Option OpRow) → IsBest rows bytes best
+    → IfNone best (HasNoSymbol rows bytes)
 best_is_none rows bytes None b = b
 best_is_none rows bytes (Some row) b = tt

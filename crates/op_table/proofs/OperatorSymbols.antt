@@ -1,5 +1,6 @@
 -- The rows of the table are the operators of the language.
-use Rattle.std.proofs.Common.{◌≡◌, ◌∙◌, ap, sym, ℕ, ◌+◌, ◌<◌, List, [], ◌∷◌, length, get_or, map, refl, zero, suc, arith, Some, Contains, position}
+use Rattle.std.proofs.Common.{◌≡◌, ◌∙◌, ap, sym, ℕ, ◌+◌, ◌<◌, List, [], ◌∷◌, length, get_or, map, refl, zero, suc, arith, Some, Contains}
+use Rattle.std.proofs.Common.{position}
 use Rattle.std.specs.Str.{bytes_eq}
 use Rattle.std.proofs.lemmas.List.{get_or-map}
 use Rattle.std.proofs.lemmas.List.Quantifiers.{position-Some}
@@ -17,7 +18,8 @@ at_place : {A : Type 0} (f g : OpRow → A) (rows : List OpRow) → map f rows �
 at_place f g [] e k d within = absurd (omega arith)
 at_place f g (row ∷ rows) e zero d within = let first : f row ∷ map f rows ≡ g row ∷ map g rows = e in cc (first)
 at_place f g (row ∷ rows) e (suc k) d within =
-    let both : f row ∷ map f rows ≡ g row ∷ map g rows = e in let others : map f rows ≡ map g rows = cc (both) in at_place f g rows others k d (omega arith)
+    let both : f row ∷ map f rows ≡ g row ∷ map g rows = e in let others : map f rows ≡ map g rows = cc (both) in
+    at_place f g rows others k d (omega arith)
 
 pub at_row : {A : Type 0} (f g : OpRow → A) (row : OpRow) → map f OPS.rows ≡ map g OPS.rows → Contains OPS.rows row → f row ≡ g row
 at_row f g row e h = rw (← h.2) (at_place f g OPS.rows e h.0 row h.1)
@@ -49,7 +51,8 @@ default_alike (row ∷ rows) (suc k) d e within = default_alike rows k d e (omeg
 -- row k has the text of operator k
 at_operator : (k : ℕ) → k < 13 → text_of (get_or OPS.rows k no_row) ≡ get_or operators k []
 at_operator k within =
-    let texts : map text_of OPS.rows ≡ operators = refl in sym (get_or-map text_of OPS.rows k no_row [] within) ∙ ap (λ x. get_or x k []) texts
+    let texts : map text_of OPS.rows ≡ operators = refl in sym (get_or-map text_of OPS.rows k no_row [] within)
+    ∙ ap (λ x. get_or x k []) texts
 
 -- row k has code k + 1
 at_code : (k : ℕ) → k < 13 → (get_or OPS.rows k no_row).code ≡ k + 1

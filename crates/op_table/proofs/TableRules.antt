@@ -28,7 +28,8 @@ record OfFirst (code : ℕ) (row : OpRow) (rows : List OpRow) : Type 0 where
 
 of_first : (code : ℕ) (row : OpRow) (rows : List OpRow) → obey_from code (row ∷ rows) ≡ true → OfFirst code row rows
 of_first code row rows h =
-    let parts = and_parts _ _ h in let more = and_parts _ _ parts.1 in record { here = row_with code row parts.0; differs = more.0; others = more.1 }
+    let parts = and_parts _ _ h in let more = and_parts _ _ parts.1 in
+    record { here = row_with code row parts.0; differs = more.0; others = more.1 }
 
 all_lengths : (code : ℕ) (rows : List OpRow) → obey_from code rows ≡ true → All (λ row. (1 ≤ row.length) × (row.length ≤ 2)) rows
 all_lengths code [] h = All-nil (λ (row : OpRow). (1 ≤ row.length) × (row.length ≤ 2))
@@ -42,7 +43,8 @@ all_levels code (row ∷ rows) h =
     let f = of_first code row rows h in All-cons (λ (row : OpRow). (1 ≤ row.level) × (row.level ≤ 6)) row rows f.here.level
     (all_levels (code + 1) rows f.others)
 
-codes_rise : (code : ℕ) (rows : List OpRow) → obey_from code rows ≡ true → (k : ℕ) (d : OpRow) → k < length rows → (get_or rows k d).code ≡ k + code
+codes_rise : (code : ℕ) (rows : List OpRow) → obey_from code rows ≡ true → (k : ℕ) (d : OpRow) → k < length rows
+    → (get_or rows k d).code ≡ k + code
 codes_rise code [] h k d within = absurd (omega arith)
 codes_rise code (row ∷ rows) h zero d within = let f = of_first code row rows h in omega (arith, f.here.same)
 codes_rise code (row ∷ rows) h (suc k) d within = let f = of_first code row rows h in let e =
@@ -64,4 +66,10 @@ symbols_differ code (row ∷ rows) h (suc j) (suc k) d less within =
 
 -- a table that passes the test obeys the rules
 pub obeys : (rows : List OpRow) → obey_from 1 rows ≡ true → ObeysRules rows
-obeys rows h = record { lengths = all_lengths 1 rows h; levels = all_levels 1 rows h; codes = codes_rise 1 rows h; differ = symbols_differ 1 rows h }
+obeys rows h = record {
+  lengths = all_lengths 1 rows h;
+  levels = all_levels 1 rows h;
+  codes = codes_rise 1 rows h;
+  differ =
+      symbols_differ 1 rows h;
+}

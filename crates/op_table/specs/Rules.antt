@@ -19,4 +19,5 @@ is_row_with code row = (row.code == code) && (nat_le 1 row.length && (nat_le row
 -- the rows obey the rules, and their codes rise one by one from this one
 abbrev pub obey_from : ℕ → List OpRow → Bool
 obey_from code [] = true
-obey_from code (row ∷ rows) = is_row_with code row && (list_all (λ other. not (bytes_eq (text_of row) (text_of other))) rows && obey_from (code + 1) rows)
+obey_from code (row ∷ rows) = is_row_with code row &&
+    (list_all (λ other. not (bytes_eq (text_of row) (text_of other))) rows && obey_from (code + 1) rows)

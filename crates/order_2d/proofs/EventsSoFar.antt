@@ -1,7 +1,9 @@
 -- The first events of a log, without the accesses: their state, their starts, and how many instances each iteration has.
-use Rattle.std.proofs.Common.{◌≡◌, ◌∙◌, refl, sym, ap, subst, ℕ, ℤ, zero, suc, ◌+◌, ◌<◌, ◌≤◌, List, [], ◌∷◌, ◌++◌, length, map, get_or, slice_index, slice_set, take, drop, true, false, Bool, arith, append-nil, append_assoc, inl, inr, Some, cond}
+use Rattle.std.proofs.Common.{◌≡◌, ◌∙◌, refl, sym, ap, subst, ℕ, ℤ, zero, suc, ◌+◌, ◌<◌, ◌≤◌, List, [], ◌∷◌, ◌++◌, length, map, get_or}
+use Rattle.std.proofs.Common.{slice_index, slice_set, take, drop, true, false, Bool, arith, append-nil, append_assoc, inl, inr, Some, cond}
 use Rattle.std.proofs.lemmas.Bool.{cases_eq, cases_lt}
-use Rattle.std.proofs.lemmas.List.{length-map, length_push, length-append, take_all, take_more, take-append-drop, get_or_append_left, get_or_push, get_or_past, get_or-set_same, get_or-set_other, length-set}
+use Rattle.std.proofs.lemmas.List.{length-map, length_push, length-append, take_all, take_more, take-append-drop, get_or_append_left}
+use Rattle.std.proofs.lemmas.List.{get_or_push, get_or_past, get_or-set_same, get_or-set_other, length-set}
 use Rattle.pipe_model.specs.declared.event.Event.{Event}
 use Rattle.pipe_model.specs.declared.event.Event.TheVariants.{Begin, Advance, Enter, Finish, Stop, Access}
 use Rattle.pipe_model.specs.declared.node.Kind.{Kind}
@@ -14,7 +16,8 @@ use Rattle.pipe_model.specs.Runs.Allowed.{ControlAllows}
 use Rattle.pipe_model.specs.Runs.ControlParts.{without_accesses}
 use Rattle.pipe_model.specs.Runs.ControlRun.{is_access}
 use Rattle.pipe_model.specs.Runs.Run.{state_from}
-use Rattle.pipe_model.specs.Runs.State.{Frame, State, enter_pending, frame_at, fresh_frame, initial_state, next_state, own_columns, update_frame}
+use Rattle.pipe_model.specs.Runs.State.{Frame, State, enter_pending, frame_at, fresh_frame, initial_state, next_state, own_columns}
+use Rattle.pipe_model.specs.Runs.State.{update_frame}
 use Rattle.run_laws.proofs.ListOrders.StartsOfRuns.{starts_from-push}
 use Rattle.run_laws.proofs.LogMerge.ControlStates.{allowed_at, control_state_is}
 use Rattle.run_laws.proofs.RunStates.FrameMoves.{enter_pending_is}

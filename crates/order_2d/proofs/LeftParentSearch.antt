@@ -1,5 +1,6 @@
 -- The search of the numbers of the left column finds the left parent.
-use Rattle.std.proofs.Common.{◌≡◌, ◌∙◌, refl, sym, ap, subst, ℕ, ℤ, zero, suc, pos, ◌+◌, ◌-◌, ◌<◌, ◌≤◌, ◌<ℤ◌, ◌≤ℤ◌, List, [], ◌∷◌, length, map, arith, inl, inr, get_or, slice_index_or}
+use Rattle.std.proofs.Common.{◌≡◌, ◌∙◌, refl, sym, ap, subst, ℕ, ℤ, zero, suc, pos, ◌+◌, ◌-◌, ◌<◌, ◌≤◌, ◌<ℤ◌, ◌≤ℤ◌, List, [], ◌∷◌, length}
+use Rattle.std.proofs.Common.{map, arith, inl, inr, get_or, slice_index_or}
 use Rattle.std.proofs.lemmas.Bool.{cases_lt, lt-ltb, le-ltb}
 use Rattle.std.proofs.lemmas.List.{length-map}
 use Rattle.std.specs.Prelude.{IfNone, IfSome, Option, Some, None}
@@ -127,7 +128,8 @@ nodes_read (x ∷ xs) (suc i) c l = nodes_read xs i c (omega (arith, l))
 -- the left parent of an instance, if the instance above it is known
 pub left_parent_is : (columns : List (List Node)) (i k : ℕ) (above : Option StartedNode) (a : StartedNode) → (i ≡ 0 → ⊥)
     → IsAbove columns i k above → above ≡ Some a
-    → parent_by (node_at (nodes_at columns i) k).kind a.joined (last_up_to (nodes_at columns (i - 1)) (node_at (nodes_at columns i) k).number)
+    → parent_by (node_at (nodes_at columns i) k).kind a.joined
+    (last_up_to (nodes_at columns (i - 1)) (node_at (nodes_at columns i) k).number)
     ≡ left_parent columns i k
 left_parent_is columns zero k above a left is some = absurd (left refl)
 left_parent_is columns (suc i) zero above a left is some = absurd (let q : None ≡ Some a = sym is ∙ some in cc)

@@ -1,5 +1,6 @@
 -- The two lists of the first starts, and of one start more.
-use Rattle.std.proofs.Common.{◌≡◌, ◌∙◌, refl, sym, ap, ap₂, subst, ℕ, zero, suc, ◌+◌, ◌*◌, ◌<◌, ◌≤◌, ◌↔◌, List, [], ◌∷◌, ◌++◌, length, take, arith}
+use Rattle.std.proofs.Common.{◌≡◌, ◌∙◌, refl, sym, ap, ap₂, subst, ℕ, zero, suc, ◌+◌, ◌*◌, ◌<◌, ◌≤◌, ◌↔◌, List, [], ◌∷◌, ◌++◌, length, take}
+use Rattle.std.proofs.Common.{arith}
 use Rattle.std.proofs.lemmas.List.{length-take-le, map-append, take_more}
 use Rattle.order_2d.specs.OrderPairs.{HasRoom, OrderPair, marks_after, with_start}
 use Rattle.order_2d.specs.ReplayedOrders.{IsBeforeInLists, OrdersArePrecedes, marks_at, marks_of_starts}
@@ -10,7 +11,8 @@ use Rattle.pipe_model.specs.declared.node.NodeId.{NodeId}
 use Rattle.pipe_model.specs.Orders.OrderList.{StandsBefore, list_of_log}
 use Rattle.pipe_model.specs.Orders.OrderMarks.{instance_marks}
 use Rattle.pipe_model.specs.Orders.Starts.{AreStarts, start_at, start_number}
-use Rattle.pipe_model.specs.Orders.TwoOrders.{down_element, down_first_log, down_first_taken, first_placeholder, log_entries, right_element, right_first_log, right_first_taken}
+use Rattle.pipe_model.specs.Orders.TwoOrders.{down_element, down_first_log, down_first_taken, first_placeholder, log_entries, right_element}
+use Rattle.pipe_model.specs.Orders.TwoOrders.{right_first_log, right_first_taken}
 use Rattle.pipe_model.specs.Races.Columns.{AreColumns, at}
 use Rattle.pipe_model.specs.Races.Dag.{Precedes}
 use Rattle.run_laws.proofs.ListOrders.BothOrders.{both_is_precedes}
@@ -93,7 +95,8 @@ marks_more columns starts m marks new l before is =
 -- ---- the orders of all starts
 
 marks_at_start : (columns : List (List Node)) (starts nodes : List NodeId) (m : ℕ) → m < length nodes
-    → marks_at (marks_of_starts columns starts nodes) m ≡ instance_marks columns starts (start_at nodes m).iteration (start_at nodes m).index
+    → marks_at (marks_of_starts columns starts nodes) m ≡ instance_marks columns starts (start_at nodes m).iteration
+    (start_at nodes m).index
 marks_at_start columns starts [] m l = absurd (omega (arith, l))
 marks_at_start columns starts (x ∷ xs) zero l = refl
 marks_at_start columns starts (x ∷ xs) (suc m) l = marks_at_start columns starts xs m (omega (arith, l))
@@ -117,14 +120,18 @@ orders_are_precedes columns starts ok ord nodes same marks marks_same o down rig
         let started_x : start_number starts x.iteration x.index < length starts = (let e = ord.once m lm in omega (arith, e, lm)) in
         let started_y : start_number starts y.iteration y.index < length starts = (let e = ord.once n ln in omega (arith, e, ln)) in
         let law = both_is_precedes columns starts ok ord x y started_x started_y in
-        let d : down_element starts x ≡ (marks_at (marks_of_starts columns starts starts) m).down_first = sym (ap (λ (k : Marks). k.down_first) a) in
-        let d' : down_element starts y ≡ (marks_at (marks_of_starts columns starts starts) n).down_first = sym (ap (λ (k : Marks). k.down_first) b) in
-        let r : right_element columns starts x ≡ (marks_at (marks_of_starts columns starts starts) m).right_first = sym (ap (λ (k : Marks). k.right_first) a) in
+        let d : down_element starts x ≡ (marks_at (marks_of_starts columns starts starts) m).down_first =
+        sym (ap (λ (k : Marks). k.down_first) a) in
+        let d' : down_element starts y ≡ (marks_at (marks_of_starts columns starts starts) n).down_first =
+        sym (ap (λ (k : Marks). k.down_first) b) in
+        let r : right_element columns starts x ≡ (marks_at (marks_of_starts columns starts starts) m).right_first =
+        sym (ap (λ (k : Marks). k.right_first) a) in
         let r' : right_element columns starts y ≡ (marks_at (marks_of_starts columns starts starts) n).right_first =
         sym (ap (λ (k : Marks). k.right_first) b) in (
           (λ before. law.0 (record {
             down = subst (λ z. StandsBefore (list_of_log (down_first_log starts)) z (down_element starts y)) (sym d)
-                (subst (λ z. StandsBefore (list_of_log (down_first_log starts)) (marks_at (marks_of_starts columns starts starts) m).down_first z) (sym d')
+                (subst (λ z. StandsBefore (list_of_log (down_first_log starts))
+                (marks_at (marks_of_starts columns starts starts) m).down_first z) (sym d')
                 (subst (λ l. StandsBefore (list_of_log l) (marks_at (marks_of_starts columns starts starts) m).down_first
                 (marks_at (marks_of_starts columns starts starts) n).down_first) down before.down));
             right = subst (λ z. StandsBefore (list_of_log (right_first_log columns starts)) z (right_element columns starts y)) (sym r)
@@ -136,11 +143,14 @@ orders_are_precedes columns starts ok ord nodes same marks marks_same o down rig
           (λ path. let both = law.1 path in record {
             down = subst (λ l. StandsBefore (list_of_log l) (marks_at (marks_of_starts columns starts starts) m).down_first
                 (marks_at (marks_of_starts columns starts starts) n).down_first) (sym down)
-                (subst (λ z. StandsBefore (list_of_log (down_first_log starts)) z (marks_at (marks_of_starts columns starts starts) n).down_first) d
+                (subst (λ z. StandsBefore (list_of_log (down_first_log starts)) z
+                (marks_at (marks_of_starts columns starts starts) n).down_first) d
                 (subst (λ z. StandsBefore (list_of_log (down_first_log starts)) (down_element starts x) z) d' both.down));
             right = subst (λ l. StandsBefore (list_of_log l) (marks_at (marks_of_starts columns starts starts) m).right_first
                 (marks_at (marks_of_starts columns starts starts) n).right_first) (sym right)
-                (subst (λ z. StandsBefore (list_of_log (right_first_log columns starts)) z (marks_at (marks_of_starts columns starts starts) n).right_first) r
-                (subst (λ z. StandsBefore (list_of_log (right_first_log columns starts)) (right_element columns starts x) z) r' both.right));
+                (subst (λ z. StandsBefore (list_of_log (right_first_log columns starts)) z
+                (marks_at (marks_of_starts columns starts starts) n).right_first) r
+                (subst (λ z. StandsBefore (list_of_log (right_first_log columns starts)) (right_element columns starts x) z) r'
+                both.right));
           }),
         )

@@ -46,7 +46,8 @@ taken_right columns starts (suc i) zero = refl
 taken_right columns starts (suc i) (suc k) = by_left (left_parent columns (suc i) (suc k)) refl
   where
     by_left : (found : Option ℕ) → left_parent columns (suc i) (suc k) ≡ found
-        → right_taken (up_marks columns starts (suc i) (suc k)) (option_map (instance_marks columns starts i) (left_parent columns (suc i) (suc k)))
+        → right_taken (up_marks columns starts (suc i) (suc k))
+        (option_map (instance_marks columns starts i) (left_parent columns (suc i) (suc k)))
         ≡ right_first_taken columns (start_number starts) (suc i) (suc k)
     by_left None e = rw e refl
     by_left (Some j) e = rw e refl

@@ -17,7 +17,8 @@ use Rattle.pipe_model.specs.Orders.GrowingLists.{AreIn}
 use Rattle.pipe_model.specs.Orders.OrderList.{IsLog, has, list_of_log}
 use Rattle.pipe_model.specs.Orders.OrderMarks.{instance_marks}
 use Rattle.pipe_model.specs.Orders.Starts.{AreStarts, start_at, start_number}
-use Rattle.pipe_model.specs.Orders.TwoOrders.{down_element, down_first_log, down_first_taken, log_entries, right_element, right_first_log, right_first_taken}
+use Rattle.pipe_model.specs.Orders.TwoOrders.{down_element, down_first_log, down_first_taken, log_entries, right_element, right_first_log}
+use Rattle.pipe_model.specs.Orders.TwoOrders.{right_first_taken}
 use Rattle.pipe_model.specs.Races.Columns.{AreColumns, at}
 use Rattle.pipe_model.specs.Runs.ControlParts.{control_after, without_accesses}
 use Rattle.run_laws.proofs.ListOrders.InsertionLists.{list_has_below}
@@ -67,14 +68,18 @@ pub replayed_marks : (log : RunLog) → IsOwnLog log → (columns : List Column)
 replayed_marks log own columns same starts starts_same numbers run marks marks_same o lists =
     let cs : List (List Node) = nodes_of_columns columns in
     let made = same_columns log own columns same in
-    let laws = logs_name_what_stands.control_runs own.control.limit (without_accesses log.events) (control_after log.events) own.control.run in
+    let laws = logs_name_what_stands.control_runs own.control.limit (without_accesses log.events)
+    (control_after log.events) own.control.run in
     let logs : IsLog 1 (down_first_log starts) × IsLog 1 (right_first_log cs starts) =
     subst (λ (ss : List NodeId). IsLog 1 (down_first_log ss) × IsLog 1 (right_first_log cs ss)) (sym starts_same)
-    (subst (λ (c : List (List Node)). IsLog 1 (down_first_log (log_starts log.events)) × IsLog 1 (right_first_log c (log_starts log.events))) (sym made) laws) in
+    (subst (λ (c : List (List Node)). IsLog 1 (down_first_log (log_starts log.events)) × IsLog 1
+    (right_first_log c (log_starts log.events))) (sym made) laws) in
     let all = take_all (length starts) starts (omega arith) in
     let down : o.down.log ≡ down_first_log starts = lists.down ∙ ap (log_entries (down_first_taken (start_number starts)) 0) all in
-    let right : o.right.log ≡ right_first_log cs starts = lists.right ∙ ap (log_entries (right_first_taken cs (start_number starts)) 0) all in
+    let right : o.right.log ≡ right_first_log cs starts = lists.right ∙ ap (log_entries (right_first_taken cs (start_number starts)) 0) all
+    in
     subst (λ (ms : List Marks). All (AreIn (list_of_log o.down.log) (list_of_log o.right.log)) ms) (sym marks_same)
     (subst (λ (d : List ℕ). All (AreIn (list_of_log d) (list_of_log o.right.log)) (marks_of_starts cs starts starts)) (sym down)
-    (subst (λ (r : List ℕ). All (AreIn (list_of_log (down_first_log starts)) (list_of_log r)) (marks_of_starts cs starts starts)) (sym right)
+    (subst (λ (r : List ℕ). All (AreIn (list_of_log (down_first_log starts)) (list_of_log r)) (marks_of_starts cs starts starts))
+    (sym right)
     (starts_are_in cs starts run.columns_ok run.starts_ok logs.0 logs.1)))

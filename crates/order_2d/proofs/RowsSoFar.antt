@@ -1,8 +1,10 @@
 -- The rows of the first starts, and of one start more.
-use Rattle.std.proofs.Common.{◌≡◌, ◌≢◌, ◌∙◌, refl, sym, ap, subst, ℕ, zero, suc, ◌+◌, ◌<◌, ◌≤◌, List, [], ◌∷◌, ◌++◌, length, get_or, slice_set, arith, inl, inr, length-set}
+use Rattle.std.proofs.Common.{◌≡◌, ◌≢◌, ◌∙◌, refl, sym, ap, subst, ℕ, zero, suc, ◌+◌, ◌<◌, ◌≤◌, List, [], ◌∷◌, ◌++◌, length, get_or}
+use Rattle.std.proofs.Common.{slice_set, arith, inl, inr, length-set}
 use Rattle.std.proofs.lemmas.Bool.{cases_eq, cases_lt}
 use Rattle.std.specs.Prelude.{Some}
-use Rattle.std.proofs.lemmas.List.{get_or_append_left, get_or_default, get_or_push, get_or-set_other, get_or-set_same, length_push, length-map}
+use Rattle.std.proofs.lemmas.List.{get_or_append_left, get_or_default, get_or_push, get_or-set_other, get_or-set_same, length_push}
+use Rattle.std.proofs.lemmas.List.{length-map}
 use Rattle.order_2d.specs.declared.started.StartedNode.{StartedNode}
 use Rattle.order_2d.specs.LogStarts.{nodes_of_columns}
 use Rattle.order_2d.specs.StartedNodes.{HasStarted, no_rows, no_started_node, node_in, row_at, started_node}
@@ -80,7 +82,8 @@ module _ (columns : List (List Node)) (starts : List NodeId) (ok : AreColumns co
       ap length here ∙ (length_push (row_at rows i) (started_node columns starts i k) ∙ (let e' = next_index in omega (arith, e'))) in
       let old : (b : ℕ) → b < k → node_in (row_at rows' i) b ≡ node_in (row_at rows i) b = λ b l.
       ap (λ r. node_in r b) here
-      ∙ get_or_append_left (row_at rows i) (started_node columns starts i k ∷ []) no_started_node b (let e' = next_index in omega (arith, e', l)) in
+      ∙ get_or_append_left (row_at rows i) (started_node columns starts i k ∷ []) no_started_node b
+      (let e' = next_index in omega (arith, e', l)) in
       let last : node_in (row_at rows' i) k ≡ started_node columns starts i k =
       ap (λ r. node_in r k) here
       ∙ get_or_push (row_at rows i) (started_node columns starts i k) no_started_node k (sym next_index) in

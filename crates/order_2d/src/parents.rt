@@ -42,7 +42,8 @@ pub(crate) fn column_numbers(alloc: Global, columns: &[Column]) -> Result<ListOf
 fn parent_below(node: Node, numbers: &[i64], joined: u32) -> Option<u32>
     requires rising { (nodes : List PlainNode) × (numbers.now ≡ map (λ n. n.number) nodes) × IsRising nodes }
     requires few { length numbers.now < 2 ^ 32 }
-    ensures { (nodes : List PlainNode) → numbers.now ≡ map (λ n. n.number) nodes → result ≡ parent_by node.kind joined (last_up_to nodes node.number) }
+    ensures { (nodes : List PlainNode) → numbers.now ≡ map (λ n. n.number) nodes → result ≡ parent_by node.kind joined
+        (last_up_to nodes node.number) }
 {
     match node.kind {
         Kind::Wait => find(numbers, node.number, joined),

@@ -64,7 +64,8 @@ fn start_next(
     requires next { m < length starts.now }
     requires rows { HasStarted (nodes_of_columns columns.now) starts.now m rows.now }
     requires lists { HasLists (nodes_of_columns columns.now) starts.now m orders.old }
-    ensures node { result ≡ started_node (nodes_of_columns columns.now) starts.now (start_at starts.now m).iteration (start_at starts.now m).index }
+    ensures node { result ≡ started_node (nodes_of_columns columns.now) starts.now (start_at starts.now m).iteration
+        (start_at starts.now m).index }
     ensures lists { HasLists (nodes_of_columns columns.now) starts.now (m + 1) orders.new }
 {
     let x = starts[m];
@@ -148,7 +149,8 @@ pub fn replay(alloc: Global, run_log: &RunLog) -> Result<Replayed, NoMemory>
     requires few { length (log_starts run_log.now.events) ≤ MOST_STARTS }
     ensures nodes { IfOk result (λ r. r.nodes ≡ log_starts run_log.now.events) }
     ensures down { IfOk result (λ r. r.orders.down.log ≡ down_first_log (log_starts run_log.now.events)) }
-    ensures right { IfOk result (λ r. r.orders.right.log ≡ right_first_log (log_columns run_log.now.events) (log_starts run_log.now.events)) }
+    ensures right { IfOk result (λ r. r.orders.right.log ≡ right_first_log (log_columns run_log.now.events)
+        (log_starts run_log.now.events)) }
     ensures marks { IfOk result (λ r. r.marks.items ≡ marks_of_starts (log_columns run_log.now.events) (log_starts run_log.now.events)
         (log_starts run_log.now.events)) }
     ensures rows { IfOk result (λ r. HasStarted (log_columns run_log.now.events) (log_starts run_log.now.events)

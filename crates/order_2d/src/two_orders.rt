@@ -23,7 +23,8 @@ impl<L: ListWriter + Drop> Model for TwoOrders<L> {
 
     ghost view = { λ o. record { down = L.list o.down; right = L.list o.right } };
 
-    ghost invariant = { λ o. (length (L.list o.down).log ≡ length (L.list o.right).log) × IsLog 1 (L.list o.down).log × IsLog 1 (L.list o.right).log };
+    ghost invariant = { λ o. (length (L.list o.down).log ≡ length (L.list o.right).log) × IsLog 1 (L.list o.down).log
+        × IsLog 1 (L.list o.right).log };
 }
 
 impl<L: ListWriter + Drop> TwoOrders<L> {

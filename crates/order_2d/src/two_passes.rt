@@ -29,7 +29,13 @@ impl Model for TwoPasses {
 
     ghost Value = { SeenLists };
 
-    ghost view = { λ p. record { down = identity_of p.down.table; right = identity_of p.right.table; down_log = p.down.log; right_log = p.right.log } };
+    ghost view = { λ p. record {
+      down = identity_of p.down.table;
+      right = identity_of p.right.table;
+      down_log = p.down.log;
+      right_log =
+          p.right.log;
+    } };
 
     ghost invariant = { λ p. IsLog 1 p.down.log × IsLog 1 p.right.log };
 }
@@ -39,7 +45,13 @@ impl TwoPasses {
     pub fn new(down: OmPass, right: OmPass) -> TwoPasses
         requires down { IsLog 1 down.log }
         requires right { IsLog 1 right.log }
-        ensures { result ≡ record { down = identity_of down.table; right = identity_of right.table; down_log = down.log; right_log = right.log } }
+        ensures { result ≡ record {
+          down = identity_of down.table;
+          right = identity_of right.table;
+          down_log = down.log;
+          right_log =
+              right.log;
+        } }
     {
         TwoPasses { down, right }
     }

@@ -1,5 +1,6 @@
 -- Whether links and labels belong together, by tests that the checker computes.
-use Rattle.std.proofs.Common.{◌≡◌, sym, subst, refl, ℕ, zero, suc, ◌+◌, ◌<◌, arith, List, [], ◌∷◌, Bool, true, false, ◌&&◌, length, eqb, inl, inr, if◌then◌else◌}
+use Rattle.std.proofs.Common.{◌≡◌, sym, subst, refl, ℕ, zero, suc, ◌+◌, ◌<◌, arith, List, [], ◌∷◌, Bool, true, false, ◌&&◌, length, eqb}
+use Rattle.std.proofs.Common.{inl, inr, if◌then◌else◌}
 use Rattle.std.proofs.Math.Dec.{leb}
 use Rattle.std.proofs.lemmas.Bool.{cases_lt, eqb-true, leb-true}
 use Rattle.pipe_model.specs.Orders.OrderList.{has}
@@ -22,7 +23,8 @@ leads next (x ∷ xs) = eqb (next x) (first_of xs) && leads next xs
 
 are_linked : (next : ℕ → ℕ) (l : List ℕ) → leads next l ≡ true → AreLinked next l
 are_linked next [] h = tt
-are_linked next (x ∷ xs) h = let t = both (eqb (next x) (first_of xs)) (leads next xs) h in (eqb-true (next x) (first_of xs) t.0, are_linked next xs t.1)
+are_linked next (x ∷ xs) h = let t = both (eqb (next x) (first_of xs)) (leads next xs) h in
+    (eqb-true (next x) (first_of xs) t.0, are_linked next xs t.1)
 
 abbrev leads_back : (ℕ → ℕ) → ℕ → List ℕ → Bool
 leads_back prev before [] = true
@@ -30,7 +32,8 @@ leads_back prev before (x ∷ xs) = eqb (prev x) before && leads_back prev x xs
 
 are_linked_back : (prev : ℕ → ℕ) (before : ℕ) (l : List ℕ) → leads_back prev before l ≡ true → AreLinkedBack prev before l
 are_linked_back prev before [] h = tt
-are_linked_back prev before (x ∷ xs) h = let t = both (eqb (prev x) before) (leads_back prev x xs) h in (eqb-true (prev x) before t.0, are_linked_back prev x xs t.1)
+are_linked_back prev before (x ∷ xs) h = let t = both (eqb (prev x) before) (leads_back prev x xs) h in
+    (eqb-true (prev x) before t.0, are_linked_back prev x xs t.1)
 
 -- ---- labels
 
@@ -41,7 +44,8 @@ rises label low top (x ∷ xs) = leb low (label x) && rises label (label x + 1) 
 labels_rise : (label : ℕ → ℕ) (low top : ℕ) (l : List ℕ) → rises label low top l ≡ true → LabelsRise label low top l
 labels_rise label low top [] h = leb-true low top h
 labels_rise label low top (x ∷ xs) h =
-    let t = both (leb low (label x)) (rises label (label x + 1) top xs) h in (leb-true low (label x) t.0, labels_rise label (label x + 1) top xs t.1)
+    let t = both (leb low (label x)) (rises label (label x + 1) top xs) h in
+    (leb-true low (label x) t.0, labels_rise label (label x + 1) top xs t.1)
 
 -- ---- elements
 
@@ -105,6 +109,7 @@ labelled_by_test links h =
       rises = labels_rise (label_of links) 0 TOP (elements links) i.1;
     }
 
-pub labelled_lists : (links : Links) (next prev label : List ℕ) → links.next.items ≡ next → links.prev.items ≡ prev → links.label.items ≡ label
+pub labelled_lists : (links : Links) (next prev label : List ℕ) → links.next.items ≡ next → links.prev.items ≡ prev
+    → links.label.items ≡ label
     → are_labelled next prev label ≡ true → AreLabelled links
 labelled_lists links next prev label a b c h = labelled_by_test links (rw (a, b, c) h)

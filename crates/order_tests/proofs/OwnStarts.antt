@@ -1,5 +1,6 @@
 -- The starts of a log of events.
-use Rattle.std.proofs.Common.{◌≡◌, ◌==◌, ◌↔◌, ◌&&◌, eq-eqb, refl, ℕ, zero, suc, ◌<◌, ◌≤◌, List, [], ◌∷◌, length, get_or, arith, true, false, Bool, cond}
+use Rattle.std.proofs.Common.{◌≡◌, ◌==◌, ◌↔◌, ◌&&◌, eq-eqb, refl, ℕ, zero, suc, ◌<◌, ◌≤◌, List, [], ◌∷◌, length, get_or, arith, true, false}
+use Rattle.std.proofs.Common.{Bool, cond}
 use Rattle.std.specs.List.{All}
 use Rattle.std.proofs.lemmas.List.{length-append}
 use Rattle.order_2d.specs.LogStarts.{log_starts}
@@ -49,7 +50,8 @@ few_starts events =
 started_at : (starts : List NodeId) (m : ℕ) (d : NodeId) → m < length starts
     → start_number starts (get_or starts m d).iteration (get_or starts m d).index ≤ m
 started_at [] m d l = absurd (omega (arith, l))
-started_at (x ∷ xs) zero d l = at_first (x.iteration == x.iteration) (x.index == x.index) (eq-eqb x.iteration x.iteration refl) (eq-eqb x.index x.index refl)
+started_at (x ∷ xs) zero d l = at_first (x.iteration == x.iteration) (x.index == x.index) (eq-eqb x.iteration x.iteration refl)
+    (eq-eqb x.index x.index refl)
   where
     at_first : (a b : Bool) → a ≡ true → b ≡ true → cond (a && b) 0 (suc (start_number xs x.iteration x.index)) ≤ 0
     at_first true true p q = omega arith

@@ -1,5 +1,6 @@
 -- A run with one more event that the control part allows.
-use Rattle.std.proofs.Common.{◌≡◌, ◌≢◌, ◌∙◌, refl, pos, sym, ap, ap₂, subst, ℕ, ℤ, zero, suc, ◌-◌, ◌<◌, ◌≤◌, ◌<ℤ◌, List, [], ◌∷◌, ◌++◌, length, map, get_or, set, arith, false, cond, Some}
+use Rattle.std.proofs.Common.{◌≡◌, ◌≢◌, ◌∙◌, refl, pos, sym, ap, ap₂, subst, ℕ, ℤ, zero, suc, ◌-◌, ◌<◌, ◌≤◌, ◌<ℤ◌, List, [], ◌∷◌, ◌++◌}
+use Rattle.std.proofs.Common.{length, map, get_or, set, arith, false, cond, Some}
 use Rattle.std.proofs.lemmas.List.{get_or-map, get_or_default, length-map, length_push, length-set, map-append}
 use Rattle.order_2d.specs.LogStarts.{IsOwnLog, nodes_of_columns}
 use Rattle.order_2d.proofs.EventsSoFar.{without-append}
@@ -19,7 +20,8 @@ use Rattle.pipe_model.specs.Races.Columns.{node_at, nodes_at}
 use Rattle.pipe_model.specs.Runs.Allowed.{ContinuesLoop, ControlAllows, HasPassed, LeftHasPassed, MayBegin}
 use Rattle.pipe_model.specs.Runs.ControlParts.{control_after, control_from, next_control}
 use Rattle.pipe_model.specs.Runs.ControlRun.{ControlRun, ControlRunThen, EmptyControlRun, is_access}
-use Rattle.pipe_model.specs.Runs.State.{Frame, State, alive_in, alive_one, enter_pending, frame_at, fresh_frame, initial_state, next_state, own_columns, update_frame, with_action}
+use Rattle.pipe_model.specs.Runs.State.{Frame, State, alive_in, alive_one, enter_pending, frame_at, fresh_frame, initial_state, next_state}
+use Rattle.pipe_model.specs.Runs.State.{own_columns, update_frame, with_action}
 use Rattle.run_laws.proofs.RunStates.FrameMoves.{enter_pending_is}
 use Rattle.run_laws.proofs.RunStates.Frames.{frame_at_exists, nodes_at_frame}
 use Rattle.run_laws.proofs.RunStates.GrowingColumns.{columns-action}
@@ -32,7 +34,8 @@ columns_of fs = map (λ (f : Frame). f.nodes) fs
 
 -- ---- the frames after an event
 
-statuses-action : (fs : List Frame) (i : ℕ) (x : Action) (w : Status) → statuses (update_frame fs i (with_action x w)) ≡ set (statuses fs) i w
+statuses-action : (fs : List Frame) (i : ℕ) (x : Action) (w : Status) → statuses (update_frame fs i (with_action x w)) ≡ set
+    (statuses fs) i w
 statuses-action [] i x w = refl
 statuses-action (f ∷ fs) zero x w = refl
 statuses-action (f ∷ fs) (suc i) x w = ap (λ l. f.status ∷ l) (statuses-action fs i x w)
@@ -252,13 +255,22 @@ module _ {limit : ℕ} {events : List Event} {columns : List Column} {before : L
 
 -- ---- the beginning and the end
 
-pub nothing_played : (limit : ℕ) (events : List Event) (columns : List Column) (before : List Status) → events ≡ [] → columns ≡ [] → before ≡ []
+pub nothing_played : (limit : ℕ) (events : List Event) (columns : List Column) (before : List Status) → events ≡ [] → columns ≡ []
+    → before ≡ []
     → IsPlayed limit events columns before
 nothing_played limit events columns before none no_columns no_statuses =
     subst (λ es. IsPlayed limit es columns before) (sym none)
     (subst (λ cs. IsPlayed limit [] cs before) (sym no_columns)
     (subst (λ ss. IsPlayed limit [] [] ss) (sym no_statuses)
-    (record { run = EmptyControlRun; no_accesses = refl; not_stopped = refl; columns_are = refl; statuses_are = refl; same_length = refl })))
+    (record {
+      run = EmptyControlRun;
+      no_accesses = refl;
+      not_stopped = refl;
+      columns_are = refl;
+      statuses_are = refl;
+      same_length =
+          refl;
+    })))
 
 pub is_own_log : {limit : ℕ} {events : List Event} {columns : List Column} {before : List Status} → IsPlayed limit events columns before
     → IsOwnLog (record { columns = columns; events = events })

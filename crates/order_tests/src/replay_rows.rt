@@ -96,7 +96,8 @@ fn precedes_as_in_lists(dag: &Dag, replayed: &Replayed, m: usize) -> bool
     requires index { m < length replayed.now.nodes }
     requires marks { length replayed.now.marks.items ≡ length replayed.now.nodes }
     requires instances { All (IsNodeOf dag.now) replayed.now.nodes }
-    requires placed { All (AreIn (list_of_log replayed.now.orders.down.log) (list_of_log replayed.now.orders.right.log)) replayed.now.marks.items }
+    requires placed { All (AreIn (list_of_log replayed.now.orders.down.log) (list_of_log replayed.now.orders.right.log))
+        replayed.now.marks.items }
 {
     let nodes = replayed.nodes.as_slice();
     for n in 0..nodes.len() {

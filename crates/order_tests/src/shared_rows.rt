@@ -57,7 +57,8 @@ pub fn insert_beside<R: Threads + Wait + Sync>(
         rt,
         move || -> OmWriter
             requires { (0 < among) × (among ≤ length writer.log + 1) × (length writer.log + inserts < writer.capacity) }
-            ensures { (length result.log ≡ length writer.log + inserts) × (result.capacity ≡ writer.capacity) × (result.table ≡ writer.table) }
+            ensures { (length result.log ≡ length writer.log + inserts) × (result.capacity ≡ writer.capacity)
+                × (result.table ≡ writer.table) }
         {
             insert_among(&mut writer, among, inserts);
             writer

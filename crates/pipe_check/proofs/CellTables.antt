@@ -1,5 +1,6 @@
 -- One more declaration in the table of cells.
-use Rattle.std.proofs.Common.{◌≡◌, ◌∙◌, ℕ, ℤ, ◌+◌, ◌<◌, ◌≤◌, Bool, true, false, cond, ◌==◌, if◌then◌else◌, List, [], ◌∷◌, ◌++◌, length, take, drop, get_or, refl, sym, ap, arith, Bor, Option, Some, None, is_some, nat_lt}
+use Rattle.std.proofs.Common.{◌≡◌, ◌∙◌, ℕ, ℤ, ◌+◌, ◌<◌, ◌≤◌, Bool, true, false, cond, ◌==◌, if◌then◌else◌, List, [], ◌∷◌, ◌++◌, length}
+use Rattle.std.proofs.Common.{take, drop, get_or, refl, sym, ap, arith, Bor, Option, Some, None, is_some, nat_lt}
 use Rattle.std.proofs.lemmas.List.{take_more, at_drop_more}
 use Rattle.std.proofs.lemmas.Map.Text.{is_eq-slice_cmp}
 use Rattle.std.proofs.lemmas.Slice.Eq.{bytes_eq-Decides}
@@ -20,13 +21,15 @@ found_before [] d x h = rw h refl
 found_before (e ∷ ds) d x h = ap (λ o. if bytes_eq e.name x then Some e.size else o) (found_before ds d x h)
 
 -- if the first is passed over, the others decide
-passed_over : (b : Bool) (size : Option ℤ) (o rest last : Option (Option ℤ)) → (if b then Some size else o) ≡ None → (o ≡ None → rest ≡ last)
+passed_over : (b : Bool) (size : Option ℤ) (o rest last : Option (Option ℤ)) → (if b then Some size else o) ≡ None
+    → (o ≡ None → rest ≡ last)
     → (if b then Some size else rest) ≡ last
 passed_over true size o rest last h f = absurd (let e : Some size ≡ None = h in cc (e))
 passed_over false size o rest last h f = f h
 
 -- the new name is found last
-found_last : (ds : List Declaration) (d : Declaration) (x : List ℕ) → bytes_eq d.name x ≡ true → size_in ds x ≡ None → size_in (ds ++ d ∷ []) x ≡ Some d.size
+found_last : (ds : List Declaration) (d : Declaration) (x : List ℕ) → bytes_eq d.name x ≡ true → size_in ds x ≡ None
+    → size_in (ds ++ d ∷ []) x ≡ Some d.size
 found_last [] d x h new = rw h refl
 found_last (e ∷ ds) d x h new =
     passed_over (bytes_eq e.name x) e.size (size_in ds x) (size_in (ds ++ d ∷ []) x) (Some d.size) new (found_last ds d x h)
@@ -47,7 +50,8 @@ is_none None h = refl
 is_none (Some x) h = absurd (let e : true ≡ false = h in cc (e))
 
 -- the table has one cell more
-pub table_more : (sizes grown : BTreeMap (Bor (List ℕ)) (Option ℤ)) (total count : ℕ) (ds : List Declaration) (d : Declaration) (key : Bor (List ℕ))
+pub table_more : (sizes grown : BTreeMap (Bor (List ℕ)) (Option ℤ)) (total count : ℕ) (ds : List Declaration) (d : Declaration)
+    (key : Bor (List ℕ))
     → IsCellTable sizes total ds → key.now ≡ d.name → is_cell ds d.name ≡ false → count ≡ declared_size d.size → total + count ≤ 65536
     → ((x : Bor (List ℕ)) → get (λ a b. slice_cmp nat_cmp a.now b.now) grown x
     ≡ cond (is_eq (slice_cmp nat_cmp key.now x.now)) (Some d.size) (get (λ a b. slice_cmp nat_cmp a.now b.now) sizes x))
@@ -61,21 +65,26 @@ table_more sizes grown total count ds d key table named new counted few updates 
 }
 
 -- the declarations before index i, and the one at i
-pub take_next : (cells : List Declaration) (i : ℕ) (d : Declaration) → i < length cells → d ≡ get_or cells i d → take (i + 1) cells ≡ take i cells ++ d ∷ []
+pub take_next : (cells : List Declaration) (i : ℕ) (d : Declaration) → i < length cells → d ≡ get_or cells i d
+    → take (i + 1) cells ≡ take i cells ++ d ∷ []
 take_next cells i d h e = take_more cells i d h ∙ ap (λ x. take i cells ++ x ∷ []) (sym e)
 
 -- the declaration obeys the rules
-cell_obeys : (ds : List Declaration) (d : Declaration) → is_cell ds d.name ≡ false → nat_lt 65536 (cell_total ds + declared_size d.size) ≡ false
+cell_obeys : (ds : List Declaration) (d : Declaration) → is_cell ds d.name ≡ false → nat_lt 65536
+    (cell_total ds + declared_size d.size) ≡ false
     → (declared_size d.size == 0) ≡ false → broken_at (mark_at (opening regions.Cells ds) (DeclaredCell d.name d.size)) ≡ None
 cell_obeys ds d new few some = rw (new, few, some) refl
 
 -- after a declaration without a fault, the first fault is the first of the other declarations
-pub cell_passed : (cells : List Declaration) (i n : ℕ) (d : Declaration) → i < length cells → d ≡ get_or cells i d → is_cell (take i cells) d.name ≡ false
+pub cell_passed : (cells : List Declaration) (i n : ℕ) (d : Declaration) → i < length cells → d ≡ get_or cells i d
+    → is_cell (take i cells) d.name ≡ false
     → nat_lt 65536 (cell_total (take i cells) + declared_size d.size) ≡ false → (declared_size d.size == 0) ≡ false
-    → first_fault (n + 1) (marks_of_cells (take (i + 1) cells) (drop (i + 1) cells)) ≡ first_fault n (marks_of_cells (take i cells) (drop i cells))
+    → first_fault (n + 1) (marks_of_cells (take (i + 1) cells) (drop (i + 1) cells)) ≡ first_fault n
+    (marks_of_cells (take i cells) (drop i cells))
 cell_passed cells i n d h e new few some =
     let rest = drop (i + 1) cells in
     let split : drop i cells ≡ d ∷ rest = at_drop_more (λ ds. ds) cells i d h ∙ ap (λ x. x ∷ rest) (sym e) in
     ap (λ before. first_fault (n + 1) (marks_of_cells before rest)) (take_next cells i d h e)
-    ∙ ap (λ broken. fault_or broken n (first_fault (n + 1) (marks_of_cells (take i cells ++ d ∷ []) rest))) (sym (cell_obeys (take i cells) d new few some))
+    ∙ ap (λ broken. fault_or broken n (first_fault (n + 1) (marks_of_cells (take i cells ++ d ∷ []) rest)))
+    (sym (cell_obeys (take i cells) d new few some))
     ∙ ap (λ ds. first_fault n (marks_of_cells (take i cells) ds)) (sym split)

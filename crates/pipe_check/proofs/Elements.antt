@@ -7,8 +7,10 @@ use Rattle.pipe_model.specs.Language.Marks.{Scope, mark_at, Indexed, marks_of_ex
 use Rattle.pipe_model.specs.Language.SyntaxTree.{Expression, AssignElement}
 
 -- the index has a fault
-pub index_refused : (scope : Scope) (n k : ℕ) (x : List ℕ) (i e : Expression) (refusal : CheckFault) → PassesMarks (Ok k) n (mark_at scope (Indexed x) ∷ [])
-    → PassesMarks (Err refusal) k (marks_of_expression scope i) → PassesMarks (Err refusal) n (marks_of_statement scope (AssignElement x i e))
+pub index_refused : (scope : Scope) (n k : ℕ) (x : List ℕ) (i e : Expression) (refusal : CheckFault)
+    → PassesMarks (Ok k) n (mark_at scope (Indexed x) ∷ [])
+    → PassesMarks (Err refusal) k (marks_of_expression scope i) → PassesMarks (Err refusal) n
+    (marks_of_statement scope (AssignElement x i e))
 index_refused scope n k x i e refusal p q =
     passes_then (Err refusal) n k (mark_at scope (Indexed x) ∷ []) (marks_of_expression scope i ++ marks_of_expression scope e) p
     (fails_first refusal k (marks_of_expression scope i) (marks_of_expression scope e) q)

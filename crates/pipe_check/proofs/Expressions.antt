@@ -26,7 +26,8 @@ left_refused scope code n a b whole refusal is h =
     (fails_first refusal n (marks_of_expression scope a) (marks_of_expression scope b) h)
 
 -- the left side passes, and the right side decides
-pub right_decides : (scope : Scope) (code n k : ℕ) (a b whole : Expression) (outcome : Result ℕ CheckFault) → whole ≡ binary_expression code a b
+pub right_decides : (scope : Scope) (code n k : ℕ) (a b whole : Expression) (outcome : Result ℕ CheckFault)
+    → whole ≡ binary_expression code a b
     → PassesMarks (Ok k) n (marks_of_expression scope a) → PassesMarks outcome k (marks_of_expression scope b)
     → PassesMarks outcome n (marks_of_expression scope whole)
 right_decides scope code n k a b whole outcome is h g =

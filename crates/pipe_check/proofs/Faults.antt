@@ -1,5 +1,6 @@
 -- The first fault of marks that follow others.
-use Rattle.std.proofs.Common.{◌≡◌, ◌∙◌, ℕ, List, [], ◌∷◌, ◌++◌, ◌+◌, length, refl, sym, ap, arith, Result, Ok, Err, Option, Some, None, length-append}
+use Rattle.std.proofs.Common.{◌≡◌, ◌∙◌, ℕ, List, [], ◌∷◌, ◌++◌, ◌+◌, length, refl, sym, ap, arith, Result, Ok, Err, Option, Some, None}
+use Rattle.std.proofs.Common.{length-append}
 use Rattle.pipe_check.specs.declared.fault.CheckFault.{CheckFault}
 use Rattle.pipe_check.specs.declared.fault.CheckFault.TheVariants as faults
 use Rattle.pipe_check.specs.Passing.{IsFirstFaultOf, PassesMarks, Fits}
@@ -35,7 +36,8 @@ first_after n (mark ∷ a) b h =
     none.skips (first_fault (n + 1) (a ++ b)) ∙ first_after (n + 1) a b none.follows ∙ ap (λ k. first_fault k b) (omega arith)
 
 -- an error that reports the fault of x also reports the fault of y, if y has the same fault
-pub reports_same_fault : (refusal : CheckFault) (x y : Option Fault) → ((fault : Fault) → x ≡ Some fault → y ≡ Some fault) → IsFirstFaultOf refusal x
+pub reports_same_fault : (refusal : CheckFault) (x y : Option Fault) → ((fault : Fault) → x ≡ Some fault → y ≡ Some fault)
+    → IsFirstFaultOf refusal x
     → IsFirstFaultOf refusal y
 reports_same_fault (faults.Unknown n) x y f h = f _ h
 reports_same_fault (faults.Twice n) x y f h = f _ h
@@ -53,7 +55,8 @@ pub fails_first : (refusal : CheckFault) (n : ℕ) (a b : List Mark) → PassesM
 fails_first refusal n a b h = reports_same_fault refusal (first_fault n a) (first_fault n (a ++ b)) (first_stays n a b) h
 
 -- marks without a fault pass, and then what follows decides
-pub passes_then : (outcome : Result ℕ CheckFault) (n k : ℕ) (a b : List Mark) → PassesMarks (Ok k) n a → PassesMarks outcome k b → PassesMarks outcome n (a ++ b)
+pub passes_then : (outcome : Result ℕ CheckFault) (n k : ℕ) (a b : List Mark) → PassesMarks (Ok k) n a → PassesMarks outcome k b
+    → PassesMarks outcome n (a ++ b)
 passes_then (Ok end) n k a b p q =
     let following : first_fault n (a ++ b) ≡ first_fault k b = first_after n a b p.0 ∙ ap (λ j. first_fault j b) (sym p.1) in
     (following ∙ q.0, omega (arith, p.1, q.1, length-append a b))

@@ -1,7 +1,9 @@
 -- The first fault is found exactly when a rule is broken.
-use Rattle.std.proofs.Common.{◌≡◌, ◌∙◌, ℕ, zero, suc, ◌+◌, ◌<◌, Bool, true, false, if◌then◌else◌, List, [], ◌∷◌, ◌++◌, length, slice_index_or, All, Option, Some, None, refl, sym, ap, subst, arith}
+use Rattle.std.proofs.Common.{◌≡◌, ◌∙◌, ℕ, zero, suc, ◌+◌, ◌<◌, Bool, true, false, if◌then◌else◌, List, [], ◌∷◌, ◌++◌, length}
+use Rattle.std.proofs.Common.{slice_index_or, All, Option, Some, None, refl, sym, ap, subst, arith}
 use Rattle.pipe_check.specs.RuleLaws.{ObeysThese, ObeysAllRules, IsFirstBroken}
-use Rattle.pipe_model.specs.Language.CheckingRules.{CheckingRule, Fault, LimitOut, Broken, breaks, broken_at, first_broken, first_fault, fault_of, fault_or, limit_fault_or, first_limit_out, rules_in_order}
+use Rattle.pipe_model.specs.Language.CheckingRules.{CheckingRule, Fault, LimitOut, Broken, breaks, broken_at, first_broken, first_fault}
+use Rattle.pipe_model.specs.Language.CheckingRules.{fault_of, fault_or, limit_fault_or, first_limit_out, rules_in_order}
 use Rattle.pipe_model.specs.Language.Marks.{Mark, marks_of}
 use Rattle.pipe_model.specs.Language.SyntaxTree.{SyntaxTree}
 
@@ -25,7 +27,8 @@ others_of P x xs h = λ k d within. h (suc k) d (omega (arith, within))
 
 -- ---- one mark
 
-passed : (b : Bool) (rule : CheckingRule) (rest : Option CheckingRule) → (if b then Some rule else rest) ≡ None → (b ≡ false) × (rest ≡ None)
+passed : (b : Bool) (rule : CheckingRule) (rest : Option CheckingRule) → (if b then Some rule else rest) ≡ None
+    → (b ≡ false) × (rest ≡ None)
 passed true rule rest h = absurd (let e : Some rule ≡ None = h in cc (e))
 passed false rule rest h = (refl, h)
 
@@ -49,7 +52,8 @@ record IsFirstRule (mark : Mark) (rules : List CheckingRule) (rule : CheckingRul
   pub broken : breaks rule mark.scope mark.occurrence ≡ true
   pub obeys_earlier : ObeysThese mark earlier
 
-first_rule_by : (mark : Mark) (head : CheckingRule) (rules : List CheckingRule) (rule : CheckingRule) (b : Bool) → breaks head mark.scope mark.occurrence ≡ b
+first_rule_by : (mark : Mark) (head : CheckingRule) (rules : List CheckingRule) (rule : CheckingRule) (b : Bool)
+    → breaks head mark.scope mark.occurrence ≡ b
     → (if b then Some head else first_broken mark rules) ≡ Some rule → (first_broken mark rules ≡ Some rule → IsFirstRule mark rules rule)
     → IsFirstRule mark (head ∷ rules) rule
 first_rule_by mark head rules rule true is h go =
@@ -71,7 +75,8 @@ first_rule_by mark head rules rule false is h go =
       obeys_earlier = all_more (λ r. breaks r mark.scope mark.occurrence ≡ false) head rest.earlier is rest.obeys_earlier;
     }
 
-first_rule : (mark : Mark) (rules : List CheckingRule) (rule : CheckingRule) → first_broken mark rules ≡ Some rule → IsFirstRule mark rules rule
+first_rule : (mark : Mark) (rules : List CheckingRule) (rule : CheckingRule) → first_broken mark rules ≡ Some rule
+    → IsFirstRule mark rules rule
 first_rule mark [] rule h = absurd (let e : None ≡ Some rule = h in cc (e))
 first_rule mark (head ∷ rules) rule h =
     first_rule_by mark head rules rule (breaks head mark.scope mark.occurrence) refl h (first_rule mark rules rule)
@@ -92,7 +97,8 @@ pub none_found : (n : ℕ) (marks : List Mark) → All (λ mark. ObeysThese mark
 none_found n [] h = refl
 none_found n (mark ∷ marks) h =
     let one = not_broken mark rules_in_order (first_of (λ m. ObeysThese m rules_in_order) mark marks h) in
-    ap (λ broken. fault_or broken n (first_fault (n + 1) marks)) one ∙ none_found (n + 1) marks (others_of (λ m. ObeysThese m rules_in_order) mark marks h)
+    ap (λ broken. fault_or broken n (first_fault (n + 1) marks)) one ∙ none_found (n + 1) marks
+    (others_of (λ m. ObeysThese m rules_in_order) mark marks h)
 
 -- the numbers of the marks are counted from n
 record IsFirstFrom (n : ℕ) (marks : List Mark) (rule : CheckingRule) (number : ℕ) : Type 0 where
@@ -100,9 +106,11 @@ record IsFirstFrom (n : ℕ) (marks : List Mark) (rule : CheckingRule) (number :
   pub first : IsFirstBroken marks rule place
   pub numbered : number ≡ n + place
 
-first_from_by : (n : ℕ) (mark : Mark) (marks : List Mark) (rule : CheckingRule) (number : ℕ) (found : Option CheckingRule) → broken_at mark ≡ found
+first_from_by : (n : ℕ) (mark : Mark) (marks : List Mark) (rule : CheckingRule) (number : ℕ) (found : Option CheckingRule)
+    → broken_at mark ≡ found
     → fault_or found n (first_fault (n + 1) marks) ≡ Some (Broken rule number)
-    → (first_fault (n + 1) marks ≡ Some (Broken rule number) → IsFirstFrom (n + 1) marks rule number) → IsFirstFrom n (mark ∷ marks) rule number
+    → (first_fault (n + 1) marks ≡ Some (Broken rule number) → IsFirstFrom (n + 1) marks rule number)
+    → IsFirstFrom n (mark ∷ marks) rule number
 first_from_by n mark marks rule number (Some r) is h go =
     let fault : Broken r n ≡ Broken rule number = let e : Some (Broken r n) ≡ Some (Broken rule number) = h in cc (e) in
     let same : r ≡ rule = cc (fault) in
@@ -146,7 +154,8 @@ first_from_by n mark marks rule number None is h go =
       numbered = omega (arith, rest.numbered);
     }
 
-first_from : (n : ℕ) (marks : List Mark) (rule : CheckingRule) (number : ℕ) → first_fault n marks ≡ Some (Broken rule number) → IsFirstFrom n marks rule number
+first_from : (n : ℕ) (marks : List Mark) (rule : CheckingRule) (number : ℕ) → first_fault n marks ≡ Some (Broken rule number)
+    → IsFirstFrom n marks rule number
 first_from n [] rule number h = absurd (let e : None ≡ Some (Broken rule number) = h in cc (e))
 first_from n (mark ∷ marks) rule number h =
     first_from_by n mark marks rule number (broken_at mark) refl h (first_from (n + 1) marks rule number)
@@ -165,7 +174,8 @@ breaks_none tree h =
 pub has_no_fault : (tree : SyntaxTree) → ObeysAllRules tree → fault_of tree ≡ None
 has_no_fault tree b = ap (λ which. limit_fault_or which (first_fault 0 (marks_of tree))) b.limits ∙ none_found 0 (marks_of tree) b.marks
 
-of_marks : (which : Option ℕ) (rest : Option Fault) (rule : CheckingRule) (number : ℕ) → limit_fault_or which rest ≡ Some (Broken rule number)
+of_marks : (which : Option ℕ) (rest : Option Fault) (rule : CheckingRule) (number : ℕ) → limit_fault_or which rest ≡ Some
+    (Broken rule number)
     → (which ≡ None) × (rest ≡ Some (Broken rule number))
 of_marks (Some w) rest rule number h = absurd (let e : Some (LimitOut w) ≡ Some (Broken rule number) = h in cc (e))
 of_marks None rest rule number h = (refl, h)

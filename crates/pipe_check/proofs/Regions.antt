@@ -36,7 +36,8 @@ next_region k j a b all at p = record {
 }
 
 -- the first marks have a fault, or their numbers are within the bound
-region_fails : (refusal : CheckFault) (k : ℕ) (a b all : List Mark) → AreLeft k (a ++ b) all → PassesMarks (Err refusal) k a → PassesMarks (Err refusal) 0 all
+region_fails : (refusal : CheckFault) (k : ℕ) (a b all : List Mark) → AreLeft k (a ++ b) all → PassesMarks (Err refusal) k a
+    → PassesMarks (Err refusal) 0 all
 region_fails refusal k a b all at q = at.decide (Err refusal) (fails_first refusal k a b q)
 
 region_fits : (k : ℕ) (a b all : List Mark) → AreLeft k (a ++ b) all → Fits k a
@@ -68,7 +69,8 @@ cells_fail tree refusal s =
 pub at_init : (tree : SyntaxTree) (k : ℕ) → IsSpellable tree → first_fault 0 (marks_of_cells [] tree.cells) ≡ None → k ≡ length tree.cells
     → AreLeft k (init_marks tree ++ (test_marks tree ++ (body_marks tree ++ last_marks tree))) (marks_of tree)
 at_init tree k s none counted =
-    next_region 0 k (marks_of_cells [] tree.cells) (init_marks tree ++ (test_marks tree ++ (body_marks tree ++ last_marks tree))) (marks_of tree)
+    next_region 0 k (marks_of_cells [] tree.cells) (init_marks tree ++ (test_marks tree ++ (body_marks tree ++ last_marks tree)))
+    (marks_of tree)
     (at_cells tree s)
     (none, counted ∙ sym (cells_length [] tree.cells) ∙ omega arith)
 
@@ -79,17 +81,21 @@ init_fits tree k = region_fits k (init_marks tree) (test_marks tree ++ (body_mar
 pub init_fails : (tree : SyntaxTree) (refusal : CheckFault) (k : ℕ)
     → AreLeft k (init_marks tree ++ (test_marks tree ++ (body_marks tree ++ last_marks tree))) (marks_of tree)
     → PassesMarks (Err refusal) k (init_marks tree) → PassesMarks (Err refusal) 0 (marks_of tree)
-init_fails tree refusal k = region_fails refusal k (init_marks tree) (test_marks tree ++ (body_marks tree ++ last_marks tree)) (marks_of tree)
+init_fails tree refusal k = region_fails refusal k (init_marks tree) (test_marks tree ++ (body_marks tree ++ last_marks tree))
+    (marks_of tree)
 
 -- after `init`
-pub at_test : (tree : SyntaxTree) (k j : ℕ) → AreLeft k (init_marks tree ++ (test_marks tree ++ (body_marks tree ++ last_marks tree))) (marks_of tree)
+pub at_test : (tree : SyntaxTree) (k j : ℕ) → AreLeft k (init_marks tree ++ (test_marks tree ++ (body_marks tree ++ last_marks tree)))
+    (marks_of tree)
     → PassesMarks (Ok j) k (init_marks tree) → AreLeft j (test_marks tree ++ (body_marks tree ++ last_marks tree)) (marks_of tree)
 at_test tree k j = next_region k j (init_marks tree) (test_marks tree ++ (body_marks tree ++ last_marks tree)) (marks_of tree)
 
-pub test_fits : (tree : SyntaxTree) (k : ℕ) → AreLeft k (test_marks tree ++ (body_marks tree ++ last_marks tree)) (marks_of tree) → Fits k (test_marks tree)
+pub test_fits : (tree : SyntaxTree) (k : ℕ) → AreLeft k (test_marks tree ++ (body_marks tree ++ last_marks tree)) (marks_of tree)
+    → Fits k (test_marks tree)
 test_fits tree k = region_fits k (test_marks tree) (body_marks tree ++ last_marks tree) (marks_of tree)
 
-pub test_fails : (tree : SyntaxTree) (refusal : CheckFault) (k : ℕ) → AreLeft k (test_marks tree ++ (body_marks tree ++ last_marks tree)) (marks_of tree)
+pub test_fails : (tree : SyntaxTree) (refusal : CheckFault) (k : ℕ) → AreLeft k (test_marks tree ++ (body_marks tree ++ last_marks tree))
+    (marks_of tree)
     → PassesMarks (Err refusal) k (test_marks tree) → PassesMarks (Err refusal) 0 (marks_of tree)
 test_fails tree refusal k = region_fails refusal k (test_marks tree) (body_marks tree ++ last_marks tree) (marks_of tree)
 
@@ -106,6 +112,7 @@ pub body_fails : (tree : SyntaxTree) (refusal : CheckFault) (k : ℕ) → AreLef
 body_fails tree refusal k = region_fails refusal k (body_marks tree) (last_marks tree) (marks_of tree)
 
 -- after the loop
-pub at_last : (tree : SyntaxTree) (k j : ℕ) → AreLeft k (body_marks tree ++ last_marks tree) (marks_of tree) → PassesMarks (Ok j) k (body_marks tree)
+pub at_last : (tree : SyntaxTree) (k j : ℕ) → AreLeft k (body_marks tree ++ last_marks tree) (marks_of tree)
+    → PassesMarks (Ok j) k (body_marks tree)
     → AreLeft j (last_marks tree) (marks_of tree)
 at_last tree k j = next_region k j (body_marks tree) (last_marks tree) (marks_of tree)

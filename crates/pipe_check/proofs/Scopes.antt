@@ -2,7 +2,8 @@
 use Rattle.std.proofs.Common.{◌≡◌, ◌∙◌, ℕ, List, [], ◌∷◌, ◌++◌, length, take, refl, sym, ap, append_assoc, append-nil}
 use Rattle.std.proofs.Math.Seq.{take-append_seam}
 use Rattle.pipe_model.specs.Language.Marks.{Scope, after_statement, after_statements}
-use Rattle.pipe_model.specs.Language.SyntaxTree.{Statement, Let, Assign, AssignElement, Emit, If, While, Stage, NextStage, Statements, Empty, Then}
+use Rattle.pipe_model.specs.Language.SyntaxTree.{Statement, Let, Assign, AssignElement, Emit, If, While, Stage, NextStage, Statements}
+use Rattle.pipe_model.specs.Language.SyntaxTree.{Empty, Then}
 
 record ExtendsScope (before after : List (List ℕ)) : Type 0 where
   pub more : List (List ℕ)
@@ -26,7 +27,11 @@ extends scope Empty = same scope.visible
 extends scope (Then s ss) =
     let one = extends_once scope s in
     let rest = extends (after_statement scope s) ss in
-    record { more = one.more ++ rest.more; is = rest.is ∙ ap (λ names. names ++ rest.more) one.is ∙ append_assoc scope.visible one.more rest.more }
+    record {
+      more = one.more ++ rest.more;
+      is = rest.is ∙ ap (λ names. names ++ rest.more) one.is
+          ∙ append_assoc scope.visible one.more rest.more;
+    }
 
 -- at the end of a block the first locals are those that were in scope at its beginning
 pub first_visible : (scope : Scope) (ss : Statements) → take (length scope.visible) (after_statements scope ss).visible ≡ scope.visible

@@ -3,8 +3,10 @@ use Rattle.std.specs.Prelude.{◌≡◌, ℕ, zero, suc, pos, List, [], ◌∷�
 use Rattle.pipe_model.specs.declared.tree.StageKind.TheVariants as kinds
 use Rattle.pipe_model.specs.declared.tree.Declaration.{Declaration}
 use Rattle.pipe_model.specs.declared.tree.Limits.{Limits}
-use Rattle.pipe_model.specs.Language.CheckingRules.{Fault, LimitOut, Broken, CheckingRule, Unknown, Twice, PipeOutside, TooManyCells, TooManyLocals, NotAnArray, NeedsIndex, ZeroSize, fault_of}
-use Rattle.pipe_model.specs.Language.SyntaxTree.{Expression, Number, Name, Element, Iter, Statement, Let, Assign, AssignElement, Emit, If, While, Stage, NextStage, Statements, Empty, Then, SyntaxTree}
+use Rattle.pipe_model.specs.Language.CheckingRules.{Fault, LimitOut, Broken, CheckingRule, Unknown, Twice, PipeOutside, TooManyCells}
+use Rattle.pipe_model.specs.Language.CheckingRules.{TooManyLocals, NotAnArray, NeedsIndex, ZeroSize, fault_of}
+use Rattle.pipe_model.specs.Language.SyntaxTree.{Expression, Number, Name, Element, Iter, Statement, Let, Assign, AssignElement, Emit, If}
+use Rattle.pipe_model.specs.Language.SyntaxTree.{While, Stage, NextStage, Statements, Empty, Then, SyntaxTree}
 
 -- a program, and its fault if it has one
 pub record CheckingExample : Type 0 where
@@ -59,7 +61,8 @@ program cells body = record { limits = limits 1 1 1 0; cells = cells; init = Emp
 abbrev body : List Declaration → List Statement → Option Fault → CheckingExample
 body cells ss fault = record { program = program cells ss; fault = fault }
 
--- a program with the cell n and the body `let x = 1; emit x;`, and these statements before the loop, this test, and these statements after the loop
+-- a program with the cell n and the body `let x = 1; emit x;`, and these statements before the loop, this test, and these statements after
+-- the loop
 abbrev parts : List Statement → Expression → List Statement → Option Fault → CheckingExample
 parts init test last fault = record {
   program = record {
@@ -143,7 +146,8 @@ regions =
 -- where locals of blocks are in scope, and that their names stay taken
 abbrev pub scopes : List CheckingExample
 scopes =
-    body (plain n ∷ []) (Let x one ∷ If one (block (Emit (Name x) ∷ Let y one ∷ Emit (Name y) ∷ [])) (block (Emit (Name x) ∷ Let z one ∷ []))
+    body (plain n ∷ []) (Let x one ∷ If one (block (Emit (Name x) ∷ Let y one ∷ Emit (Name y) ∷ []))
+    (block (Emit (Name x) ∷ Let z one ∷ []))
     ∷ Emit (Name x) ∷ []) None
     ∷ body (plain n ∷ []) (If one (block (Let x one ∷ Emit (Name x) ∷ [])) Empty ∷ Emit (Name x) ∷ []) (broken Unknown 3)
     ∷ body (plain n ∷ []) (If one (block (Let x one ∷ [])) (block (Emit (Name x) ∷ [])) ∷ []) (broken Unknown 2)

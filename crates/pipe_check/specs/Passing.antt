@@ -3,7 +3,8 @@ use Rattle.pipe_model.specs.declared.bounds.TheConstants.{LARGEST_PROGRAM}
 use Rattle.std.specs.Prelude.{◌≡◌, ℕ, List, length, ◌+◌, ◌≤◌, Result, Ok, Err, Option, Some, None}
 use Rattle.pipe_check.specs.declared.fault.CheckFault.{CheckFault}
 use Rattle.pipe_check.specs.declared.fault.CheckFault.TheVariants as faults
-use Rattle.pipe_model.specs.Language.CheckingRules.{Fault, LimitOut, Broken, Unknown, Twice, PipeOutside, TooManyCells, TooManyLocals, NotAnArray, NeedsIndex, ZeroSize, first_fault}
+use Rattle.pipe_model.specs.Language.CheckingRules.{Fault, LimitOut, Broken, Unknown, Twice, PipeOutside, TooManyCells, TooManyLocals}
+use Rattle.pipe_model.specs.Language.CheckingRules.{NotAnArray, NeedsIndex, ZeroSize, first_fault}
 use Rattle.pipe_model.specs.Language.Marks.{Mark}
 
 -- the checker returns this first fault; `NoMemory` says nothing about it

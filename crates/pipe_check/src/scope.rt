@@ -142,7 +142,13 @@ impl<'a, 'b> Scope<'a, 'b> {
 
     /// Takes all locals but the first `kept` out of scope.
     pub fn leave(&mut self, kept: usize)
-        ensures { self.new ≡ record { region = self.old.region; cells = self.old.cells; visible = take kept self.old.visible; lets = self.old.lets } }
+        ensures { self.new ≡ record {
+          region = self.old.region;
+          cells = self.old.cells;
+          visible = take kept self.old.visible;
+          lets =
+              self.old.lets;
+        } }
     {
         self.visible.truncate(kept);
     }

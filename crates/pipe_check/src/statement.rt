@@ -3,7 +3,8 @@
 ghost use Rattle.std.specs.Prelude.{◌≡◌, OnOk};
 ghost use Rattle.pipe_check.specs.Passing.{Fits, PassesMarks};
 ghost use Rattle.pipe_model.specs.Language.Marks.{after_block, after_statement, marks_of_statement, marks_of_statements};
-ghost use Rattle.pipe_model.specs.Language.SyntaxTree.{Assign, AssignElement, Let, expression_of, stage_statement, statement_of, statements_of};
+ghost use Rattle.pipe_model.specs.Language.SyntaxTree.{Assign, AssignElement, Let, expression_of, stage_statement, statement_of};
+ghost use Rattle.pipe_model.specs.Language.SyntaxTree.{statements_of};
 ghost use Rattle.pipe_model.specs.declared.tree.StageKind.TheVariants as kinds;
 
 use crate::expression::check_expression;

@@ -39,7 +39,8 @@ pub trapped_in_init : (tree : SyntaxTree) (input : List ℤ) (limit : ℕ) (r : 
     → IsEngineRun tree input limit (record { run_log = no_log; reports = []; output = r.output; trap = r.trap })
 trapped_in_init tree input limit r accepted trapped results =
     let p = pipeline_after_init tree input in
-    let run : IsFinishedProgramRun (whole_of tree input) limit no_log = record { run = NoLoop trapped; finished = WithoutLoop trapped; columns = refl } in
+    let run : IsFinishedProgramRun (whole_of tree input) limit no_log =
+    record { run = NoLoop trapped; finished = WithoutLoop trapped; columns = refl } in
     let right = (runs_are_detected p limit [] initial_state EmptyRun).right in
     record {
       run = run;
@@ -71,7 +72,8 @@ loop_of w limit events s none (OfLoop no_trap run) = run
 -- the run of the loop
 pub loop_run : (tree : SyntaxTree) (input : List ℤ) (limit : ℕ) (end : LoopEnd) → is_some (init_trap (whole_of tree input)) ≡ false
     → IsLoopEnd tree input limit end → Run (pipeline_after_init tree input) limit end.run_log.events (state_after end.run_log.events)
-loop_run tree input limit end none h = loop_of (whole_of tree input) limit end.run_log.events (state_after end.run_log.events) none h.run.run
+loop_run tree input limit end none h = loop_of (whole_of tree input) limit end.run_log.events
+    (state_after end.run_log.events) none h.run.run
 
 -- the cells that serve a program have room for the accesses of the run
 pub inside_cells : (tree : SyntaxTree) (input : List ℤ) (limit : ℕ) (end : LoopEnd) (cells : ShardState) → IsLoopEnd tree input limit end

@@ -17,7 +17,8 @@ one s (Enter i) = sym (append-nil (accesses_of s.accesses))
 one s (Finish i e) = sym (append-nil (accesses_of s.accesses))
 one s Stop = sym (append-nil (accesses_of s.accesses))
 
-from : (s : State) (es : List Event) (e : Event) → accesses_of (state_from s (es ++ e ∷ [])).accesses ≡ accesses_of (state_from s es).accesses ++ one_access e
+from : (s : State) (es : List Event) (e : Event) → accesses_of (state_from s (es ++ e ∷ [])).accesses ≡ accesses_of
+    (state_from s es).accesses ++ one_access e
 from s [] e = one s e
 from s (d ∷ es) e = from (next_state s d) es e
 

@@ -9,8 +9,10 @@ module _ (name : HallName) (seats : List WorkerSeat) (last : WorkerSeat) where
   pub last_named : All (λ (s : WorkerSeat). hall_name s.hall ≡ name) (seats ++ last ∷ []) → hall_name last.hall ≡ name
   last_named h = All_last (λ (s : WorkerSeat). hall_name s.hall ≡ name) seats last h
 
-  pub others_named : All (λ (s : WorkerSeat). hall_name s.hall ≡ name) (seats ++ last ∷ []) → All (λ (s : WorkerSeat). hall_name s.hall ≡ hall_name last.hall) seats
+  pub others_named : All (λ (s : WorkerSeat). hall_name s.hall ≡ name) (seats ++ last ∷ [])
+      → All (λ (s : WorkerSeat). hall_name s.hall ≡ hall_name last.hall) seats
   others_named h = λ k d l. All_init (λ (s : WorkerSeat). hall_name s.hall ≡ name) seats last h k d l ∙ sym (last_named h)
 
-pub last_over : (seats : List WorkerSeat) (last : WorkerSeat) → All (λ (s : WorkerSeat). IsOver s.seen) (seats ++ last ∷ []) → IsOver last.seen
+pub last_over : (seats : List WorkerSeat) (last : WorkerSeat) → All (λ (s : WorkerSeat). IsOver s.seen) (seats ++ last ∷ [])
+    → IsOver last.seen
 last_over seats last h = All_last (λ (s : WorkerSeat). IsOver s.seen) seats last h

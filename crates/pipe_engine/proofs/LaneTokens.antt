@@ -1,5 +1,6 @@
 -- Sums over lanes, their seats and their ends.
-use Rattle.std.proofs.Common.{◌≡◌, ◌≤◌, ◌<◌, ◌+◌, ◌*◌, ◌∙◌, ◌++◌, ◌∷◌, [], ℕ, zero, suc, List, All, get_or, length, map, replicate, sum_by, refl, subst, sym, ap, ap₂, arith}
+use Rattle.std.proofs.Common.{◌≡◌, ◌≤◌, ◌<◌, ◌+◌, ◌*◌, ◌∙◌, ◌++◌, ◌∷◌, [], ℕ, zero, suc, List, All, get_or, length, map, replicate, sum_by}
+use Rattle.std.proofs.Common.{refl, subst, sym, ap, ap₂, arith}
 use Rattle.std.proofs.lemmas.List.Folds.{sum_by-replicate}
 use Rattle.std.proofs.lemmas.List.Sums.{sum_by-cons, sum_by-le, sum_by_push}
 use Rattle.pipe_frame.specs.TokenCounts.{TokenCounts}
@@ -17,7 +18,8 @@ use Rattle.work_deques.specs.declared.tally.Tally.{Tally}
 
 -- of two lists, the sums differ as the elements do
 module _ {X : Type 0} (a b : X → ℕ) where
-  pub sums_keep : (old new : List X) → length new ≡ length old → ((k : ℕ) (d : X) → k < length old → a (get_or new k d) + b (get_or old k d) ≡ a (get_or old k d) + b (get_or new k d))
+  pub sums_keep : (old new : List X) → length new ≡ length old
+      → ((k : ℕ) (d : X) → k < length old → a (get_or new k d) + b (get_or old k d) ≡ a (get_or old k d) + b (get_or new k d))
       → sum_by a new + sum_by b old ≡ sum_by a old + sum_by b new
   sums_keep [] [] l h = refl
   sums_keep [] (y ∷ ys) l h = absurd (let w : suc (length ys) ≡ zero = l in cc)
@@ -47,10 +49,12 @@ module _ {J M H : Type 0} where
   -- the same of the seats alone
   seats_alone : (f : H → ℕ) (lanes : List (Lane J M H)) → sum_by (λ l. f (seat_in l)) lanes ≡ sum_by f (map seat_in lanes)
   seats_alone f [] = refl
-  seats_alone f (l ∷ ls) = sum_by-cons (λ (x : Lane J M H). f (seat_in x)) l ls ∙ (ap (λ n. f (seat_in l) + n) (seats_alone f ls) ∙ sym (sum_by-cons f (seat_in l) (map seat_in ls)))
+  seats_alone f (l ∷ ls) = sum_by-cons (λ (x : Lane J M H). f (seat_in x)) l ls
+      ∙ (ap (λ n. f (seat_in l) + n) (seats_alone f ls) ∙ sym (sum_by-cons f (seat_in l) (map seat_in ls)))
 
   -- a seat goes from the end of a list to a lane
-  pub sums_move : (f : H → ℕ) (lanes longer : List (Lane J M H)) (l : Lane J M H) (seats fewer : List H) (total : ℕ) → longer ≡ lanes ++ l ∷ [] → seats ≡ fewer ++ seat_in l ∷ []
+  pub sums_move : (f : H → ℕ) (lanes longer : List (Lane J M H)) (l : Lane J M H) (seats fewer : List H) (total : ℕ)
+      → longer ≡ lanes ++ l ∷ [] → seats ≡ fewer ++ seat_in l ∷ []
       → sum_by (λ x. f (seat_in x)) lanes + sum_by f seats ≡ total → sum_by (λ x. f (seat_in x)) longer + sum_by f fewer ≡ total
   sums_move f lanes longer l seats fewer total is was h =
       let p = ap (sum_by (λ (x : Lane J M H). f (seat_in x))) is in
@@ -61,9 +65,11 @@ module _ {J M H : Type 0} where
 
   module _ (tokens : H → TokenCounts) where
     -- lane by lane
-    pub none_is_lost : (old new : List (Lane J M H)) → length new ≡ length old → ((k : ℕ) (d : Lane J M H) → k < length old → LaneKeeps tokens (get_or old k d) (get_or new k d)) → NoneIsLost tokens old new
+    pub none_is_lost : (old new : List (Lane J M H)) → length new ≡ length old
+        → ((k : ℕ) (d : Lane J M H) → k < length old → LaneKeeps tokens (get_or old k d) (get_or new k d)) → NoneIsLost tokens old new
     none_is_lost old new count keeps =
-        sums_keep (λ (l : Lane J M H). (tokens (seat_in l)).given + taken_by tokens_of_number (ends_in l)) (λ (l : Lane J M H). (tokens (seat_in l)).returned + put_by tokens_of_number (ends_in l)) old new count
+        sums_keep (λ (l : Lane J M H). (tokens (seat_in l)).given + taken_by tokens_of_number (ends_in l))
+        (λ (l : Lane J M H). (tokens (seat_in l)).returned + put_by tokens_of_number (ends_in l)) old new count
         (λ k d s. let h = keeps k d s in omega (arith, h))
 
 -- an empty list weighs nothing
@@ -76,13 +82,15 @@ module _ {T Q : Type 0} (workers capacity : ℕ) (weight : ℕ → ℕ) where
   none_taken : (e : Ends T Q) → AreFresh workers capacity e → taken_by weight e ≡ 0
   none_taken e h =
       let p = ap (λ (v : Tally). sum_by weight v.taken) h.own in
-      let q = ap (sum_by (λ (v : Tally). sum_by weight v.taken)) h.fronts ∙ sum_by-replicate (λ (v : Tally). sum_by weight v.taken) workers (tally 1 [] []) in
+      let q = ap (sum_by (λ (v : Tally). sum_by weight v.taken)) h.fronts ∙ sum_by-replicate (λ (v : Tally). sum_by weight v.taken) workers
+      (tally 1 [] []) in
       omega (arith, p, q)
 
   none_put : (e : Ends T Q) → AreFresh workers capacity e → put_by weight e ≡ 0
   none_put e h =
       let p = ap (λ (v : Tally). sum_by weight v.put) h.own in
-      let q = ap (sum_by (λ (v : Tally). sum_by weight v.put)) h.fronts ∙ sum_by-replicate (λ (v : Tally). sum_by weight v.put) workers (tally 1 [] []) in
+      let q = ap (sum_by (λ (v : Tally). sum_by weight v.put)) h.fronts ∙ sum_by-replicate (λ (v : Tally). sum_by weight v.put) workers
+      (tally 1 [] []) in
       omega (arith, p, q)
 
   none_of_all : (f : Ends T Q → ℕ) (ends : List (Ends T Q)) → All (λ e. f e ≡ 0) ends → sum_by f ends ≡ 0
@@ -102,8 +110,10 @@ at_most_one (suc n) = omega arith
 
 module _ {J M H : Type 0} (tokens : H → TokenCounts) where
   -- what is out after a run is at most what is left in the deques
-  pub left_out : (workers capacity : ℕ) (seats last : List H) (ends : List (Ends (Task M) (TestOf J M))) (old new : List (Lane J M H)) (left : List ℕ) (count : ℕ)
-      → All (AreFresh workers capacity) ends → map ends_in old ≡ ends → ((f : H → ℕ) → sum_by (λ l. f (seat_in l)) old ≡ sum_by f seats) → NoneIsLost tokens old new → last ≡ map seat_in new
+  pub left_out : (workers capacity : ℕ) (seats last : List H) (ends : List (Ends (Task M) (TestOf J M))) (old new : List (Lane J M H))
+      (left : List ℕ) (count : ℕ)
+      → All (AreFresh workers capacity) ends → map ends_in old ≡ ends → ((f : H → ℕ) → sum_by (λ l. f (seat_in l)) old ≡ sum_by f seats)
+      → NoneIsLost tokens old new → last ≡ map seat_in new
       → length left ≡ count → ((h : ℕ → ℕ) → weight_put h (map ends_in new) ≡ weight_taken h (map ends_in new) + sum_by h left)
       → (n : ℕ) × (n ≤ count) × AreOut tokens n seats last
   left_out workers capacity seats last ends old new left count fresh are same kept is size account =
@@ -125,5 +135,19 @@ module _ {J M H : Type 0} (tokens : H → TokenCounts) where
       let few = sum_by-le tokens_of_number 1 left (λ k d l. at_most_one (get_or left k d)) in (
         sum_by tokens_of_number left,
         omega (arith, few, size),
-        omega (arith, kept, came_old, came_new, went_old, went_new, given_old, returned_old, given_new, returned_new, taken_old, put_old, even),
+        omega (
+          arith,
+          kept,
+          came_old,
+          came_new,
+          went_old,
+          went_new,
+          given_old,
+          returned_old,
+          given_new,
+          returned_new,
+          taken_old,
+          put_old,
+          even,
+        ),
       )

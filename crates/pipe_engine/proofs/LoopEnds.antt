@@ -74,7 +74,8 @@ of_book tree input limit hall b h closed =
 -- the same of the hall that was opened after `init`, with the log into which its logs were merged
 module _ (tree : SyntaxTree) (input : List ℤ) (limit : ℕ) (hall : HallState) (b : BookState) (shards : List ShardValue) (log : RunLog)
     (opened : IsOpenedAfterInit tree input limit hall) (constants : hall.hall.constants ≡ Some (constants_of b))
-    (h : IsFinishedEnd hall.before b shards) (events : AreMerged b.log (logs_of shards) log.events) (columns : log.columns ≡ made_columns log.events) where
+    (h : IsFinishedEnd hall.before b shards) (events : AreMerged b.log (logs_of shards) log.events)
+    (columns : log.columns ≡ made_columns log.events) where
   of : IsOfBook tree input limit hall.before b
   of = of_book tree input limit hall b opened constants
 

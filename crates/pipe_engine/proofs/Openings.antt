@@ -13,7 +13,8 @@ map_both (Ok x) p q f = f x p q
 map_both (Err e) p q f = tt
 
 -- machines can drive a hall with these constants
-pub can_drive : (own : FlatCode) (h : HallId) (a : HallConstants) (code : FlatCode) (input : List ℤ) → h.constants ≡ Some a → code ≡ own → input ≡ a.input
+pub can_drive : (own : FlatCode) (h : HallId) (a : HallConstants) (code : FlatCode) (input : List ℤ) → h.constants ≡ Some a → code ≡ own
+    → input ≡ a.input
     → cells_of (tree_of a.program) ≤ 4294967296 → CanDrive own (hall_name h) code input
 can_drive own h a code input is same_code same_input few =
     subst (λ (o : Option HallConstants). CanDrive own (name_of h.table o) code input) (sym is)

@@ -40,18 +40,23 @@ step limit front e a over =
       | inl finished ↦ (
           let h = subst IsFinished (sym (control_state_is a.before)) finished in
           let stop = only_stops limit a.state e (control_starts_sound a.before).sound h a.control in
-          inr (subst (λ x. (state_after (front ++ x ∷ [])).stopped ≡ true) (sym stop) (ap (λ (s : State). s.stopped) (state_from-push initial_state front Stop))))
+          inr (subst (λ x. (state_after (front ++ x ∷ [])).stopped ≡ true) (sym stop)
+          (ap (λ (s : State). s.stopped) (state_from-push initial_state front Stop))))
       | inr stopped ↦ (
           let e : false ≡ true = sym a.going ∙ ap (λ (s : State). s.stopped) (control_state_is a.before) ∙ stopped in
           absurd (cc))
     ]
 
 -- if a run is over, so is each run that continues it
-pub over_stays : {limit : ℕ} {events : List Event} {c : State} → ControlRun limit events c → (base rest : List Event) → events ≡ base ++ rest → IsOver base → IsOver events
+pub over_stays : {limit : ℕ} {events : List Event} {c : State} → ControlRun limit events c → (base rest : List Event)
+    → events ≡ base ++ rest → IsOver base → IsOver events
 over_stays r base [] same over = subst IsOver (sym (same ∙ append-nil base)) over
 over_stays {limit = limit} r base (e ∷ rest) same over =
-    over_stays r (base ++ e ∷ []) rest (same ∙ sym (append_assoc base (e ∷ []) rest)) (step limit base e (allowed_at r base e rest same) over)
+    over_stays r (base ++ e ∷ []) rest (same ∙ sym (append_assoc base (e ∷ []) rest))
+    (step limit base e (allowed_at r base e rest same) over)
 
-pub seen_runs : (limit : ℕ) (events seen : List Event) → ControlRun limit events (state_after events) → BeginsWith events seen → HasSeenOver seen → IsOver events
+pub seen_runs : (limit : ℕ) (events seen : List Event) → ControlRun limit events (state_after events) → BeginsWith events seen
+    → HasSeenOver seen → IsOver events
 seen_runs limit events seen r begins h =
-    over_stays r h.base (h.later.0 ++ begins.0) (begins.1 ∙ ap (λ l. l ++ begins.0) h.later.1 ∙ append_assoc h.base h.later.0 begins.0) h.over
+    over_stays r h.base (h.later.0 ++ begins.0) (begins.1 ∙ ap (λ l. l ++ begins.0) h.later.1 ∙ append_assoc h.base h.later.0 begins.0)
+    h.over

@@ -14,4 +14,5 @@ pub record HasSeenOver (seen : List Event) : Type 0 where
 
 -- if the events of a run begin with such events, the run is over
 abbrev pub SeenRunsAreOver : Type 0
-SeenRunsAreOver = (limit : ℕ) (events seen : List Event) → ControlRun limit events (state_after events) → BeginsWith events seen → HasSeenOver seen → IsOver events
+SeenRunsAreOver = (limit : ℕ) (events seen : List Event) → ControlRun limit events (state_after events) → BeginsWith events seen
+    → HasSeenOver seen → IsOver events

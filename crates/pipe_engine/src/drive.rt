@@ -89,7 +89,8 @@ fn drive_first<
     ensures length { IfOk result (λ driven. vec_len driven.seats ≡ vec_len others + 1) }
     ensures named { IfOk result (λ driven. All (λ seat. H.named seat ≡ J.named) driven.seats.items) }
     ensures over { IfOk result (λ driven. All (λ seat. IsOver (H.seen seat)) driven.seats.items) }
-    ensures tokens { IfOk result (λ driven. (n : ℕ) × (n ≤ driven.left) × AreOut H.tokens n (others.items ++ first ∷ []) driven.seats.items) }
+    ensures tokens { IfOk result (λ driven. (n : ℕ) × (n ≤ driven.left) × AreOut H.tokens n
+        (others.items ++ first ∷ []) driven.seats.items) }
 {
     let mut seats = others;
     seats.push(first)?;
@@ -124,7 +125,8 @@ pub fn drive<
     ensures length { IfOk result (λ driven. vec_len driven.seats ≡ vec_len others + 1) }
     ensures named { IfOk result (λ driven. All (λ seat. H.named seat ≡ H.named first) driven.seats.items) }
     ensures over { IfOk result (λ driven. All (λ seat. IsOver (H.seen seat)) driven.seats.items) }
-    ensures tokens { IfOk result (λ driven. (n : ℕ) × (n ≤ driven.left) × AreOut H.tokens n (others.items ++ first ∷ []) driven.seats.items) }
+    ensures tokens { IfOk result (λ driven. (n : ℕ) × (n ≤ driven.left) × AreOut H.tokens n
+        (others.items ++ first ∷ []) driven.seats.items) }
 {
     drive_first::<Brand, R, M, H, G>(rt, alloc, code, input, capacity, first, others, gate)
 }

@@ -1,6 +1,7 @@
 //! Workers beside their seats, each pair of which goes to a thread of its own.
 
-ghost use Rattle.std.specs.Prelude.{◌≡◌, ◌≤◌, ◌<◌, ◌+◌, ◌^◌, [], ℕ, List, All, IfOk, length, map, slice_index_or, sum_by, vec_capacity, vec_len};
+ghost use Rattle.std.specs.Prelude.{◌≡◌, ◌≤◌, ◌<◌, ◌+◌, ◌^◌, [], ℕ, List, All, IfOk, length, map, slice_index_or, sum_by, vec_capacity};
+ghost use Rattle.std.specs.Prelude.{vec_len};
 ghost use Rattle.pipe_engine.specs.Lanes.{AreNumbered, ends_in, seat_in};
 ghost use Rattle.pipe_engine.specs.TokensOut.{LaneKeeps, NoneIsLost};
 ghost use Rattle.pipe_worker.specs.Machines.{CanDrive};
@@ -75,7 +76,8 @@ fn lend<
     ensures over { All (λ lane. IsOver (H.seen (seat_in lane))) lanes.new }
     ensures workers { (k : ℕ) (d : Lane J M H) → k < length lanes.old
         → IsSameWorker (slice_index_or lanes.old k d).worker (slice_index_or lanes.new k d).worker }
-    ensures tokens { (k : ℕ) (d : Lane J M H) → k < length lanes.old → LaneKeeps H.tokens (slice_index_or lanes.old k d) (slice_index_or lanes.new k d) }
+    ensures tokens { (k : ℕ) (d : Lane J M H) → k < length lanes.old → LaneKeeps H.tokens (slice_index_or lanes.old k d)
+        (slice_index_or lanes.new k d) }
 {
     let threads = lanes.len();
     for_each_mut(

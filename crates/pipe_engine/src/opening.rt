@@ -83,7 +83,8 @@ pub(crate) fn open<B: RunCode>(
     requires accepted { BreaksNoRule (tree_of prepared.now.checked.now) }
     requires code { prepared.now.code.now ≡ B.code }
     requires throttle { 0 < throttle }
-    ensures hall { IfOk result (λ opened. IsOpenedFor (tree_of prepared.now.checked.now) prepared.now.input.now throttle before.now opened.0) }
+    ensures hall { IfOk result (λ opened. IsOpenedFor (tree_of prepared.now.checked.now) prepared.now.input.now throttle before.now
+        opened.0) }
     ensures key { IfOk result (λ opened. opened.1.hall ≡ opened.0.hall) }
     ensures drives { IfOk result (λ opened. CanDrive B.code (hall_name opened.0.hall) prepared.now.code.now prepared.now.input.now) }
 {

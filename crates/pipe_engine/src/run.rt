@@ -231,7 +231,8 @@ pub fn run<R: Threads + Wait + Sync, G: Gate + Sync>(
     ensures trap { IfOk result (λ r. r.trap ≡ played_trap (whole_of (tree_of checked.now) input.now) (reaches_final true r.reports)
         (state_after r.run_log.events)) }
     ensures silent { IfOk result (λ r. (r.reports ≡ []) ↔ HasNoProgramRace (whole_of (tree_of checked.now) input.now)) }
-    ensures elision_columns { IfOk result (λ r. r.reports ≡ [] → r.run_log.columns ≡ program_columns (whole_of (tree_of checked.now) input.now)) }
+    ensures elision_columns { IfOk result (λ r. r.reports ≡ [] → r.run_log.columns ≡ program_columns
+        (whole_of (tree_of checked.now) input.now)) }
     ensures elision_output { IfOk result (λ r. r.reports ≡ [] → r.output ≡ program_output (whole_of (tree_of checked.now) input.now)) }
     ensures elision_trap { IfOk result (λ r. r.reports ≡ [] → r.trap ≡ program_trap (whole_of (tree_of checked.now) input.now)) }
 {

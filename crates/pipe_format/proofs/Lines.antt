@@ -1,5 +1,6 @@
 -- The text of a statement, part by part.
-use Rattle.std.proofs.Common.{◌≡◌, ◌∙◌, ap, sym, ℕ, ◌+◌, ◌<◌, List, [], ◌∷◌, ◌++◌, append_assoc, length, replicate, drop, get_or, codes, true, false, ◌==◌, Result, Ok, Err, OnOk, arith}
+use Rattle.std.proofs.Common.{◌≡◌, ◌∙◌, ap, sym, ℕ, ◌+◌, ◌<◌, List, [], ◌∷◌, ◌++◌, append_assoc, length, replicate, drop, get_or, codes}
+use Rattle.std.proofs.Common.{true, false, ◌==◌, Result, Ok, Err, OnOk, arith}
 use Rattle.std.proofs.lemmas.Bool.Decides.{nat_tests}
 use Rattle.std.proofs.lemmas.List.{append-nil, at_drop_more}
 use Rattle.pipe_model.specs.declared.tree.Stmt.{Stmt}
@@ -14,7 +15,8 @@ on_ok (Err e) f h = h
 -- a loop: its opening line, its block, and the line that closes it
 pub while_by_parts : (n : ℕ) (e : Expression) (body : Statements) (before opened filled closed : List ℕ)
     → opened ≡ before ++ (replicate n 32 ++ (codes "while (" ++ (expression_text e ++ codes ") {\n")))
-    → filled ≡ opened ++ statements_text (n + 2) body → closed ≡ filled ++ line n (codes "}") → closed ≡ before ++ statement_text n (While e body)
+    → filled ≡ opened ++ statements_text (n + 2) body → closed ≡ filled ++ line n (codes "}")
+    → closed ≡ before ++ statement_text n (While e body)
 while_by_parts n e body before opened filled closed a b c = rw (c, b, a) (simp append_assoc)
 
 -- an `if`: the same, with an `else` part before the line that closes it
@@ -40,7 +42,8 @@ no_else n (s ∷ ss) filled h = absurd (omega arith)
 
 -- the text of the rest of the statements at index i is the text of statement i, and then the text of those after it
 pub statements_step : (n : ℕ) (ss : List Stmt) (i : ℕ) (s : Stmt) → i < length ss → s ≡ get_or ss i s
-    → statements_text n (statements_of (drop i ss)) ≡ statement_text n (statement_of s) ++ statements_text n (statements_of (drop (i + 1) ss))
+    → statements_text n (statements_of (drop i ss)) ≡ statement_text n (statement_of s) ++ statements_text n
+    (statements_of (drop (i + 1) ss))
 statements_step n ss i s h e =
     at_drop_more (λ more. statements_text n (statements_of more)) ss i s h
     ∙ ap (λ (m : Stmt). statement_text n (statement_of m) ++ statements_text n (statements_of (drop (i + 1) ss))) (sym e)

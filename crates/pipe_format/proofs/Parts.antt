@@ -8,7 +8,8 @@ use Rattle.pipe_model.specs.Language.SyntaxTree.{Expression, Statements, stateme
 
 -- the line of limits, field by field
 pub limits_by_parts : (limits : Limits) (before one two three four end : List ℕ)
-    → one ≡ before ++ (codes "limits iterations " ++ signed_decimal limits.iterations) → two ≡ one ++ (codes ", stages " ++ signed_decimal limits.stages)
+    → one ≡ before ++ (codes "limits iterations " ++ signed_decimal limits.iterations) → two ≡ one
+    ++ (codes ", stages " ++ signed_decimal limits.stages)
     → three ≡ two ++ (codes ", steps " ++ signed_decimal limits.steps) → four ≡ three ++ (codes ", emits " ++ signed_decimal limits.emits)
     → end ≡ four ++ codes ";\n" → end ≡ before ++ limits_text limits
 limits_by_parts limits before one two three four end a b c d e = rw (e, d, c, b, a) (simp append_assoc)

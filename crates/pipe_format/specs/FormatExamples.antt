@@ -3,7 +3,8 @@ use Rattle.std.specs.Prelude.{◌≡◌, pos, List, [], ◌∷◌, ◌++◌, Non
 use Rattle.pipe_model.specs.declared.tree.StageKind.TheVariants as kinds
 use Rattle.pipe_model.specs.declared.tree.Declaration.{Declaration}
 use Rattle.pipe_model.specs.Language.CanonicalText.{expression_text, statement_text}
-use Rattle.pipe_model.specs.Language.SyntaxTree.{Expression, Number, Name, Element, And, Or, Binary, Unary, More, Take, Iter, Let, Assign, Emit, If, While, Stage, Empty, Then, SyntaxTree}
+use Rattle.pipe_model.specs.Language.SyntaxTree.{Expression, Number, Name, Element, And, Or, Binary, Unary, More, Take, Iter, Let, Assign}
+use Rattle.pipe_model.specs.Language.SyntaxTree.{Emit, If, While, Stage, Empty, Then, SyntaxTree}
 
 -- an expression and its text
 pub record FormatExample : Type 0 where

@@ -11,5 +11,6 @@ SpellsAsSources tree text = (source : List ℕ) → SourceSpells source tree →
 
 -- the program read from the text of such a program has the same text
 abbrev pub ReadingsHaveTheSameText : Type 0
-ReadingsHaveTheSameText = (source : List ℕ) (tree other : SyntaxTree) → SourceSpells source tree → length (program_text tree) ≤ LONGEST_SOURCE
+ReadingsHaveTheSameText = (source : List ℕ) (tree other : SyntaxTree) → SourceSpells source tree
+    → length (program_text tree) ≤ LONGEST_SOURCE
     → SourceSpells (program_text tree) other → program_text other ≡ program_text tree

@@ -2,7 +2,8 @@
 //! contract is the law or the examples.
 
 ghost use Rattle.std.specs.Prelude.{◌≡◌};
-ghost use Rattle.pipe_format.specs.FormatExamples.{BlocksAreIndented, HaveTexts, bare_loop, bare_loop_text, brackets, operands, sums, sums_text};
+ghost use Rattle.pipe_format.specs.FormatExamples.{BlocksAreIndented, HaveTexts, bare_loop, bare_loop_text, brackets, operands, sums};
+ghost use Rattle.pipe_format.specs.FormatExamples.{sums_text};
 ghost use Rattle.pipe_format.specs.TextLaws.{ReadingsHaveTheSameText};
 ghost use Rattle.pipe_model.specs.Language.CanonicalText.{program_text};
 

@@ -2,7 +2,8 @@
 
 ghost use Rattle.std.specs.Prelude.{◌≡◌, ◌+◌, ◌++◌, codes, OnOk, replicate};
 ghost use Rattle.pipe_model.specs.Language.CanonicalText.{expression_text, line, stage_word, statement_text, statements_text};
-ghost use Rattle.pipe_model.specs.Language.SyntaxTree.{Assign, AssignElement, Let, expression_of, stage_statement, statement_of, statements_of};
+ghost use Rattle.pipe_model.specs.Language.SyntaxTree.{Assign, AssignElement, Let, expression_of, stage_statement, statement_of};
+ghost use Rattle.pipe_model.specs.Language.SyntaxTree.{statements_of};
 
 use crate::expression::{push_element, push_expression};
 use crate::text::{push_indented, push_line};

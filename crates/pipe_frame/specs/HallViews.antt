@@ -48,9 +48,11 @@ abbrev pub SameSeat : Option InstanceSeat → Option InstanceSeat → Type 0
 SameSeat None None = Unit {0}
 SameSeat None (Some s) = ⊥
 SameSeat (Some r) None = ⊥
-SameSeat (Some r) (Some s) = (s.hall ≡ r.hall) × (s.seat ≡ r.seat) × (s.fields ≡ record r.fields { now = s.fields.now }) × (s.replies ≡ r.replies)
+SameSeat (Some r) (Some s) = (s.hall ≡ r.hall) × (s.seat ≡ r.seat) × (s.fields ≡ record r.fields { now = s.fields.now })
+    × (s.replies ≡ r.replies)
 
--- only the ticket of the token has changed, and of its payload only what was seen of the lists and what the seat has of tickets and accesses
+-- only the ticket of the token has changed, and of its payload only what was seen of the lists and what the seat has of tickets and
+-- accesses
 pub record IsSameInstance (old new : TokenFields) (old_tie new_tie : Tie) : Type 0 where
   pub fields : new ≡ record old { now = new.now }
   pub lists : identities_of new_tie.lists ≡ identities_of old_tie.lists

@@ -66,11 +66,14 @@ pub trait Hall<M: Stands + Drop> {
         requires out { IsSeated (named self.old) (fields_of token) (M.tie token.payload) }
         requires trace { trace ≡ seated_entries (M.tie token.payload) }
         requires whole { M.whole (named self.old).tree token.payload }
-        requires performs { IsPerformed (pipeline_of (named self.old).tree (named self.old).input) token.iteration (seated_replies (M.tie token.payload)) trace end }
-        requires ready { NamesNextStage end → M.ready_at (named self.old).tree (named self.old).input token.payload token.iteration (seated_replies (M.tie token.payload) ++ replies_of trace ∷ []) }
+        requires performs { IsPerformed (pipeline_of (named self.old).tree (named self.old).input) token.iteration
+            (seated_replies (M.tie token.payload)) trace end }
+        requires ready { NamesNextStage end → M.ready_at (named self.old).tree (named self.old).input token.payload token.iteration
+            (seated_replies (M.tie token.payload) ++ replies_of trace ∷ []) }
         requires stopped { end ≡ StageEnd.Stopped → (state_after (seen self.old)).stopped ≡ true }
         ensures named { named self.new ≡ named self.old }
-        ensures sees { Sees (seen self.old) (seen self.new) (advance_events token.iteration end result) (λ s. AdvanceReturns s token.iteration token.index end result) }
+        ensures sees { Sees (seen self.old) (seen self.new) (advance_events token.iteration end result)
+            (λ s. AdvanceReturns s token.iteration token.index end result) }
         ensures tokens { Exchanges (tokens_next result) 1 (tokens self.old) (tokens self.new) }
         ensures seen_runs { ControlRun (named self.new).limit (seen self.new) (state_after (seen self.new)) }
         ensures token { IfGo result (IsGivenToken M.ready_at M.tie (named self.old)) }
@@ -98,7 +101,8 @@ pub trait Hall<M: Stands + Drop> {
     fn leave_ready<R: Wait>(&mut self, rt: &R, token: FrameToken<M>)
         requires out { IsSeated (named self.old) (fields_of token) (M.tie token.payload) }
         requires fresh { seated_entries (M.tie token.payload) ≡ [] }
-        requires ready { M.ready_at (named self.old).tree (named self.old).input token.payload token.iteration (seated_replies (M.tie token.payload)) }
+        requires ready { M.ready_at (named self.old).tree (named self.old).input token.payload token.iteration
+            (seated_replies (M.tie token.payload)) }
         ensures named { named self.new ≡ named self.old }
         ensures sees { Sees (seen self.old) (seen self.new) [] (λ s. Unit {0}) }
         ensures tokens { Exchanges 0 1 (tokens self.old) (tokens self.new) }
@@ -123,7 +127,8 @@ pub trait Hall<M: Stands + Drop> {
         ensures out { IsSeated (named self.old) (fields_of token.new) (M.tie token.new.payload) }
         ensures instance { IsSameInstance (fields_of token.old) (fields_of token.new) (M.tie token.old.payload) (M.tie token.new.payload) }
         ensures whole { (tree : SyntaxTree) → M.whole tree token.old.payload → M.whole tree token.new.payload }
-        ensures ready { (tree : SyntaxTree) (input : List ℤ) (i : ℕ) (before : List (List ℤ)) → M.ready_at tree input token.old.payload i before → M.ready_at tree input token.new.payload i before }
+        ensures ready { (tree : SyntaxTree) (input : List ℤ) (i : ℕ) (before : List (List ℤ))
+            → M.ready_at tree input token.old.payload i before → M.ready_at tree input token.new.payload i before }
         ensures replies { seated_replies (M.tie token.new.payload) ≡ seated_replies (M.tie token.old.payload) }
         ensures access { AccessReturns cell.0 write trace.old trace.new result }
         ensures trace { trace.new ≡ seated_entries (M.tie token.new.payload) }

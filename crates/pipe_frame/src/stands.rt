@@ -18,5 +18,6 @@ pub trait Stands {
     ghost tie: { Self → Tie };
 
     /// A payload at the start of an instance can run its program.
-    ghost ready_whole: { (tree : SyntaxTree) (input : List ℤ) (x : Self) (i : ℕ) (replies : List (List ℤ)) → ready_at tree input x i replies → whole tree x };
+    ghost ready_whole: { (tree : SyntaxTree) (input : List ℤ) (x : Self) (i : ℕ) (replies : List (List ℤ))
+        → ready_at tree input x i replies → whole tree x };
 }

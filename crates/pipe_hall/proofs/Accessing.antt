@@ -1,5 +1,6 @@
 -- Accesses in the cells of a shard.
-use Rattle.std.proofs.Common.{◌≡◌, ℕ, ℤ, zero, suc, get_or, ◌+◌, ◌<◌, ◌%◌, ◌/◌, ◌⊎◌, inl, inr, drop, IfSome, IfNone, List, [], ◌∷◌, ◌++◌, length, refl, sym, ap, ap₂, ◌∙◌, ◌↔◌, subst, arith, Option, Some, None, true, false, Result, Ok, Err, OnOk}
+use Rattle.std.proofs.Common.{◌≡◌, ℕ, ℤ, zero, suc, get_or, ◌+◌, ◌<◌, ◌%◌, ◌/◌, ◌⊎◌, inl, inr, drop, IfSome, IfNone, List, [], ◌∷◌, ◌++◌}
+use Rattle.std.proofs.Common.{length, refl, sym, ap, ap₂, ◌∙◌, ◌↔◌, subst, arith, Option, Some, None, true, false, Result, Ok, Err, OnOk}
 use Rattle.std.specs.Result.{is_err}
 use Rattle.std.proofs.lemmas.List.{length-append}
 use Rattle.pipe_model.specs.declared.access.Access.{Access}
@@ -57,25 +58,38 @@ log_part e (x ∷ log) more h = (h.0, log_part (e + 1) log more h.1)
 -- a longer log keeps the order
 pub log_keeps : (old new : List ℕ) → BeginsWith new old → IsLog 1 new → KeepsOrder (list_of_log old) (list_of_log new)
 log_keeps old new b valid = record {
-  elements = λ x h. (let q = (list_has_below old (log_part 1 old b.0 (subst (IsLog 1) b.1 valid))).only x h in let n = length-append old b.0 in let e = ap length b.1 in (list_has_below new valid).each x (omega (arith, q, n, e)));
-  order = λ x y hx hy. subst (λ l. StandsBefore (list_of_log l) x y ↔ StandsBefore (list_of_log old) x y) (sym b.1) (longer_logs_keep_the_order old b.0 x y (subst (IsLog 1) b.1 valid) hx hy);
+  elements = λ x h. (let q = (list_has_below old (log_part 1 old b.0 (subst (IsLog 1) b.1 valid))).only x h in
+      let n = length-append old b.0 in let e = ap length b.1 in (list_has_below new valid).each x (omega (arith, q, n, e)));
+  order = λ x y hx hy. subst (λ l. StandsBefore (list_of_log l) x y ↔ StandsBefore (list_of_log old) x y) (sym b.1)
+      (longer_logs_keep_the_order old b.0 x y (subst (IsLog 1) b.1 valid) hx hy);
 }
 
 -- marks that were seen are in the lists
-pub marks_in_lists : (down right : List ℕ) (lists : SeenLists) (m : Marks) → BeginsWith lists.down_log down → BeginsWith lists.right_log right → IsLog 1 lists.down_log → IsLog 1 lists.right_log
+pub marks_in_lists : (down right : List ℕ) (lists : SeenLists) (m : Marks) → BeginsWith lists.down_log down
+    → BeginsWith lists.right_log right → IsLog 1 lists.down_log → IsLog 1 lists.right_log
     → AreElementsOf down right m → AreIn (down_list lists) (right_list lists) m
 marks_in_lists down right lists m bd br ld lr h = record {
-  down = (list_has_below lists.down_log ld).each m.down_first (let l = h.down_first in let n = length-append down bd.0 in let e = ap length bd.1 in omega (arith, l, n, e));
-  right = (list_has_below lists.right_log lr).each m.right_first (let l = h.right_first in let n = length-append right br.0 in let e = ap length br.1 in omega (arith, l, n, e));
+  down = (list_has_below lists.down_log ld).each m.down_first
+      (let l = h.down_first in let n = length-append down bd.0 in let e = ap length bd.1 in omega (arith, l, n, e));
+  right = (list_has_below lists.right_log lr).each m.right_first
+      (let l = h.right_first in let n = length-append right br.0 in let e = ap length br.1 in omega (arith, l, n, e));
 }
 
 -- the lists of a pass that has met another
-pub lists_grow : (old new : SeenLists) → (new.down ≡ old.down) × (new.right ≡ old.right) → BeginsWith new.down_log old.down_log → BeginsWith new.right_log old.right_log → IsLog 1 new.down_log → IsLog 1 new.right_log → GrowLists old new
-lists_grow old new same bd br ld lr = record { identities = same; down = log_keeps old.down_log new.down_log bd ld; right = log_keeps old.right_log new.right_log br lr }
+pub lists_grow : (old new : SeenLists) → (new.down ≡ old.down) × (new.right ≡ old.right) → BeginsWith new.down_log old.down_log
+    → BeginsWith new.right_log old.right_log → IsLog 1 new.down_log → IsLog 1 new.right_log → GrowLists old new
+lists_grow old new same bd br ld lr = record {
+  identities = same;
+  down = log_keeps old.down_log new.down_log bd ld;
+  right =
+      log_keeps old.right_log new.right_log br lr;
+}
 
 -- what is kept is in longer lists
-pub kept_grow : (old new : SeenLists) (h : History) → GrowLists old new → KeptAreIn (down_list old) (right_list old) h → KeptAreIn (down_list new) (right_list new) h
-kept_grow old new h g k = all_kept (λ w. AreIn (down_list old) (right_list old) w.marks) (λ w. AreIn (down_list new) (right_list new) w.marks) h
+pub kept_grow : (old new : SeenLists) (h : History) → GrowLists old new → KeptAreIn (down_list old) (right_list old) h
+    → KeptAreIn (down_list new) (right_list new) h
+kept_grow old new h g k = all_kept (λ w. AreIn (down_list old) (right_list old) w.marks)
+    (λ w. AreIn (down_list new) (right_list new) w.marks) h
     (λ w a. record { down = g.down.elements w.marks.down_first a.down; right = g.right.elements w.marks.right_first a.right }) k
 
 -- the default is of no account within a list
@@ -90,30 +104,36 @@ not_err P (Ok x) p e = p
 not_err P (Err x) p e = absurd (let z : true ≡ false = e in cc)
 
 -- a shard that was taken can make an access to each of its cells
-pub can_begin : (v : SeatView) (i : ℕ) (x : ShardValue) (c : ℕ) (a : HallConstants) → ShardSnapshot v i x → v.constants ≡ Some a → c < length (store_of (tree_of a.program)).values → i ≡ 1 + c % 16 → CanBegin x c
+pub can_begin : (v : SeatView) (i : ℕ) (x : ShardValue) (c : ℕ) (a : HallConstants) → ShardSnapshot v i x → v.constants ≡ Some a
+    → c < length (store_of (tree_of a.program)).values → i ≡ 1 + c % 16 → CanBegin x c
 can_begin v i x c a t knows l slot =
     let h = t.has_shard.shard in
     let same : a ≡ constants_of t.book = t.constants a knows in
     let suc_number = t.slot in
     let number : t.number ≡ c % 16 = omega (arith, slot, suc_number) in
-    let there : c < x.cells.shard.cells = subst (λ n. c < n) (sym h.cells.cells) (subst (λ (b : HallConstants). c < length (store_of (tree_of b.program)).values) same l) in
+    let there : c < x.cells.shard.cells = subst (λ n. c < n) (sym h.cells.cells)
+    (subst (λ (b : HallConstants). c < length (store_of (tree_of b.program)).values) same l) in
     let room = h.room in
     record {
       there = there;
       own = ap (λ n. c % n) h.part.1 ∙ (sym number ∙ sym h.part.0);
       slot = omega (arith, there, room, number);
-      kept = all_kept _ _ _ (λ w o. subst (λ (u : Who). AreIn (down_list x.lists) (right_list x.lists) u.marks) (sym o.2) (h.seen o.0 o.1)) (h.histories (c / 16)).kept;
+      kept = all_kept _ _ _ (λ w o. subst (λ (u : Who). AreIn (down_list x.lists) (right_list x.lists) u.marks) (sym o.2) (h.seen o.0 o.1))
+          (h.histories (c / 16)).kept;
     }
 
 -- the token's passes see the lists of the shard's
-pub same_lists : (v : SeatView) (i : ℕ) (x : ShardValue) (a : HallConstants) (l : SeenLists) → ShardSnapshot v i x → v.constants ≡ Some a → AreSeenLists (Some l) a.lists.down a.lists.right
+pub same_lists : (v : SeatView) (i : ℕ) (x : ShardValue) (a : HallConstants) (l : SeenLists) → ShardSnapshot v i x → v.constants ≡ Some a
+    → AreSeenLists (Some l) a.lists.down a.lists.right
     → (x.lists.down ≡ l.down) × (x.lists.right ≡ l.right)
 same_lists v i x a l t knows seen =
     let same : a ≡ constants_of t.book = t.constants a knows in
     let h = t.has_shard in
     let d : a.lists.down ≡ h.named.0.0 ∷ h.named.0.1 = ap (λ (b : HallConstants). b.lists.down) same ∙ (sym h.identities.0 ∙ h.named.0.2) in
-    let r : a.lists.right ≡ h.named.1.0 ∷ h.named.1.1 = ap (λ (b : HallConstants). b.lists.right) same ∙ (sym h.identities.1 ∙ h.named.1.2) in
-    let q : AreSeenLists (Some l) (h.named.0.0 ∷ h.named.0.1) (h.named.1.0 ∷ h.named.1.1) = subst (λ z. AreSeenLists (Some l) z (h.named.1.0 ∷ h.named.1.1)) d (subst (λ z. AreSeenLists (Some l) a.lists.down z) r seen) in
+    let r : a.lists.right ≡ h.named.1.0 ∷ h.named.1.1 = ap (λ (b : HallConstants). b.lists.right) same
+    ∙ (sym h.identities.1 ∙ h.named.1.2) in
+    let q : AreSeenLists (Some l) (h.named.0.0 ∷ h.named.0.1) (h.named.1.0 ∷ h.named.1.1) =
+    subst (λ z. AreSeenLists (Some l) z (h.named.1.0 ∷ h.named.1.1)) d (subst (λ z. AreSeenLists (Some l) a.lists.down z) r seen) in
     (h.named.0.2 ∙ sym q.0, h.named.1.2 ∙ sym q.1)
 
 -- passes with these identities are of these lists
@@ -138,16 +158,21 @@ run_one : (o : Option InstanceData) (l : List ShardEntry) (e : ShardEntry) → a
 run_one None l e = refl
 run_one (Some d) l e = ap (λ es. Some (after_entries d es)) (drop_more l e)
 
-module _ (who : Who) (f : TokenFields) (is : who ≡ record { node = at f.iteration f.index; marks = f.marks }) (now joined c : ℕ) (same_now : now ≡ f.now) (same_joined : joined ≡ f.joined) (write : Option ℤ) (x y : ShardValue) (old new : List Entry) where
+module _ (who : Who) (f : TokenFields) (is : who ≡ record { node = at f.iteration f.index; marks = f.marks }) (now joined c : ℕ)
+    (same_now : now ≡ f.now) (same_joined : joined ≡ f.joined) (write : Option ℤ) (x y : ShardValue) (old new : List Entry) where
   -- the shard is as before, or the access was made
-  pub either_made : (o : Option Entry) (d : InstanceData) → d.fields ≡ f → IfNone o ((y ≡ x) × (new ≡ old)) → IfSome o (IsMadeNow who joined now c write x y old new) → (y ≡ x) ⊎ MadeBy d (c % 16) x y
+  pub either_made : (o : Option Entry) (d : InstanceData) → d.fields ≡ f → IfNone o ((y ≡ x) × (new ≡ old))
+      → IfSome o (IsMadeNow who joined now c write x y old new) → (y ≡ x) ⊎ MadeBy d (c % 16) x y
   either_made None d e h k = inl h.0
   either_made (Some a) d e h k =
-      let w : who ≡ record { node = at d.fields.iteration d.fields.index; marks = d.fields.marks } = is ∙ ap (λ (g : TokenFields). let u : Who = record { node = at g.iteration g.index; marks = g.marks } in u) (sym e) in
+      let w : who ≡ record { node = at d.fields.iteration d.fields.index; marks = d.fields.marks } = is
+      ∙ ap (λ (g : TokenFields). let u : Who = record { node = at g.iteration g.index; marks = g.marks } in u) (sym e) in
       inr (record {
         ticket = a.ticket;
         access = a.access;
-        made = subst (λ n. IsMade (record { node = at d.fields.iteration d.fields.index; marks = d.fields.marks }) n a.ticket a.access x y) (same_joined ∙ ap (λ (g : TokenFields). g.joined) (sym e)) (subst (λ (u : Who). IsMade u joined a.ticket a.access x y) w k.made);
+        made = subst (λ n. IsMade (record { node = at d.fields.iteration d.fields.index; marks = d.fields.marks }) n a.ticket a.access x y)
+            (same_joined ∙ ap (λ (g : TokenFields). g.joined) (sym e))
+            (subst (λ (u : Who). IsMade u joined a.ticket a.access x y) w k.made);
         own = ap (λ n. n % 16) k.cell;
         there = subst (λ n. n < x.cells.shard.cells) (sym k.cell) k.there;
         next = k.next ∙ ap (next_ticket x.last) (same_now ∙ ap (λ (g : TokenFields). g.now) (sym e));
@@ -155,19 +180,22 @@ module _ (who : Who) (f : TokenFields) (is : who ≡ record { node = at f.iterat
       })
 
   -- the seat has one access more, if it was made
-  pub run_done : (o : Option Entry) (v w : SeatView) → w.held ≡ [] → w.constants ≡ v.constants → w.seen ≡ v.seen → w.met ≡ v.met → w.tokens ≡ v.tokens → v.held ≡ [] → w.run ≡ after_log v.run x.log y.log
+  pub run_done : (o : Option Entry) (v w : SeatView) → w.held ≡ [] → w.constants ≡ v.constants → w.seen ≡ v.seen → w.met ≡ v.met
+      → w.tokens ≡ v.tokens → v.held ≡ [] → w.run ≡ after_log v.run x.log y.log
       → IfNone o ((y ≡ x) × (new ≡ old)) → IfSome o (IsMadeNow who joined now c write x y old new) → w ≡ ran v o
   run_done None v w held constants seen met tokens none_held run h k =
       let r : w.run ≡ v.run = run ∙ (ap (λ (z : ShardValue). after_log v.run x.log z.log) h.0 ∙ run_same v.run x.log) in
       let t : w.held ≡ v.held = held ∙ sym none_held in
       λ j. record { constants = constants j; seen = seen j; met = met j; run = r j; held = t j; tokens = tokens j }
   run_done (Some e) v w held constants seen met tokens none_held run h k =
-      let r : w.run ≡ run_more v.run e = run ∙ (ap (after_log v.run x.log) k.made.accessed.log ∙ run_one v.run x.log (record { ticket = e.ticket; node = who.node; access = e.access })) in
+      let r : w.run ≡ run_more v.run e = run ∙ (ap (after_log v.run x.log) k.made.accessed.log
+      ∙ run_one v.run x.log (record { ticket = e.ticket; node = who.node; access = e.access })) in
       let t : w.held ≡ v.held = held ∙ sym none_held in
       λ j. record { constants = constants j; seen = seen j; met = met j; run = r j; held = t j; tokens = tokens j }
 
   -- what was done to the trace
-  pub trace_done : (o : Option Entry) → IfNone o ((y ≡ x) × (new ≡ old)) → IfSome o (IsMadeNow who joined now c write x y old new) → TraceAfter c write old new o
+  pub trace_done : (o : Option Entry) → IfNone o ((y ≡ x) × (new ≡ old)) → IfSome o (IsMadeNow who joined now c write x y old new)
+      → TraceAfter c write old new o
   trace_done None h k = h.1
   trace_done (Some e) h k = (k.asked, k.trace)
 
@@ -185,7 +213,8 @@ ran_badge v (Some x) e =
     is_badge (view_of (ran v.it (Some x))) b.constants (run_accessed b.run x.ticket x.access) knows (ap (λ r. run_more r x) run_is) held
 
 -- the seat as its tie names it
-pub ran_seat : (z : TableId) (id : ℕ) (v : View) (o : Option Entry) → seat_of z id (ran v.it o).constants (ran v.it o).run ≡ seat_done (seat_of z id v.it.constants v.it.run) o
+pub ran_seat : (z : TableId) (id : ℕ) (v : View) (o : Option Entry) → seat_of z id (ran v.it o).constants (ran v.it o).run ≡ seat_done
+    (seat_of z id v.it.constants v.it.run) o
 ran_seat z id v None = refl
 ran_seat z id v (Some x) = by v.it.run
   where
@@ -194,7 +223,8 @@ ran_seat z id v (Some x) = by v.it.run
     by (Some d) = refl
 
 -- a token that is out is still out
-pub seated_after : (h : HallName) (f g : TokenFields) (t u : Tie) (o : Option Entry) → g ≡ record f { now = now_after f.now o } → u ≡ tie_after t o → IsSeated h f t → IsSeated h g u
+pub seated_after : (h : HallName) (f g : TokenFields) (t u : Tie) (o : Option Entry) → g ≡ record f { now = now_after f.now o }
+    → u ≡ tie_after t o → IsSeated h f t → IsSeated h g u
 seated_after h f g t u None fields tie out = subst (λ x. IsSeated h x u) (sym fields) (subst (λ x. IsSeated h f x) (sym tie) out)
 seated_after h f g t u (Some e) fields tie out = record {
   seat = record out.seat { fields = record (out.seat.fields) { now = e.ticket }; entries = out.seat.entries ++ e ∷ [] };
@@ -211,11 +241,13 @@ same_seat s None = (refl, refl, refl, refl)
 same_seat s (Some e) = (refl, refl, refl, refl)
 
 -- it is of the same instance
-pub same_instance : (h : HallName) (f g : TokenFields) (t u : Tie) (o : Option Entry) → g ≡ record f { now = now_after f.now o } → u ≡ tie_after t o → IsSeated h f t → IsSameInstance f g t u
+pub same_instance : (h : HallName) (f g : TokenFields) (t u : Tie) (o : Option Entry) → g ≡ record f { now = now_after f.now o }
+    → u ≡ tie_after t o → IsSeated h f t → IsSameInstance f g t u
 same_instance h f g t u o fields tie out = record {
   fields = fields ∙ sym (ap (λ n. let y : TokenFields = record f { now = n } in y) (ap (λ (x : TokenFields). x.now) fields));
   lists = ap (λ (x : Tie). identities_of x.lists) tie;
-  seat = subst (λ (x : Tie). SameSeat t.seat x.seat) (sym tie) (subst (λ x. SameSeat x (seat_done x o)) (sym out.is) (same_seat out.seat o));
+  seat = subst (λ (x : Tie). SameSeat t.seat x.seat) (sym tie)
+      (subst (λ x. SameSeat x (seat_done x o)) (sym out.is) (same_seat out.seat o));
 }
 
 replies_done : (s : Option InstanceSeat) (o : Option Entry) → replies_of_seat (seat_done s o) ≡ replies_of_seat s
@@ -226,20 +258,25 @@ replies_done (Some s) (Some e) = refl
 pub replies_after : (t u : Tie) (o : Option Entry) → u ≡ tie_after t o → replies_of_seat u.seat ≡ replies_of_seat t.seat
 replies_after t u o tie = ap (λ (x : Tie). replies_of_seat x.seat) tie ∙ replies_done t.seat o
 
-pub trace_after : (h : HallName) (f : TokenFields) (t u : Tie) (c : ℕ) (write : Option ℤ) (old new : List Entry) (o : Option Entry) → TraceAfter c write old new o → old ≡ entries_of_seat t.seat → u ≡ tie_after t o
+pub trace_after : (h : HallName) (f : TokenFields) (t u : Tie) (c : ℕ) (write : Option ℤ) (old new : List Entry) (o : Option Entry)
+    → TraceAfter c write old new o → old ≡ entries_of_seat t.seat → u ≡ tie_after t o
     → IsSeated h f t → new ≡ entries_of_seat u.seat
 trace_after h f t u c write old new None q is tie out = q ∙ (is ∙ sym (ap (λ (x : Tie). entries_of_seat x.seat) tie))
 trace_after h f t u c write old new (Some e) q is tie out =
-    q.1 ∙ (ap (λ l. l ++ e ∷ []) (is ∙ ap entries_of_seat out.is) ∙ sym (ap (λ (x : Tie). entries_of_seat x.seat) tie ∙ ap (λ x. entries_of_seat (seat_more x e)) out.is))
+    q.1 ∙ (ap (λ l. l ++ e ∷ []) (is ∙ ap entries_of_seat out.is)
+    ∙ sym (ap (λ (x : Tie). entries_of_seat x.seat) tie ∙ ap (λ x. entries_of_seat (seat_more x e)) out.is))
 
 -- the seat of a payload after an access
-pub seat_again : (a r : RunSeat) (z : TableId) (id : ℕ) (v : View) (o : Option Entry) → z ≡ a.badge.table_id → id ≡ a.badge.id → a.badge.views ≡ v ∷ [] → r.badge.table_id ≡ z → r.badge.id ≡ id
+pub seat_again : (a r : RunSeat) (z : TableId) (id : ℕ) (v : View) (o : Option Entry) → z ≡ a.badge.table_id → id ≡ a.badge.id
+    → a.badge.views ≡ v ∷ [] → r.badge.table_id ≡ z → r.badge.id ≡ id
     → r.badge.views ≡ view_of (ran v.it o) ∷ [] → seat_in (Some r) ≡ seat_done (seat_in (Some a)) o
 seat_again a r z id v o az ai av rz ri rv =
     let new : seat_in (Some r) ≡ seat_of z id (ran v.it o).constants (ran v.it o).run =
-    ap₂ (λ y i. seat_of y i (badge_view r.badge.views).constants (badge_view r.badge.views).run) rz ri ∙ ap (λ vs. seat_of z id (badge_view vs).constants (badge_view vs).run) rv in
+    ap₂ (λ y i. seat_of y i (badge_view r.badge.views).constants (badge_view r.badge.views).run) rz ri
+    ∙ ap (λ vs. seat_of z id (badge_view vs).constants (badge_view vs).run) rv in
     let old : seat_of z id v.it.constants v.it.run ≡ seat_in (Some a) =
-    ap₂ (λ y i. seat_of y i v.it.constants v.it.run) az ai ∙ ap (λ vs. seat_of a.badge.table_id a.badge.id (badge_view vs).constants (badge_view vs).run) (sym av) in
+    ap₂ (λ y i. seat_of y i v.it.constants v.it.run) az ai
+    ∙ ap (λ vs. seat_of a.badge.table_id a.badge.id (badge_view vs).constants (badge_view vs).run) (sym av) in
     new ∙ (ran_seat z id v o ∙ ap (λ s. seat_done s o) old)
 
 -- two lists of identities, beside a third

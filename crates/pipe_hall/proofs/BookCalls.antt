@@ -1,5 +1,6 @@
 -- The calls of the book that start an instance, change nothing, or stop the run.
-use Rattle.std.proofs.Common.{◌≡◌, ◌≢◌, ℕ, zero, suc, ◌+◌, ◌<◌, ◌≤◌, ◌==◌, ◌&&◌, max, List, [], ◌∷◌, ◌++◌, map, length, get_or, set, refl, sym, ap, ap₂, ◌∙◌, subst, arith, cond, ne_eqb, Bool, true, false, Option, Some, None, append-nil}
+use Rattle.std.proofs.Common.{◌≡◌, ◌≢◌, ℕ, zero, suc, ◌+◌, ◌<◌, ◌≤◌, ◌==◌, ◌&&◌, max, List, [], ◌∷◌, ◌++◌, map, length, get_or, set, refl}
+use Rattle.std.proofs.Common.{sym, ap, ap₂, ◌∙◌, subst, arith, cond, ne_eqb, Bool, true, false, Option, Some, None, append-nil}
 use Rattle.std.proofs.lemmas.List.{length-append, map-append, same_from_push, length_push, get_or_push, length-set, length-map}
 use mathlib.Core.Logic.{dite}
 use native.Mathlib.Decide.{dec_le}
@@ -25,11 +26,13 @@ use Rattle.pipe_frame.specs.RunningTokens.{IsTokenOf, left_joined}
 use Rattle.pipe_frame.specs.TokenFields.{TokenFields}
 use Rattle.run_laws.proofs.ListOrders.SoundStarts.{control_starts_sound}
 use Rattle.run_laws.proofs.ListOrders.StartsOfRuns.{IsStartSound, grew_begin, grew_enter}
-use Rattle.run_laws.proofs.LogMerge.InstanceCounts.{control_counts, end_tickets_counted, start_tickets_counted, started_in, ended_in, ended_by_status}
+use Rattle.run_laws.proofs.LogMerge.InstanceCounts.{control_counts, end_tickets_counted, start_tickets_counted, started_in, ended_in}
+use Rattle.run_laws.proofs.LogMerge.InstanceCounts.{ended_by_status}
 use Rattle.run_laws.proofs.LogMerge.InstanceTickets.{end_tickets-append, ticket_within, start_has}
 use Rattle.run_laws.proofs.RunStates.Frames.{frame_at_other, frame_at_past, frame_at_push, length-update_frame}
 use Rattle.run_laws.proofs.RunStates.GrowingColumns.{columns-action}
-use Rattle.frame_book.specs.BookStates.{BookState, HasRisingTickets, IsOut, Kept, Out, Spent, timed_access, events_of, item_or, last_ticket, made, replies_at, state_of, stamped, with_events}
+use Rattle.frame_book.specs.BookStates.{BookState, HasRisingTickets, IsOut, Kept, Out, Spent, timed_access, events_of, item_or, last_ticket}
+use Rattle.frame_book.specs.BookStates.{made, replies_at, state_of, stamped, with_events}
 use Rattle.frame_book.specs.GivenTokens.{IsOutOf}
 use Rattle.frame_book.specs.TokenLaws.{EndsNoneOf}
 use Rattle.frame_book.proofs.BookLogs.LogEntries.{below_last, events_of_with, starts_of-push, state_after-push}
@@ -75,7 +78,8 @@ pub record LastEvent (limit : ℕ) (es : List Event) (e : Event) : Type 0 where
   pub quiet : is_access e ≡ false
   pub going : (state_after es).stopped ≡ false
 
-pub last_of : {limit : ℕ} {xs : List Event} {c : State} → ControlRun limit xs c → (es : List Event) (e : Event) → xs ≡ es ++ e ∷ [] → LastEvent limit es e
+pub last_of : {limit : ℕ} {xs : List Event} {c : State} → ControlRun limit xs c → (es : List Event) (e : Event) → xs ≡ es ++ e ∷ []
+    → LastEvent limit es e
 last_of EmptyControlRun es e q = absurd (no_push es e q)
   where
     no_push : (es : List Event) (e : Event) → [] ≡ es ++ e ∷ [] → ⊥
@@ -103,12 +107,14 @@ IsOf i (Finish j e) = j ≡ i
 IsOf i Stop = Unit {0}
 
 -- the frames of other iterations stay
-frame_other : (limit : ℕ) (s : State) (e : Event) (i j : ℕ) → ControlAllows limit s e → IsOf i e → j ≢ i → (f : Frame) → frame_at (next_state s e).frames j ≡ Some f → frame_at s.frames j ≡ Some f
+frame_other : (limit : ℕ) (s : State) (e : Event) (i j : ℕ) → ControlAllows limit s e → IsOf i e → j ≢ i → (f : Frame)
+    → frame_at (next_state s e).frames j ≡ Some f → frame_at s.frames j ≡ Some f
 frame_other limit s (Begin k) i j may of ne f is = dite (dec_le (suc j) (length s.frames))
     (λ l. sym (frame_at_push s.frames fresh_frame j l) ∙ is)
     (λ nl. (
     let n = may.number in
-    let past : frame_at (s.frames ++ fresh_frame ∷ []) j ≡ None = frame_at_past (s.frames ++ fresh_frame ∷ []) j (let w = length_push s.frames fresh_frame in let z : j ≢ length s.frames = λ q. ne (q ∙ (sym n ∙ of)) in omega (arith, w, nl, z)) in
+    let past : frame_at (s.frames ++ fresh_frame ∷ []) j ≡ None = frame_at_past (s.frames ++ fresh_frame ∷ []) j
+    (let w = length_push s.frames fresh_frame in let z : j ≢ length s.frames = λ q. ne (q ∙ (sym n ∙ of)) in omega (arith, w, nl, z)) in
     absurd (let z : None ≡ Some f = sym past ∙ is in cc)))
 frame_other limit s (Access k a) i j may of ne f is = absurd of
 frame_other limit s (Advance k n m) i j may of ne f is = sym (frame_at_other s.frames k j _ (λ q. ne (q ∙ of))) ∙ is
@@ -138,26 +144,35 @@ number_stays : (xs ys : List NodeId) (i k : ℕ) → start_number xs i k < lengt
 number_stays [] ys i k l = absurd (omega (arith, l))
 number_stays (x ∷ xs) ys i k l = by ((x.iteration == i) && (x.index == k)) l (λ h. number_stays xs ys i k h)
   where
-    by : (t : Bool) → cond t 0 (suc (start_number xs i k)) < suc (length xs) → (start_number xs i k < length xs → start_number (xs ++ ys) i k < length (xs ++ ys))
+    by : (t : Bool) → cond t 0 (suc (start_number xs i k)) < suc (length xs)
+        → (start_number xs i k < length xs → start_number (xs ++ ys) i k < length (xs ++ ys))
         → cond t 0 (suc (start_number (xs ++ ys) i k)) < suc (length (xs ++ ys))
     by true l h = omega arith
     by false l h = let z = h (omega (arith, l)) in omega (arith, z)
 
 -- the marks of the instances that have started
-marks_stay : (limit : ℕ) (s : State) (starts : List NodeId) (e : Event) (i k : ℕ) → IsStartSound s.frames starts → ControlAllows limit s e → is_access e ≡ false → k < length (nodes_at (own_columns s) i)
+marks_stay : (limit : ℕ) (s : State) (starts : List NodeId) (e : Event) (i k : ℕ) → IsStartSound s.frames starts → ControlAllows limit s e
+    → is_access e ≡ false → k < length (nodes_at (own_columns s) i)
     → instance_marks (own_columns (next_state s e)) (starts ++ started_by s e) i k ≡ instance_marks (own_columns s) starts i k
-marks_stay limit s starts (Begin j) i k sound may quiet l = marks_same s.frames (next_state s (Begin j)).frames starts (at j 0) sound (grew_begin limit s j starts may sound) i k l
-marks_stay limit s starts (Enter j) i k sound may quiet l = marks_same s.frames (next_state s (Enter j)).frames starts (at j (length (nodes_at (own_columns s) j))) sound (grew_enter s j starts may sound) i k l
-marks_stay limit s starts (Advance j m n) i k sound may quiet l = ap₂ (λ c t. instance_marks c t i k) (columns-action s.frames j _ _) (append-nil starts)
-marks_stay limit s starts (Finish j e) i k sound may quiet l = ap₂ (λ c t. instance_marks c t i k) (columns-action s.frames j _ _) (append-nil starts)
+marks_stay limit s starts (Begin j) i k sound may quiet l = marks_same s.frames (next_state s (Begin j)).frames starts (at j 0) sound
+    (grew_begin limit s j starts may sound) i k l
+marks_stay limit s starts (Enter j) i k sound may quiet l = marks_same s.frames (next_state s (Enter j)).frames starts
+    (at j (length (nodes_at (own_columns s) j))) sound (grew_enter s j starts may sound) i k l
+marks_stay limit s starts (Advance j m n) i k sound may quiet l = ap₂ (λ c t. instance_marks c t i k) (columns-action s.frames j _ _)
+    (append-nil starts)
+marks_stay limit s starts (Finish j e) i k sound may quiet l = ap₂ (λ c t. instance_marks c t i k) (columns-action s.frames j _ _)
+    (append-nil starts)
 marks_stay limit s starts (Access j a) i k sound may quiet l = absurd (let q : true ≡ false = quiet in cc)
 marks_stay limit s starts Stop i k sound may quiet l = ap (λ t. instance_marks (own_columns s) t i k) (append-nil starts)
 
 -- their joined indices
-joins_stay : (limit : ℕ) (s : State) (starts : List NodeId) (e : Event) (i k : ℕ) → IsStartSound s.frames starts → ControlAllows limit s e → is_access e ≡ false → k < length (nodes_at (own_columns s) i)
+joins_stay : (limit : ℕ) (s : State) (starts : List NodeId) (e : Event) (i k : ℕ) → IsStartSound s.frames starts → ControlAllows limit s e
+    → is_access e ≡ false → k < length (nodes_at (own_columns s) i)
     → left_joined (own_columns (next_state s e)) i k ≡ left_joined (own_columns s) i k
-joins_stay limit s starts (Begin j) i k sound may quiet l = left_joined_same s.frames (next_state s (Begin j)).frames starts (at j 0) sound (grew_begin limit s j starts may sound) i k l
-joins_stay limit s starts (Enter j) i k sound may quiet l = left_joined_same s.frames (next_state s (Enter j)).frames starts (at j (length (nodes_at (own_columns s) j))) sound (grew_enter s j starts may sound) i k l
+joins_stay limit s starts (Begin j) i k sound may quiet l = left_joined_same s.frames (next_state s (Begin j)).frames starts (at j 0) sound
+    (grew_begin limit s j starts may sound) i k l
+joins_stay limit s starts (Enter j) i k sound may quiet l = left_joined_same s.frames (next_state s (Enter j)).frames starts
+    (at j (length (nodes_at (own_columns s) j))) sound (grew_enter s j starts may sound) i k l
 joins_stay limit s starts (Advance j m n) i k sound may quiet l = ap (λ c. left_joined c i k) (columns-action s.frames j _ _)
 joins_stay limit s starts (Finish j e) i k sound may quiet l = ap (λ c. left_joined c i k) (columns-action s.frames j _ _)
 joins_stay limit s starts (Access j a) i k sound may quiet l = absurd (let q : true ≡ false = quiet in cc)
@@ -167,7 +182,8 @@ joins_stay limit s starts Stop i k sound may quiet l = refl
 
 -- a book with the same log
 module _ (b c : BookState) (i : ℕ) (constants : constants_of c ≡ constants_of b) (log : c.log ≡ b.log)
-    (tokens : (j : ℕ) → j ≢ i → item_or Spent c.tokens j ≡ item_or Spent b.tokens j) (traces : (j : ℕ) → j ≢ i → item_or [] c.traces j ≡ item_or [] b.traces j) where
+    (tokens : (j : ℕ) → j ≢ i → item_or Spent c.tokens j ≡ item_or Spent b.tokens j)
+    (traces : (j : ℕ) → j ≢ i → item_or [] c.traces j ≡ item_or [] b.traces j) where
   pub quiet_moves : LeavesOthers b c i
   quiet_moves = record {
     constants = constants;
@@ -185,8 +201,10 @@ module _ (b c : BookState) (i : ℕ) (constants : constants_of c ≡ constants_o
 
 -- ---- calls with an event
 
-module _ (b c : BookState) (i : ℕ) (e : Event) (now : ℕ) (constants : constants_of c ≡ constants_of b) (log : c.log ≡ with_events b.log now (e ∷ []))
-    (tokens : (j : ℕ) → j ≢ i → item_or Spent c.tokens j ≡ item_or Spent b.tokens j) (traces : (j : ℕ) → j ≢ i → item_or [] c.traces j ≡ item_or [] b.traces j)
+module _ (b c : BookState) (i : ℕ) (e : Event) (now : ℕ) (constants : constants_of c ≡ constants_of b)
+    (log : c.log ≡ with_events b.log now (e ∷ []))
+    (tokens : (j : ℕ) → j ≢ i → item_or Spent c.tokens j ≡ item_or Spent b.tokens j)
+    (traces : (j : ℕ) → j ≢ i → item_or [] c.traces j ≡ item_or [] b.traces j)
     (of : IsOf i e) (control : ControlRun c.limit (events_of c.log) (state_of c)) where
   abbrev entry : BookEntry
   entry = record { ticket = suc (max (last_ticket b.log) now); event = e }
@@ -213,19 +231,25 @@ module _ (b c : BookState) (i : ℕ) (e : Event) (now : ℕ) (constants : consta
     log = log;
     tokens = tokens;
     traces = traces;
-    stays = λ t ne h. subst (λ es. IsTokenOf es t) (sym events_are) (tokens_stay_until_their_ends c.limit (events_of b.log) e t last_event.run last_event.allows last_event.quiet (ends_none i e t.iteration of ne) h);
+    stays = λ t ne h. subst (λ es. IsTokenOf es t) (sym events_are)
+        (tokens_stay_until_their_ends c.limit (events_of b.log) e t last_event.run last_event.allows last_event.quiet
+        (ends_none i e t.iteration of ne) h);
     runs = λ j ne h. (
         let q : IsRunning (next_state (state_of b) e) j = subst (λ s. IsRunning s j) state_is h in
         record { frame = q.frame; is = frame_other c.limit (state_of b) e i j last_event.allows of ne q.frame q.is; runs = q.runs });
     ends = λ j k end ne q. (
-        let r : ticket_at (end_tickets j b.log ++ end_tickets j (entry ∷ [])) k ≡ Some end = subst (λ l. ticket_at l k ≡ Some end) (ap (end_tickets j) log ∙ end_tickets-append j b.log (entry ∷ [])) q in
+        let r : ticket_at (end_tickets j b.log ++ end_tickets j (entry ∷ [])) k ≡ Some end =
+        subst (λ l. ticket_at l k ≡ Some end) (ap (end_tickets j) log ∙ end_tickets-append j b.log (entry ∷ [])) q in
         let none : end_tickets j (entry ∷ []) ≡ [] = append-nil (end_ticket j e entry.ticket) ∙ no_end i e j entry.ticket of ne in
         subst (λ l. ticket_at l k ≡ Some end) (ap (λ l. end_tickets j b.log ++ l) none ∙ append-nil (end_tickets j b.log)) r);
-    starts = λ x h. subst (λ l. IsStarted l x) (sym starts_are) (number_stays (starts_of (events_of b.log)) (started_by (state_of b) e) x.iteration x.index h);
+    starts = λ x h. subst (λ l. IsStarted l x) (sym starts_are)
+        (number_stays (starts_of (events_of b.log)) (started_by (state_of b) e) x.iteration x.index h);
     marks = λ x h. ap₂ (λ cs l. instance_marks cs l x.iteration x.index) (ap own_columns state_is) starts_are
-        ∙ marks_stay c.limit (state_of b) (starts_of (events_of b.log)) e x.iteration x.index sound_before last_event.allows last_event.quiet (sound_before.ordered.inside x h).1;
+        ∙ marks_stay c.limit (state_of b) (starts_of (events_of b.log)) e x.iteration x.index sound_before last_event.allows
+        last_event.quiet (sound_before.ordered.inside x h).1;
     joins = λ x h. ap (λ s. left_joined (own_columns s) x.iteration x.index) state_is
-        ∙ joins_stay c.limit (state_of b) (starts_of (events_of b.log)) e x.iteration x.index sound_before last_event.allows last_event.quiet (sound_before.ordered.inside x h).1;
+        ∙ joins_stay c.limit (state_of b) (starts_of (events_of b.log)) e x.iteration x.index sound_before last_event.allows
+        last_event.quiet (sound_before.ordered.inside x h).1;
   }
 
 -- ---- tickets
@@ -237,7 +261,8 @@ among_place y (x ∷ xs) d (Later w m) = let h = among_place y xs d m in (suc h.
 
 -- no entry has a ticket above the last
 below : (log : List BookEntry) → HasRisingTickets log → (e : BookEntry) → Among e log → e.ticket ≤ last_ticket log
-below log h e m = let p = among_place e log e m in let l = below_last log h p.0 e p.1 in let z = ap (λ (x : BookEntry). x.ticket) p.2 in omega (arith, l, z)
+below log h e m = let p = among_place e log e m in let l = below_last log h p.0 e p.1 in let z = ap (λ (x : BookEntry). x.ticket) p.2 in
+    omega (arith, l, z)
 
 there : (xs : List ℕ) (n : ℕ) → n < length xs → (t : ℕ) × (ticket_at xs n ≡ Some t) × Among t xs
 there [] n l = absurd (omega (arith, l))
@@ -245,14 +270,17 @@ there (x ∷ xs) zero l = (x, refl, Here)
 there (x ∷ xs) (suc n) l = let h = there xs n (omega (arith, l)) in (h.0, h.1, Later x h.2)
 
 -- the counts of tickets
-started_count : (b : BookState) → ControlRun b.limit (events_of b.log) (state_of b) → (i : ℕ) (f : Frame) → frame_at (state_of b).frames i ≡ Some f → length (start_tickets i b.log) ≡ length f.nodes
+started_count : (b : BookState) → ControlRun b.limit (events_of b.log) (state_of b) → (i : ℕ) (f : Frame)
+    → frame_at (state_of b).frames i ≡ Some f → length (start_tickets i b.log) ≡ length f.nodes
 started_count b r i f is = start_tickets_counted i b.log ∙ ((control_counts r i).starts ∙ ap started_in is)
 
-pub ended_count : (b : BookState) → ControlRun b.limit (events_of b.log) (state_of b) → (i : ℕ) (f : Frame) → frame_at (state_of b).frames i ≡ Some f → length (end_tickets i b.log) ≡ ended_by_status f.status (length f.nodes)
+pub ended_count : (b : BookState) → ControlRun b.limit (events_of b.log) (state_of b) → (i : ℕ) (f : Frame)
+    → frame_at (state_of b).frames i ≡ Some f → length (end_tickets i b.log) ≡ ended_by_status f.status (length f.nodes)
 ended_count b r i f is = end_tickets_counted i b.log ∙ ((control_counts r i).ends ∙ ap ended_in is)
 
 -- an instance has started by the last ticket
-started_now : (b : BookState) (f : TokenFields) → ControlRun b.limit (events_of b.log) (state_of b) → HasRisingTickets b.log → IsTokenOf (events_of b.log) f → f.now ≡ last_ticket b.log → StartedBy b.log f.iteration f.index f.now
+started_now : (b : BookState) (f : TokenFields) → ControlRun b.limit (events_of b.log) (state_of b) → HasRisingTickets b.log
+    → IsTokenOf (events_of b.log) f → f.now ≡ last_ticket b.log → StartedBy b.log f.iteration f.index f.now
 started_now b f r rise t now =
     let n = started_count b r f.iteration t.running.frame t.running.is in
     let w = t.index in
@@ -263,7 +291,8 @@ started_now b f r rise t now =
     record { ticket = h.0; is = h.1; before = omega (arith, l, is, now) }
 
 -- the data of a new token
-new_run_is : (b : BookState) (f : TokenFields) → IsOutOf b f → length (replies_at b f.iteration) ≡ f.index → StartedBy b.log f.iteration f.index f.now → KnowsInstance b (new_instance b f)
+new_run_is : (b : BookState) (f : TokenFields) → IsOutOf b f → length (replies_at b f.iteration) ≡ f.index
+    → StartedBy b.log f.iteration f.index f.now → KnowsInstance b (new_instance b f)
 new_run_is b f out parts started = record {
   out = out;
   replies = refl;
@@ -295,16 +324,24 @@ timely_stays b c added i k log trace ends h =
     let same : made c.traces i k ≡ made b.traces i k = ap (map timed_access) trace in
     record {
       rise = rw same h.rise;
-      from_start = λ x m. (let q = h.from_start x (subst (λ l. Among x l) same m) in (q.0, subst (λ l. start_ticket_of l i k ≡ Some q.0) (sym log) (start_stays b.log added i k q.0 q.1), q.2));
+      from_start = λ x m. (let q = h.from_start x (subst (λ l. Among x l) same m) in
+          (q.0, subst (λ l. start_ticket_of l i k ≡ Some q.0) (sym log) (start_stays b.log added i k q.0 q.1), q.2));
       to_end = λ x end m e. h.to_end x end (subst (λ l. Among x l) same m) (ends end e);
     }
 
-started_stays : (b c : BookState) (added : List BookEntry) (i k now : ℕ) → c.log ≡ b.log ++ added → StartedBy b.log i k now → StartedBy c.log i k now
-started_stays b c added i k now log h = record { ticket = h.ticket; is = subst (λ l. start_ticket_of l i k ≡ Some h.ticket) (sym log) (start_stays b.log added i k h.ticket h.is); before = h.before }
+started_stays : (b c : BookState) (added : List BookEntry) (i k now : ℕ) → c.log ≡ b.log ++ added → StartedBy b.log i k now
+    → StartedBy c.log i k now
+started_stays b c added i k now log h = record {
+  ticket = h.ticket;
+  is = subst (λ l. start_ticket_of l i k ≡ Some h.ticket) (sym log)
+      (start_stays b.log added i k h.ticket h.is);
+  before = h.before;
+}
 
 -- the events of a log with more
 pub events_stamped : (log : List BookEntry) (now : ℕ) (es : List Event) → events_of (with_events log now es) ≡ events_of log ++ es
-events_stamped log now es = map-append (λ (b : BookEntry). b.event) log (stamped (max (last_ticket log) now) es) ∙ ap (λ l. events_of log ++ l) (all (max (last_ticket log) now) es)
+events_stamped log now es = map-append (λ (b : BookEntry). b.event) log (stamped (max (last_ticket log) now) es)
+    ∙ ap (λ l. events_of log ++ l) (all (max (last_ticket log) now) es)
   where
     all : (t : ℕ) (es : List Event) → events_of (stamped t es) ≡ es
     all t [] = refl
@@ -336,7 +373,8 @@ unchanged_call b =
 
 -- ---- the run was stopped
 
-pub stop_call : (b c : BookState) → c ≡ record b { log = with_events b.log 0 (Stop ∷ []) } → ControlRun c.limit (events_of c.log) (state_of c) → HasRisingTickets c.log → IsBookCall b None c None
+pub stop_call : (b c : BookState) → c ≡ record b { log = with_events b.log 0 (Stop ∷ []) }
+    → ControlRun c.limit (events_of c.log) (state_of c) → HasRisingTickets c.log → IsBookCall b None c None
 stop_call b c is control rise =
     let i = length b.tokens in
     let constants : constants_of c ≡ constants_of b = ap constants_of is in
@@ -344,8 +382,10 @@ stop_call b c is control rise =
     let toks : c.tokens ≡ b.tokens = ap (λ (x : BookState). x.tokens) is in
     let trs : c.traces ≡ b.traces = ap (λ (x : BookState). x.traces) is in
     let none : IsOut b i → ⊥ = λ o. (let q : Spent ≡ Out = sym (past b.tokens i Spent (omega arith)) ∙ o in cc) in
-    let moves = event_moves b c i Stop 0 constants log (λ j ne. ap (λ l. get_or l j Spent) toks) (λ j ne. ap (λ l. get_or l j []) trs) tt control in
-    let state = state_is b c i Stop 0 constants log (λ j ne. ap (λ l. get_or l j Spent) toks) (λ j ne. ap (λ l. get_or l j []) trs) tt control in
+    let moves = event_moves b c i Stop 0 constants log (λ j ne. ap (λ l. get_or l j Spent) toks)
+    (λ j ne. ap (λ l. get_or l j []) trs) tt control in
+    let state = state_is b c i Stop 0 constants log (λ j ne. ap (λ l. get_or l j Spent) toks)
+    (λ j ne. ap (λ l. get_or l j []) trs) tt control in
     let frames : length (state_of c).frames ≡ length (state_of b).frames = ap (λ (s : State). length s.frames) state in
     record {
       iteration = i;
@@ -356,8 +396,12 @@ stop_call b c is control rise =
         run = λ d e. absurd (let z : None ≡ Some d = e in cc);
         out = λ o. absurd (none (ap (λ l. get_or l i Spent) (sym toks) ∙ o));
         timely = λ k. timely_stays b c moves.added i k moves.log (ap (λ l. get_or (get_or l i []) k []) trs)
-            (λ end e. (let w = ticket_within (end_tickets i c.log) k end e in absurd (let n = none_ended h i (omega (arith, h.tokens)) in let m = ap (λ l. length (end_tickets i l)) log in let z = end_tickets-append i b.log (record { ticket = suc (max (last_ticket b.log) 0); event = Stop } ∷ []) in let y = ap length z in let v = length-append (end_tickets i b.log) [] in omega (arith, w, n, m, y, v)))) (h.timely i k);
-        kept = λ f e r. absurd (let q : Spent ≡ Kept f = sym (past b.tokens i Spent (omega arith)) ∙ (ap (λ l. get_or l i Spent) (sym toks) ∙ e) in cc);
+            (λ end e. (let w = ticket_within (end_tickets i c.log) k end e in
+            absurd (let n = none_ended h i (omega (arith, h.tokens)) in let m = ap (λ l. length (end_tickets i l)) log in
+            let z = end_tickets-append i b.log (record { ticket = suc (max (last_ticket b.log) 0); event = Stop } ∷ []) in
+            let y = ap length z in let v = length-append (end_tickets i b.log) [] in omega (arith, w, n, m, y, v)))) (h.timely i k);
+        kept = λ f e r. absurd (let q : Spent ≡ Kept f = sym (past b.tokens i Spent (omega arith))
+            ∙ (ap (λ l. get_or l i Spent) (sym toks) ∙ e) in cc);
         traces = λ n. ap (λ l. get_or (get_or l i []) n []) trs;
         control = control;
         rises = rise;
@@ -366,13 +410,17 @@ stop_call b c is control rise =
       };
     }
   where
-    none_ended : {seats : ℕ → Option InstanceData} → HasSeats b seats → (i : ℕ) → length (state_of b).frames ≤ i → length (end_tickets i b.log) ≡ 0
-    none_ended h i l = end_tickets_counted i b.log ∙ ((control_counts h.control i).ends ∙ ap ended_in (frame_at_past (state_of b).frames i l))
+    none_ended : {seats : ℕ → Option InstanceData} → HasSeats b seats → (i : ℕ) → length (state_of b).frames ≤ i
+        → length (end_tickets i b.log) ≡ 0
+    none_ended h i l = end_tickets_counted i b.log ∙ ((control_counts h.control i).ends ∙ ap ended_in
+        (frame_at_past (state_of b).frames i l))
 
 -- ---- an iteration has begun
 
-pub begin_call : (b c : BookState) (f : TokenFields) → c ≡ record b { log = with_events b.log 0 (Begin f.iteration ∷ []); traces = b.traces ++ [] ∷ []; tokens = b.tokens ++ Out ∷ [] }
-    → length b.tokens ≡ length (state_of b).frames → length b.traces ≡ length (state_of b).frames → ControlRun c.limit (events_of c.log) (state_of c) → HasRisingTickets c.log
+pub begin_call : (b c : BookState) (f : TokenFields)
+    → c ≡ record b { log = with_events b.log 0 (Begin f.iteration ∷ []); traces = b.traces ++ [] ∷ []; tokens = b.tokens ++ Out ∷ [] }
+    → length b.tokens ≡ length (state_of b).frames → length b.traces ≡ length (state_of b).frames
+    → ControlRun c.limit (events_of c.log) (state_of c) → HasRisingTickets c.log
     → IsOutOf c f → length (replies_at c f.iteration) ≡ f.index → f.now ≡ last_ticket c.log → IsBookCall b None c (Some (new_instance c f))
 begin_call b c f is lt lr control rise out parts now =
     let i = f.iteration in
@@ -388,7 +436,8 @@ begin_call b c f is lt lr control rise out parts now =
     let constants : constants_of c ≡ constants_of b = ap constants_of is in
     let moves = event_moves b c i (Begin i) 0 constants log tokens' traces' refl control in
     let state = state_is b c i (Begin i) 0 constants log tokens' traces' refl control in
-    let frames : length (state_of c).frames ≡ length (state_of b).frames + 1 = ap (λ (s : State). length s.frames) state ∙ length_push (state_of b).frames fresh_frame in
+    let frames : length (state_of c).frames ≡ length (state_of b).frames + 1 = ap (λ (s : State). length s.frames) state
+    ∙ length_push (state_of b).frames fresh_frame in
     let here_trace : item_or [] c.traces i ≡ [] = ap (λ l. get_or l i []) trs ∙ get_or_push b.traces [] [] i (sym ir) in
     let old_trace : item_or [] b.traces i ≡ [] = past b.traces i [] (omega (arith, ir)) in
     record {
@@ -397,7 +446,8 @@ begin_call b c f is lt lr control rise out parts now =
       own = λ d e. absurd (let z : None ≡ Some d = e in cc);
       free = λ seats h _ o. absurd (let q : Spent ≡ Out = sym (past b.tokens i Spent (omega (arith, it))) ∙ o in cc);
       here = λ seats h at. record {
-        run = λ d e. (let z : new_instance c f ≡ d = cc in subst (λ (x : InstanceData). (x.fields.iteration ≡ i) × KnowsInstance c x) z (refl, new_run_is c f out parts (started_now c f control rise out.token now)));
+        run = λ d e. (let z : new_instance c f ≡ d = cc in subst (λ (x : InstanceData). (x.fields.iteration ≡ i) × KnowsInstance c x) z
+            (refl, new_run_is c f out parts (started_now c f control rise out.token now)));
         out = λ o. (new_instance c f, refl);
         timely = λ k. no_trace c i k (ap (λ l. get_or l k []) here_trace);
         kept = λ g e r. absurd (let q : Out ≡ Kept g = sym out.out ∙ e in cc);
@@ -415,7 +465,8 @@ begin_call b c f is lt lr control rise out parts now =
 
 -- ---- an iteration has entered a stage, or goes on with an instance that was left ready
 
-module _ (b c : BookState) (f : TokenFields) (constants : constants_of c ≡ constants_of b) (toks : c.tokens ≡ set b.tokens f.iteration Out) (trs : c.traces ≡ b.traces)
+module _ (b c : BookState) (f : TokenFields) (constants : constants_of c ≡ constants_of b) (toks : c.tokens ≡ set b.tokens f.iteration Out)
+    (trs : c.traces ≡ b.traces)
     (out : IsOutOf c f) (parts : length (replies_at c f.iteration) ≡ f.index) where
   abbrev i : ℕ
   i = f.iteration
@@ -439,13 +490,15 @@ module _ (b c : BookState) (f : TokenFields) (constants : constants_of c ≡ con
   kept_none : (g : TokenFields) → item_or Spent c.tokens i ≡ Kept g → ⊥
   kept_none g e = let q : Out ≡ Kept g = sym out.out ∙ e in cc
 
-  pub enter_call : (now : ℕ) → c.log ≡ with_events b.log now (Enter i ∷ []) → ControlRun c.limit (events_of c.log) (state_of c) → HasRisingTickets c.log → f.now ≡ last_ticket c.log
+  pub enter_call : (now : ℕ) → c.log ≡ with_events b.log now (Enter i ∷ []) → ControlRun c.limit (events_of c.log) (state_of c)
+      → HasRisingTickets c.log → f.now ≡ last_ticket c.log
       → IsBookCall b None c (Some (new_instance c f))
   enter_call now log control rise is_now =
       let may = (last_of control (events_of b.log) (Enter i) (ap events_of log ∙ events_of_with b.log now (Enter i))).allows in
       let moves = event_moves b c i (Enter i) now constants log tokens_other traces_other refl control in
       let state = state_is b c i (Enter i) now constants log tokens_other traces_other refl control in
-      let frames : length (state_of c).frames ≡ length (state_of b).frames = ap (λ (s : State). length s.frames) state ∙ length-update_frame (state_of b).frames i _ in
+      let frames : length (state_of c).frames ≡ length (state_of b).frames = ap (λ (s : State). length s.frames) state
+      ∙ length-update_frame (state_of b).frames i _ in
       record {
         iteration = i;
         moves = moves;
@@ -454,16 +507,20 @@ module _ (b c : BookState) (f : TokenFields) (constants : constants_of c ≡ con
             let d = h.out i o in
             let r = (h.run i d.0 d.1).1.out.token.running in
             let at = (h.run i d.0 d.1).0 in
-            let there' : frame_at (state_of b).frames i ≡ Some r.frame = subst (λ n. frame_at (state_of b).frames n ≡ Some r.frame) at r.is in
+            let there' : frame_at (state_of b).frames i ≡ Some r.frame = subst (λ n. frame_at (state_of b).frames n ≡ Some r.frame) at r.is
+            in
             let same : Some r.frame ≡ Some may.frame = sym there' ∙ may.is in
             let z : r.frame ≡ may.frame = cc in
             let q : Running ≡ Pending may.kind may.number = sym r.runs ∙ (ap (λ (x : Frame). x.status) z ∙ may.named) in
             absurd (cc));
         here = λ seats h at. record {
-          run = λ d e. (let z : new_instance c f ≡ d = cc in subst (λ (x : InstanceData). (x.fields.iteration ≡ i) × KnowsInstance c x) z (refl, new_run_is c f out parts (started_now c f control rise out.token is_now)));
+          run = λ d e. (let z : new_instance c f ≡ d = cc in subst (λ (x : InstanceData). (x.fields.iteration ≡ i) × KnowsInstance c x) z
+              (refl, new_run_is c f out parts (started_now c f control rise out.token is_now)));
           out = λ o. (new_instance c f, refl);
           timely = λ k. timely_stays b c moves.added i k moves.log (ap (λ ts. get_or (get_or ts i []) k []) trs)
-              (λ end e. (let q : ticket_at (end_tickets i b.log ++ []) k ≡ Some end = subst (λ l. ticket_at l k ≡ Some end) (ap (end_tickets i) log ∙ end_tickets-append i b.log _) e in subst (λ l. ticket_at l k ≡ Some end) (append-nil (end_tickets i b.log)) q)) (h.timely i k);
+              (λ end e. (let q : ticket_at (end_tickets i b.log ++ []) k ≡ Some end = subst (λ l. ticket_at l k ≡ Some end)
+              (ap (end_tickets i) log ∙ end_tickets-append i b.log _) e in subst (λ l. ticket_at l k ≡ Some end)
+              (append-nil (end_tickets i b.log)) q)) (h.timely i k);
           kept = λ g e r. absurd (kept_none g e);
           traces = trace_is;
           control = control;
@@ -473,7 +530,8 @@ module _ (b c : BookState) (f : TokenFields) (constants : constants_of c ≡ con
         };
       }
 
-  pub enter_iteration : (now : ℕ) (l : c.log ≡ with_events b.log now (Enter i ∷ [])) (r : ControlRun c.limit (events_of c.log) (state_of c)) (h : HasRisingTickets c.log) (n : f.now ≡ last_ticket c.log)
+  pub enter_iteration : (now : ℕ) (l : c.log ≡ with_events b.log now (Enter i ∷ []))
+      (r : ControlRun c.limit (events_of c.log) (state_of c)) (h : HasRisingTickets c.log) (n : f.now ≡ last_ticket c.log)
       → (enter_call now l r h n).iteration ≡ i
   unfolding enter_call
   enter_iteration now l r h n = refl
@@ -490,12 +548,15 @@ module _ (b c : BookState) (f : TokenFields) (constants : constants_of c ≡ con
         let state : state_of c ≡ state_of b = ap (λ l. state_after (events_of l)) log in
         let frames = ap (λ (s : State). length s.frames) state in
         record {
-          run = λ d e. (let z : new_instance c f ≡ d = cc in subst (λ (x : InstanceData). (x.fields.iteration ≡ i) × KnowsInstance c x) z (refl, new_run_is c f out parts (subst (λ l. StartedBy l i f.index f.now) (sym log) (h.kept i f kept runs))));
+          run = λ d e. (let z : new_instance c f ≡ d = cc in subst (λ (x : InstanceData). (x.fields.iteration ≡ i) × KnowsInstance c x) z
+              (refl, new_run_is c f out parts (subst (λ l. StartedBy l i f.index f.now) (sym log) (h.kept i f kept runs))));
           out = λ o. (new_instance c f, refl);
-          timely = λ k. timely_stays b c [] i k (log ∙ sym (append-nil b.log)) (ap (λ ts. get_or (get_or ts i []) k []) trs) (λ end e. subst (λ l. end_ticket_of l i k ≡ Some end) log e) (h.timely i k);
+          timely = λ k. timely_stays b c [] i k (log ∙ sym (append-nil b.log)) (ap (λ ts. get_or (get_or ts i []) k []) trs)
+              (λ end e. subst (λ l. end_ticket_of l i k ≡ Some end) log e) (h.timely i k);
           kept = λ g e r. absurd (kept_none g e);
           traces = trace_is;
-          control = subst (λ l. ControlRun c.limit (events_of l) (state_after (events_of l))) (sym log) (subst (λ k. ControlRun k (events_of b.log) (state_of b)) (sym limit) h.control);
+          control = subst (λ l. ControlRun c.limit (events_of l) (state_after (events_of l))) (sym log)
+              (subst (λ k. ControlRun k (events_of b.log) (state_of b)) (sym limit) h.control);
           rises = subst HasRisingTickets (sym log) h.rises;
           tokens = (let w = ap length toks ∙ length-set b.tokens i Out in let z = h.tokens in omega (arith, w, z, frames));
           counts = (let w = ap length trs in let z = h.traces in omega (arith, w, z, frames));
@@ -528,14 +589,16 @@ abbrev pub stop_events : Bool → List Event
 stop_events t = cond t [] (Stop ∷ [])
 
 -- a call of `stop`
-pub halted_call : (b c : BookState) → c ≡ after_stop b → ControlRun c.limit (events_of c.log) (state_of c) → HasRisingTickets c.log → IsBookCall b None c None
+pub halted_call : (b c : BookState) → c ≡ after_stop b → ControlRun c.limit (events_of c.log) (state_of c) → HasRisingTickets c.log
+    → IsBookCall b None c None
 halted_call b c e control rise = by (state_of b).stopped e
   where
     by : (t : Bool) → c ≡ record b { log = with_events b.log 0 (cond t [] (Stop ∷ [])) } → IsBookCall b None c None
     by true q = subst (λ x. IsBookCall b None x None) (sym (q ∙ ap (λ l. record b { log = l }) (append-nil b.log))) (unchanged_call b)
     by false q = stop_call b c q control rise
 
-pub halted_seen : (b c : BookState) (seen : List Event) → c ≡ after_stop b → BeginsWith (events_of b.log) seen → BeginsWith (events_of c.log) seen
+pub halted_seen : (b c : BookState) (seen : List Event) → c ≡ after_stop b → BeginsWith (events_of b.log) seen
+    → BeginsWith (events_of c.log) seen
 halted_seen b c seen e h =
     let es = stop_events (state_of b).stopped in
     let q : events_of c.log ≡ events_of b.log ++ es = ap (λ (x : BookState). events_of x.log) e ∙ events_stamped b.log 0 es in
@@ -544,6 +607,9 @@ halted_seen b c seen e h =
 pub halted_stops : (b c : BookState) → c ≡ after_stop b → (state_of c).stopped ≡ true
 halted_stops b c e = by (state_of b).stopped refl e
   where
-    by : (t : Bool) → (state_of b).stopped ≡ t → c ≡ record b { log = with_events b.log 0 (cond t [] (Stop ∷ [])) } → (state_of c).stopped ≡ true
+    by : (t : Bool) → (state_of b).stopped ≡ t → c ≡ record b { log = with_events b.log 0 (cond t [] (Stop ∷ [])) }
+        → (state_of c).stopped ≡ true
     by true is q = ap (λ (x : BookState). (state_of x).stopped) q ∙ (ap (λ l. (state_after (events_of l)).stopped) (append-nil b.log) ∙ is)
-    by false is q = ap (λ (x : BookState). (state_of x).stopped) q ∙ (ap (λ l. (state_after l).stopped) (events_of_with b.log 0 Stop) ∙ ap (λ (x : State). x.stopped) (state_after-push (events_of b.log) Stop))
+    by false is q = ap (λ (x : BookState). (state_of x).stopped) q
+        ∙ (ap (λ l. (state_after l).stopped) (events_of_with b.log 0 Stop) ∙ ap (λ (x : State). x.stopped)
+        (state_after-push (events_of b.log) Stop))

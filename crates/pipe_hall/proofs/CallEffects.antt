@@ -1,5 +1,6 @@
 -- A call on the book keeps what is known of the book, of the seats and of the shards.
-use Rattle.std.proofs.Common.{◌≡◌, ◌≢◌, ℕ, zero, suc, ◌+◌, ◌*◌, ◌≤◌, ◌==◌, List, [], ◌∷◌, ◌++◌, map, length, get_or, refl, sym, ap, ◌∙◌, subst, arith, cond, Option, Some, None, IfSome}
+use Rattle.std.proofs.Common.{◌≡◌, ◌≢◌, ℕ, zero, suc, ◌+◌, ◌*◌, ◌≤◌, ◌==◌, List, [], ◌∷◌, ◌++◌, map, length, get_or, refl, sym, ap, ◌∙◌}
+use Rattle.std.proofs.Common.{subst, arith, cond, Option, Some, None, IfSome}
 use Rattle.std.proofs.lemmas.List.{length-append}
 use mathlib.Core.Logic.{dite}
 use native.Mathlib.Decide.{ℕ_discrete}
@@ -38,7 +39,8 @@ ticket_stays (x ∷ xs) ys zero t e = e
 ticket_stays (x ∷ xs) ys (suc n) t e = ticket_stays xs ys n t e
 
 pub start_stays : (log added : List BookEntry) (i k t : ℕ) → start_ticket_of log i k ≡ Some t → start_ticket_of (log ++ added) i k ≡ Some t
-start_stays log added i k t e = subst (λ l. ticket_at l k ≡ Some t) (sym (start_tickets-append i log added)) (ticket_stays (start_tickets i log) (start_tickets i added) k t e)
+start_stays log added i k t e = subst (λ l. ticket_at l k ≡ Some t) (sym (start_tickets-append i log added))
+    (ticket_stays (start_tickets i log) (start_tickets i added) k t e)
 
 pub started_stays : (log added : List BookEntry) (i k now : ℕ) → StartedBy log i k now → StartedBy (log ++ added) i k now
 started_stays log added i k now h = record { ticket = h.ticket; is = start_stays log added i k h.ticket h.is; before = h.before }
@@ -52,20 +54,25 @@ all_kept P Q h f a = record { writer = by h.writer a.writer; rightmost = by h.ri
     by None p = tt
     by (Some w) p = f w p
 
-module _ (marks marks' : NodeId → Marks) (joined joined' : NodeId → ℕ) (log : List ShardEntry) (same : (e : ShardEntry) → Among e log → marks' e.node ≡ marks e.node)
+module _ (marks marks' : NodeId → Marks) (joined joined' : NodeId → ℕ) (log : List ShardEntry)
+    (same : (e : ShardEntry) → Among e log → marks' e.node ≡ marks e.node)
     (joins : (e : ShardEntry) → Among e log → joined' e.node ≡ joined e.node) where
   who_same : (e : ShardEntry) → Among e log → who_of marks' e ≡ who_of marks e
   who_same e m = ap (λ (k : Marks). let w : Who = record { node = e.node; marks = k } in w) (same e m)
 
-  cell_history_same : (lists : SeenLists) (c : ℕ) (h : History) → IsCellHistory marks joined lists log c h → IsCellHistory marks' joined' lists log c h
+  cell_history_same : (lists : SeenLists) (c : ℕ) (h : History) → IsCellHistory marks joined lists log c h
+      → IsCellHistory marks' joined' lists log c h
   cell_history_same lists c h q = record {
     kept = all_kept (IsOfLog marks log) (IsOfLog marks' log) h (λ w p. (p.0, p.1, p.2 ∙ sym (who_same p.0 p.1))) q.kept;
     after = λ down right agree known. q.after down right
-        (λ e f a b. subst (λ (x : Who). AgreeOn (down_list lists) (right_list lists) down right x (who_of marks f)) (who_same e a) (subst (λ (y : Who). AgreeOn (down_list lists) (right_list lists) down right (who_of marks' e) y) (who_same f b) (agree e f a b)))
+        (λ e f a b. subst (λ (x : Who). AgreeOn (down_list lists) (right_list lists) down right x (who_of marks f)) (who_same e a)
+        (subst (λ (y : Who). AgreeOn (down_list lists) (right_list lists) down right (who_of marks' e) y) (who_same f b)
+        (agree e f a b)))
         (λ e f a b. subst (λ n. AgreeOnKnown (Some n) down right e.node f.node) (joins e a) (known e f a b));
   }
 
-  pub shard_same : (before : List Access) (store : InitialStore) (k : ℕ) (x : ShardValue) → x.log ≡ log → IsShardOf before store marks joined k x → IsShardOf before store marks' joined' k x
+  pub shard_same : (before : List Access) (store : InitialStore) (k : ℕ) (x : ShardValue) → x.log ≡ log
+      → IsShardOf before store marks joined k x → IsShardOf before store marks' joined' k x
   shard_same before store k x is h = record {
     number = h.number;
     part = h.part;
@@ -77,20 +84,24 @@ module _ (marks marks' : NodeId → Marks) (joined joined' : NodeId → ℕ) (lo
     last = h.last;
     most = h.most;
     bound = h.bound;
-    seen = λ e m. subst (λ (z : Marks). AreIn (down_list x.lists) (right_list x.lists) z) (sym (same e (subst (λ l. Among e l) is m))) (h.seen e m);
+    seen = λ e m. subst (λ (z : Marks). AreIn (down_list x.lists) (right_list x.lists) z) (sym (same e (subst (λ l. Among e l) is m)))
+        (h.seen e m);
     room = h.room;
     histories = λ slot. subst (λ l. IsCellHistory marks' joined' x.lists l (k + 16 * slot) (history_at x.histories slot)) (sym is)
-        (cell_history_same x.lists (k + 16 * slot) (history_at x.histories slot) (subst (λ l. IsCellHistory marks joined x.lists l (k + 16 * slot) (history_at x.histories slot)) is (h.histories slot)));
+        (cell_history_same x.lists (k + 16 * slot) (history_at x.histories slot)
+        (subst (λ l. IsCellHistory marks joined x.lists l (k + 16 * slot) (history_at x.histories slot)) is (h.histories slot)));
   }
 
 -- ---- a call
 
 -- the trace at equal traces of the book
-trace_same : (b c : BookState) (o : Option InstanceData) (i n : ℕ) → item_or [] c.traces i ≡ item_or [] b.traces i → trace_by c o i n ≡ trace_by b o i n
+trace_same : (b c : BookState) (o : Option InstanceData) (i n : ℕ) → item_or [] c.traces i ≡ item_or [] b.traces i
+    → trace_by c o i n ≡ trace_by b o i n
 trace_same b c None i n e = ap (λ ts. get_or ts n []) e
 trace_same b c (Some d) i n e = ap (λ ts. cond (d.fields.index == n) d.entries (get_or ts n [])) e
 
-module _ (b c : BookState) (back given : Option InstanceData) (seats : ℕ → Option InstanceData) (t : IsBookCall b back c given) (h : HasSeats b seats) (at : seats t.iteration ≡ back) where
+module _ (b c : BookState) (back given : Option InstanceData) (seats : ℕ → Option InstanceData) (t : IsBookCall b back c given)
+    (h : HasSeats b seats) (at : seats t.iteration ≡ back) where
   abbrev i : ℕ
   i = t.iteration
 
@@ -111,7 +122,12 @@ module _ (b c : BookState) (back given : Option InstanceData) (seats : ℕ → O
 
   run_later : (d : InstanceData) → d.fields.iteration ≢ i → KnowsInstance b d → KnowsInstance c d
   run_later d ne q = record {
-    out = record { out = t.moves.tokens d.fields.iteration ne ∙ q.out.out; token = t.moves.stays d.fields ne q.out.token; now = (let a = q.out.now in let l = longer in omega (arith, a, l)) };
+    out = record {
+      out = t.moves.tokens d.fields.iteration ne ∙ q.out.out;
+      token = t.moves.stays d.fields ne q.out.token;
+      now =
+          (let a = q.out.now in let l = longer in omega (arith, a, l));
+    };
     replies = q.replies ∙ ap (λ ts. map replies_of ts) (sym (t.moves.traces d.fields.iteration ne));
     parts = q.parts;
     started = started_later d.fields.iteration d.fields.index d.fields.now q.started;
@@ -141,20 +157,25 @@ module _ (b c : BookState) (back given : Option InstanceData) (seats : ℕ → O
     out = λ k o. dite (ℕ_discrete k i)
         (λ s. (let q = here.out (subst (λ n. IsOut c n) s o) in (q.0, ap seats' s ∙ (with_here seats i given ∙ q.1))))
         (λ ne. (let q = h.out k (sym (t.moves.tokens k ne) ∙ o) in (q.0, with_else seats i given k ne ∙ q.1)));
-    timely = λ k n. dite (ℕ_discrete k i) (λ s. subst (λ j. IsTimelyTrace c j n) (sym s) (here.timely n)) (λ ne. timely_later k n ne (h.timely k n));
+    timely = λ k n. dite (ℕ_discrete k i) (λ s. subst (λ j. IsTimelyTrace c j n) (sym s) (here.timely n))
+        (λ ne. timely_later k n ne (h.timely k n));
     kept = λ k. dite (ℕ_discrete k i) (λ s. subst (λ j. IsTimelyToken c j) (sym s) here.kept)
         (λ ne f e r. started_later k f.index f.now (h.kept k f (sym (t.moves.tokens k ne) ∙ e) (t.moves.runs k ne r)));
   }
 
   pub shard_after_call : (before : List Access) (k : ℕ) (x : ShardValue) → HasShard before b seats k x → HasShard before c seats' k x
   shard_after_call before k x q = record {
-    shard = subst (λ (a : HallConstants). IsShardOf before (store_of (tree_of a.program)) (marks_in c) (joined_in c) k x) (sym t.moves.constants)
-        (shard_same (marks_in b) (marks_in c) (joined_in b) (joined_in c) x.log (λ e m. t.moves.marks e.node (q.started e m)) (λ e m. t.moves.joins e.node (q.started e m)) before (store_of (tree_of b.program)) k x refl q.shard);
-    identities = subst (λ (a : HallConstants). (x.lists.down ≡ a.lists.down) × (x.lists.right ≡ a.lists.right)) (sym t.moves.constants) q.identities;
+    shard = subst (λ (a : HallConstants). IsShardOf before (store_of (tree_of a.program)) (marks_in c) (joined_in c) k x)
+        (sym t.moves.constants)
+        (shard_same (marks_in b) (marks_in c) (joined_in b) (joined_in c) x.log (λ e m. t.moves.marks e.node (q.started e m))
+        (λ e m. t.moves.joins e.node (q.started e m)) before (store_of (tree_of b.program)) k x refl q.shard);
+    identities = subst (λ (a : HallConstants). (x.lists.down ≡ a.lists.down) × (x.lists.right ≡ a.lists.right))
+        (sym t.moves.constants) q.identities;
     named = q.named;
     traces = λ j n. q.traces j n ∙ ap (of_shard k) (dite (ℕ_discrete j i)
         (λ s. (
-        let new : trace_by c (seats' j) j n ≡ trace_by c given i n = ap (λ m. trace_by c (seats' m) m n) s ∙ ap (λ o. trace_by c o i n) (with_here seats i given) in
+        let new : trace_by c (seats' j) j n ≡ trace_by c given i n = ap (λ m. trace_by c (seats' m) m n) s
+        ∙ ap (λ o. trace_by c o i n) (with_here seats i given) in
         let old : trace_by b (seats j) j n ≡ trace_by b back i n = ap (λ m. trace_by b (seats m) m n) s ∙ ap (λ o. trace_by b o i n) at in
         old ∙ (sym (here.traces n) ∙ sym new)))
         (λ ne. sym (ap (λ o. trace_by c o j n) (with_else seats i given j ne) ∙ trace_same b c (seats j) j n (t.moves.traces j ne))));

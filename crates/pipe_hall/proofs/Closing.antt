@@ -1,7 +1,8 @@
 -- Taking everything.
 use mathlib.Core.Logic.{dite}
 use native.Mathlib.Decide.{ℕ_discrete}
-use Rattle.std.proofs.Common.{◌≡◌, ℕ, zero, suc, ◌+◌, ◌<◌, ◌≤◌, ◌^◌, List, [], ◌∷◌, ◌++◌, length, set, length-set, get_or-set_same, refl, sym, ap, ◌∙◌, subst, arith, Option, ◌↔◌}
+use Rattle.std.proofs.Common.{◌≡◌, ℕ, zero, suc, ◌+◌, ◌<◌, ◌≤◌, ◌^◌, List, [], ◌∷◌, ◌++◌, length, set, length-set, get_or-set_same, refl}
+use Rattle.std.proofs.Common.{sym, ap, ◌∙◌, subst, arith, Option, ◌↔◌}
 use Rattle.std.proofs.lemmas.List.{length-append}
 use Rattle.pipe_model.specs.Races.DeterminacyRaces.{Among, Here, Later}
 use Rattle.frame_book.specs.BookStates.{BookState, events_of}
@@ -46,7 +47,8 @@ first_none v w b e = record {
   each = λ j l. absurd (omega (arith, l));
 }
 
-pub first_more : (start v w : SeatView) (b : BookState) (xs : List ShardValue) (k : ℕ) (x : ShardValue) → w ≡ holding v (1 + k) (TheShard x) → HoldsFirst start b xs k v → HoldsFirst start b (xs ++ x ∷ []) (k + 1) w
+pub first_more : (start v w : SeatView) (b : BookState) (xs : List ShardValue) (k : ℕ) (x : ShardValue)
+    → w ≡ holding v (1 + k) (TheShard x) → HoldsFirst start b xs k v → HoldsFirst start b (xs ++ x ∷ []) (k + 1) w
 first_more start v w b xs k x e h = subst (HoldsFirst start b (xs ++ x ∷ []) (k + 1)) (sym e) (record {
   len = (let n = length-append xs (x ∷ []) in let l = h.len in omega (arith, n, l));
   seen = h.seen;
@@ -54,9 +56,11 @@ first_more start v w b xs k x e h = subst (HoldsFirst start b (xs ++ x ∷ []) (
   each = λ j l. dite (ℕ_discrete j k)
       (λ s. (let q : shard_in (xs ++ x ∷ []) j ≡ x = ap (shard_in (xs ++ x ∷ [])) (s ∙ sym h.len) ∙ at_end_is xs x in
       let n : suc j ≡ 1 + k = (omega (arith, s)) in
-      subst (λ (y : ShardValue). Among (suc j, TheShard y) ((1 + k, TheShard x) ∷ v.held)) (sym q) (subst (λ m. Among (m, TheShard x) ((1 + k, TheShard x) ∷ v.held)) (sym n) Here)))
+      subst (λ (y : ShardValue). Among (suc j, TheShard y) ((1 + k, TheShard x) ∷ v.held)) (sym q)
+      (subst (λ m. Among (m, TheShard x) ((1 + k, TheShard x) ∷ v.held)) (sym n) Here)))
       (λ ne. (let n = h.len in let below : j < length xs = omega (arith, l, ne, n) in let small : j < k = omega (arith, l, ne) in
-      subst (λ (y : ShardValue). Among (suc j, TheShard y) ((1 + k, TheShard x) ∷ v.held)) (sym (at_more xs x j below)) (Later _ (h.each j small))));
+      subst (λ (y : ShardValue). Among (suc j, TheShard y) ((1 + k, TheShard x) ∷ v.held)) (sym (at_more xs x j below))
+      (Later _ (h.each j small))));
 })
 
 pub holds_all : (start v : SeatView) (b : BookState) (xs : List ShardValue) → HoldsFirst start b xs 16 v → HoldsAll v.held b (shard_in xs)
@@ -64,18 +68,22 @@ holds_all start v b xs h = record { book = h.book; shards = h.each }
 
 -- ---- histories
 
-pub histories_at_end : (before : List Access) (b : BookState) (seats : ℕ → Option InstanceData) (k : ℕ) (x : ShardValue) → HasSeats b seats → HasShard before b seats k x → HasSeenAll b x.lists → HasHistories b k x
+pub histories_at_end : (before : List Access) (b : BookState) (seats : ℕ → Option InstanceData) (k : ℕ) (x : ShardValue) → HasSeats b seats
+    → HasShard before b seats k x → HasSeenAll b x.lists → HasHistories b k x
 histories_at_end before b seats k x s h all slot =
     let starts = starts_of (events_of b.log) in
     let columns = columns_after (events_of b.log) in
     (h.shard.histories slot).after (down_place starts) (right_place columns starts) (λ e f me mf. record {
-      in_down = subst (λ l. StandsBefore (list_of_log l) (marks_in b f.node).down_first (marks_in b e.node).down_first ↔ (down_place starts f.node < down_place starts e.node)) (sym all.0) ((λ p. p), (λ p. p));
-      in_right = subst (λ l. StandsBefore (list_of_log l) (marks_in b f.node).right_first (marks_in b e.node).right_first ↔ (right_place columns starts f.node < right_place columns starts e.node)) (sym all.1) ((λ p. p), (λ p. p));
+      in_down = subst (λ l. StandsBefore (list_of_log l) (marks_in b f.node).down_first (marks_in b e.node).down_first ↔
+          (down_place starts f.node < down_place starts e.node)) (sym all.0) ((λ p. p), (λ p. p));
+      in_right = subst (λ l. StandsBefore (list_of_log l) (marks_in b f.node).right_first (marks_in b e.node).right_first ↔
+          (right_place columns starts f.node < right_place columns starts e.node)) (sym all.1) ((λ p. p), (λ p. p));
     }) (λ e f me mf. known_before b s.control e.node f.node (h.started e me) (h.started f mf))
 
 -- ---- learning
 
-pub learned_shard : (before : List Access) (b : BookState) (seats : ℕ → Option InstanceData) (k : ℕ) (x y : ShardValue) → HasLearned b x y → HasShard before b seats k x → HasShard before b seats k y
+pub learned_shard : (before : List Access) (b : BookState) (seats : ℕ → Option InstanceData) (k : ℕ) (x y : ShardValue) → HasLearned b x y
+    → HasShard before b seats k x → HasShard before b seats k y
 learned_shard before b seats k x y l h = subst (HasShard before b seats k) (sym l.is) (record {
   shard = shard_met before (store_of (tree_of b.program)) (marks_in b) (joined_in b) k x l.lists l.grown h.shard;
   identities = (l.grown.identities.0 ∙ h.identities.0, l.grown.identities.1 ∙ h.identities.1);
@@ -93,7 +101,8 @@ pub record LearnedFirst (b : BookState) (xs ys : List ShardValue) (k : ℕ) : Ty
 pub learned_none : (b : BookState) (xs : List ShardValue) → length xs ≡ 16 → LearnedFirst b xs xs 0
 learned_none b xs len = record { len = len; learned = λ j l. absurd (omega (arith, l)); rest = λ j l. refl }
 
-pub learned_more : (b : BookState) (xs ys : List ShardValue) (k : ℕ) (y : ShardValue) → k < 16 → HasLearned b (shard_in ys k) y → LearnedFirst b xs ys k
+pub learned_more : (b : BookState) (xs ys : List ShardValue) (k : ℕ) (y : ShardValue) → k < 16 → HasLearned b (shard_in ys k) y
+    → LearnedFirst b xs ys k
     → LearnedFirst b xs (set ys k y) (k + 1)
 learned_more b xs ys k y small l h =
     let here : shard_in (set ys k y) k ≡ y = get_or-set_same ys k y no_shard (let n = h.len in omega (arith, n, small)) in
@@ -125,5 +134,6 @@ module _ (start : HallStart) (seen : List Event) (b : BookState) (shard new : �
   }
 
 -- the tickets of a closed hall's shards are bounded
-pub shards_bounded : (start : HallStart) (seen : List Event) (b : BookState) (shard : ℕ → ShardValue) → EndedHall start seen b shard → (k : ℕ) → k < 16 → (shard k).last ≤ 2 ^ 62
+pub shards_bounded : (start : HallStart) (seen : List Event) (b : BookState) (shard : ℕ → ShardValue) → EndedHall start seen b shard
+    → (k : ℕ) → k < 16 → (shard k).last ≤ 2 ^ 62
 shards_bounded start seen b shard h k l = (h.closed.has_shards k l).shard.bound

@@ -12,7 +12,8 @@ run_state EmptyControlRun = refl
 run_state {limit} (ControlRunThen {events = es} {c = d} r e n g h) = ap (λ s. next_state s e) (run_state r) ∙ sym (state_after-push es e)
 
 -- a beginning of a list with one more item is the whole, or one of the list without it
-beginning : {A : Type 0} (xs : List A) (x : A) (ys zs : List A) → xs ++ x ∷ [] ≡ ys ++ zs → (ys ≡ xs ++ x ∷ []) ⊎ ((ws : List A) × (xs ≡ ys ++ ws))
+beginning : {A : Type 0} (xs : List A) (x : A) (ys zs : List A) → xs ++ x ∷ [] ≡ ys ++ zs → (ys ≡ xs ++ x ∷ []) ⊎
+    ((ws : List A) × (xs ≡ ys ++ ws))
 beginning xs x [] zs e = inr (xs, refl)
 beginning [] x (y ∷ []) zs e = inl (let a : x ≡ y = cc in ap (λ t. t ∷ []) (sym a))
 beginning [] x (y ∷ (z ∷ ys)) zs e = absurd (let a : [] ≡ (z ∷ ys) ++ zs = cc in cc)

@@ -49,18 +49,23 @@ witness T = view_send (WitnessFields.the_row T) _ _ _ _ (declared_send (WitnessF
 slot : (M : RattleType) (g : Stands.Ghosts M.Denot) → IsSend M → IsSend (Slot.the_row M g)
 slot M g s = variants_send (Slot.enum M g) (search (kept.the_send, book, writers.the_send, shards.the_send, witness, sendable) depth 20)
 
-module _ (M : RattleType) (c : Carrier.Ghosts M.Denot) (p : Payload.Ghosts M.Denot OmWriter) (g : Stands.Ghosts M.Denot) (s : IsSend M) where
+module _ (M : RattleType) (c : Carrier.Ghosts M.Denot) (p : Payload.Ghosts M.Denot OmWriter) (g : Stands.Ghosts M.Denot)
+    (s : IsSend M) where
   locks_send : IsSend (Locks.the_row M c p g)
-  locks_send = let in_slots = slot M g s in declared_send (Locks.the_type M c p g) (search (tables.the_send, std.crosses, sendable) depth 20)
+  locks_send = let in_slots = slot M g s in declared_send (Locks.the_type M c p g)
+      (search (tables.the_send, std.crosses, sendable) depth 20)
 
   locks_sync : IsSync (Locks.the_row M c p g)
-  locks_sync = let in_slots = slot M g s in declared_sync (Locks.the_type M c p g) (search (tables.the_sync, std.crosses, sendable) depth 20)
+  locks_sync = let in_slots = slot M g s in declared_sync (Locks.the_type M c p g)
+      (search (tables.the_sync, std.crosses, sendable) depth 20)
 
   pub hall_send : IsSend (HallOf.the_row M c p g)
-  hall_send = view_send (HallFields.the_row M c p g) _ _ _ _ (declared_send (HallFields.the_type M c p g) (search (locks_send, sendable) depth 20))
+  hall_send = view_send (HallFields.the_row M c p g) _ _ _ _
+      (declared_send (HallFields.the_type M c p g) (search (locks_send, sendable) depth 20))
 
   pub hall_sync : IsSync (HallOf.the_row M c p g)
-  hall_sync = view_sync (HallFields.the_row M c p g) _ _ _ _ (declared_sync (HallFields.the_type M c p g) (search (locks_sync, sendable) depth 20))
+  hall_sync = view_sync (HallFields.the_row M c p g) _ _ _ _
+      (declared_sync (HallFields.the_type M c p g) (search (locks_sync, sendable) depth 20))
 
   pub key_send : IsSend (HallKey.the_row M c g)
   key_send =
@@ -70,6 +75,7 @@ module _ (M : RattleType) (c : Carrier.Ghosts M.Denot) (p : Payload.Ghosts M.Den
   pub seat_send : (a : NamedLft) → IsSend (HallSeat.the_row a M c p g)
   seat_send a =
       let in_slots = slot M g s in
-      view_send (SeatFields.the_row a M c p g) _ _ _ _ (declared_send (SeatFields.the_type a M c p g) (search (hall_sync, seats.the_send, sendable) depth 20))
+      view_send (SeatFields.the_row a M c p g) _ _ _ _ (declared_send (SeatFields.the_type a M c p g)
+      (search (hall_sync, seats.the_send, sendable) depth 20))
 
 pub ruleset crosses = (hall_send, hall_sync, key_send, seat_send)

@@ -27,7 +27,8 @@ above_it columns i j l less = record { column = omega arith; place = λ e. less;
 -- in the column to the left, at an index of at most the joined one
 left_of_it : (columns : List (List Node)) (i j l : ℕ) → j ≤ joined_at columns i l → IsBelow columns i j (suc i) l
 left_of_it columns i j l most =
-    let e : reach columns (suc i) l i ≡ joined_at columns i l = reach_left columns i l i (omega arith) ∙ reach_here columns i (joined_at columns i l) in
+    let e : reach columns (suc i) l i ≡ joined_at columns i l = reach_left columns i l i (omega arith)
+    ∙ reach_here columns i (joined_at columns i l) in
     record { column = omega arith; place = λ s. absurd (omega (arith, s)); within = λ s. omega (arith, most, e) }
 
 known_below : (columns : List (List Node)) (i j k l : ℕ)
@@ -46,7 +47,8 @@ known_below columns i j k l known = elim (or_cases ((i == k) && nat_lt j l) ((su
 -- the orders of the book's starts agree with what is known
 pub known_before : (b : BookState) → ControlRun b.limit (events_of b.log) (state_of b) → (x y : NodeId)
     → IsStarted (starts_of (events_of b.log)) x → IsStarted (starts_of (events_of b.log)) y
-    → AgreeOnKnown (Some (joined_in b x)) (down_place (starts_of (events_of b.log))) (right_place (columns_after (events_of b.log)) (starts_of (events_of b.log))) x y
+    → AgreeOnKnown (Some (joined_in b x)) (down_place (starts_of (events_of b.log)))
+    (right_place (columns_after (events_of b.log)) (starts_of (events_of b.log))) x y
 known_before b control x y started_x started_y = λ known.
     (let columns = columns_after (events_of b.log) in
     let starts = starts_of (events_of b.log) in

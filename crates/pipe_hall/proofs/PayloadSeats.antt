@@ -43,14 +43,18 @@ same_table g h e = numbers_same g.table h.table (sym (name_hall g.table g.consta
 
 -- ---- tokens
 
-module _ (M : Type 0) (ReadyAt : SyntaxTree → List ℤ → M → ℕ → List (List ℤ) → Type 0) (tie : M → Tie) (lists : M → SeenLists) (seat : M → Option RunSeat) (with_seat : M → Option RunSeat → M)
-    (tied : (x : M) → tie x ≡ tie_of (lists x) (seat x)) (seat_is : (x : M) (s : Option RunSeat) → (seat (with_seat x s) ≡ s) × (lists (with_seat x s) ≡ lists x))
-    (seat_ready : (tree : SyntaxTree) (input : List ℤ) (x : M) (s : Option RunSeat) (i : ℕ) (replies : List (List ℤ)) → ReadyAt tree input x i replies → ReadyAt tree input (with_seat x s) i replies) where
+module _ (M : Type 0) (ReadyAt : SyntaxTree → List ℤ → M → ℕ → List (List ℤ) → Type 0) (tie : M → Tie) (lists : M → SeenLists)
+    (seat : M → Option RunSeat) (with_seat : M → Option RunSeat → M)
+    (tied : (x : M) → tie x ≡ tie_of (lists x) (seat x))
+    (seat_is : (x : M) (s : Option RunSeat) → (seat (with_seat x s) ≡ s) × (lists (with_seat x s) ≡ lists x))
+    (seat_ready : (tree : SyntaxTree) (input : List ℤ) (x : M) (s : Option RunSeat) (i : ℕ) (replies : List (List ℤ))
+    → ReadyAt tree input x i replies → ReadyAt tree input (with_seat x s) i replies) where
   -- the tie of a payload with a seat
   pub tie_with : (x : M) (r : RunSeat) → tie (with_seat x (Some r)) ≡ record { lists = (tie x).lists; seat = seat_in (Some r) }
   tie_with x r =
       let q = seat_is x (Some r) in
-      tied (with_seat x (Some r)) ∙ (ap₂ (λ l s. tie_of l s) q.1 q.0 ∙ ap (λ (t : Tie). let w : Tie = record { lists = t.lists; seat = seat_in (Some r) } in w) (sym (tied x)))
+      tied (with_seat x (Some r)) ∙ (ap₂ (λ l s. tie_of l s) q.1 q.0
+      ∙ ap (λ (t : Tie). let w : Tie = record { lists = t.lists; seat = seat_in (Some r) } in w) (sym (tied x)))
 
   -- the lists of a payload with another seat
   pub lists_with : (x : M) (o : Option RunSeat) → (tie (with_seat x o)).lists ≡ (tie x).lists
@@ -70,19 +74,29 @@ module _ (M : Type 0) (ReadyAt : SyntaxTree → List ℤ → M → ℕ → List 
     pub replies : run_data.replies ≡ seated_replies (tie x)
     pub entries : run_data.entries ≡ seated_entries (tie x)
 
-  pub has_seat : (x : M) (h : HallName) (f : TokenFields) (z : TableId) (o : Option HallConstants) → h ≡ name_of z o → IsSeated h f (tie x) → HasSeat x h f z
+  pub has_seat : (x : M) (h : HallName) (f : TokenFields) (z : TableId) (o : Option HallConstants) → h ≡ name_of z o → IsSeated h f (tie x)
+      → HasSeat x h f z
   has_seat x h f z o name out = by (seat x) refl
     where
       there : (q : Option RunSeat) → seat x ≡ q → seat_in q ≡ Some out.seat
       there q e = ap seat_in (sym e) ∙ (sym (ap (λ (t : Tie). t.seat) (tied x)) ∙ out.is)
 
-      by_data : (r : RunSeat) (d : Option InstanceData) → seat x ≡ Some r → (badge_view r.badge.views).run ≡ d → seat_of r.badge.table_id r.badge.id (badge_view r.badge.views).constants d ≡ Some out.seat → HasSeat x h f z
+      by_data : (r : RunSeat) (d : Option InstanceData) → seat x ≡ Some r → (badge_view r.badge.views).run ≡ d
+          → seat_of r.badge.table_id r.badge.id (badge_view r.badge.views).constants d ≡ Some out.seat → HasSeat x h f z
       by_data r None e is q = absurd (let w : None ≡ Some out.seat = q in cc)
       by_data r (Some d) e is q =
-          let s : InstanceSeat = record { hall = name_of r.badge.table_id (badge_view r.badge.views).constants; seat = r.badge.id; fields = d.fields; replies = d.replies; entries = d.entries } in
+          let s : InstanceSeat = record {
+            hall = name_of r.badge.table_id (badge_view r.badge.views).constants;
+            seat = r.badge.id;
+            fields =
+                d.fields;
+            replies = d.replies;
+            entries = d.entries;
+          } in
           let same : s ≡ out.seat = (let w : Some s ≡ Some out.seat = q in cc) in
           let hall : numbers_of r.badge.table_id ≡ numbers_of z =
-          sym (name_hall r.badge.table_id (badge_view r.badge.views).constants) ∙ (ap (λ (y : InstanceSeat). y.hall.hall) same ∙ (ap (λ (y : HallName). y.hall) (out.hall ∙ name) ∙ name_hall z o)) in
+          sym (name_hall r.badge.table_id (badge_view r.badge.views).constants)
+          ∙ (ap (λ (y : InstanceSeat). y.hall.hall) same ∙ (ap (λ (y : HallName). y.hall) (out.hall ∙ name) ∙ name_hall z o)) in
           record {
             run = r;
             is = e;
@@ -99,14 +113,25 @@ module _ (M : Type 0) (ReadyAt : SyntaxTree → List ℤ → M → ℕ → List 
       by None e = absurd (let w : None ≡ Some out.seat = there None e in cc)
       by (Some r) e = by_data r (badge_view r.badge.views).run e refl (there (Some r) e)
 
-  pub given_in : (h : HallName) (z : TableId) (c : BookState) (t : FrameToken M) (r : RunSeat) (v : View) → r.badge.table_id ≡ z → r.badge.views ≡ v ∷ [] → v.it.constants ≡ Some (constants_of c)
-      → v.it.run ≡ Some (new_instance c (fields_of t)) → h ≡ name_of z (Some (constants_of c)) → IsGivenBy ReadyAt tie c t → IsGivenToken ReadyAt tie h (record t { payload = with_seat t.payload (Some r) })
+  pub given_in : (h : HallName) (z : TableId) (c : BookState) (t : FrameToken M) (r : RunSeat) (v : View) → r.badge.table_id ≡ z
+      → r.badge.views ≡ v ∷ [] → v.it.constants ≡ Some (constants_of c)
+      → v.it.run ≡ Some (new_instance c (fields_of t)) → h ≡ name_of z (Some (constants_of c)) → IsGivenBy ReadyAt tie c t
+      → IsGivenToken ReadyAt tie h (record t { payload = with_seat t.payload (Some r) })
   given_in h z c t r v table views constants run name given =
       let x : M = with_seat t.payload (Some r) in
-      let s : InstanceSeat = record { hall = name_of z (Some (constants_of c)); seat = r.badge.id; fields = fields_of t; replies = replies_at c t.iteration; entries = [] } in
+      let s : InstanceSeat = record {
+        hall = name_of z (Some (constants_of c));
+        seat = r.badge.id;
+        fields = fields_of t;
+        replies =
+            replies_at c t.iteration;
+        entries = [];
+      } in
       let in_seat : seat_in (Some r) ≡ Some s =
-      ap₂ (λ y vs. seat_of y r.badge.id (badge_view vs).constants (badge_view vs).run) table views ∙ ap₂ (λ a d. seat_of z r.badge.id a d) constants run in
-      let is : tie x ≡ record { lists = (tie t.payload).lists; seat = Some s } = tie_with t.payload r ∙ ap (λ o. let w : Tie = record { lists = (tie t.payload).lists; seat = o } in w) in_seat in
+      ap₂ (λ y vs. seat_of y r.badge.id (badge_view vs).constants (badge_view vs).run) table views
+      ∙ ap₂ (λ a d. seat_of z r.badge.id a d) constants run in
+      let is : tie x ≡ record { lists = (tie t.payload).lists; seat = Some s } = tie_with t.payload r
+      ∙ ap (λ o. let w : Tie = record { lists = (tie t.payload).lists; seat = o } in w) in_seat in
       let seat_now : (tie x).seat ≡ Some s = ap (λ (y : Tie). y.seat) is in
       let lists_now : (tie x).lists ≡ (tie t.payload).lists = ap (λ (y : Tie). y.lists) is in
       record {
@@ -117,10 +142,12 @@ module _ (M : Type 0) (ReadyAt : SyntaxTree → List ℤ → M → ℕ → List 
           fields = refl;
           parts = given.parts;
           knows = subst (λ l. AreSeen l t.marks) (sym lists_now) given.knows;
-          belongs = subst (λ (n : HallName). AreSeenLists (tie x).lists n.lists.down n.lists.right) (sym name) (subst (λ l. AreSeenLists l c.lists.down c.lists.right) (sym lists_now) given.payload.belongs);
+          belongs = subst (λ (n : HallName). AreSeenLists (tie x).lists n.lists.down n.lists.right) (sym name)
+              (subst (λ l. AreSeenLists l c.lists.down c.lists.right) (sym lists_now) given.payload.belongs);
         };
         ready = subst (λ l. ReadyAt h.tree h.input x t.iteration l) (sym (ap replies_of_seat seat_now))
-            (subst (λ (n : HallName). ReadyAt n.tree n.input x t.iteration (replies_at c t.iteration)) (sym name) (seat_ready (tree_of c.program) c.input t.payload (Some r) t.iteration (replies_at c t.iteration) given.payload.ready));
+            (subst (λ (n : HallName). ReadyAt n.tree n.input x t.iteration (replies_at c t.iteration)) (sym name)
+            (seat_ready (tree_of c.program) c.input t.payload (Some r) t.iteration (replies_at c t.iteration) given.payload.ready));
         fresh = ap entries_of_seat seat_now;
       }
 
@@ -139,7 +166,8 @@ idle_after {S} m n e h = record {
 pub idle_copy : (M : Type 0) (m : ViewAndSlots M) → IsIdle m → IsIdle {S = Slot M} (view_of (worker_seat m.0.it), [])
 idle_copy M m h = record { constants = h.constants; knows = h.knows; control = h.control; run = refl; held = refl; slots = refl }
 
-pub idle_met : (M : Type 0) (m n : ViewAndSlots M) → n ≡ (view_of (with_longer m.0.it), m.1) → ((a : HallConstants) → m.0.it.constants ≡ Some a → ControlRun a.limit n.0.it.seen (state_after n.0.it.seen))
+pub idle_met : (M : Type 0) (m n : ViewAndSlots M) → n ≡ (view_of (with_longer m.0.it), m.1)
+    → ((a : HallConstants) → m.0.it.constants ≡ Some a → ControlRun a.limit n.0.it.seen (state_after n.0.it.seen))
     → (c : HallConstants) → m.0.it.constants ≡ Some c → m.0.it.run ≡ None → m.0.it.held ≡ [] → m.1 ≡ [] → IsIdle n
 idle_met M m n is control c knows run held empty = record {
   constants = c;

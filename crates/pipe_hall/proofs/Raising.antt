@@ -1,5 +1,6 @@
 -- A stop whose ticket was raised keeps the facts of a hall.
-use Rattle.std.proofs.Common.{◌≡◌, ℕ, List, [], ◌∷◌, ◌++◌, ◌+◌, ◌<◌, ◌*◌, length, max, refl, sym, ap, ◌∙◌, subst, arith, Option, Some, None, Bool, true, false}
+use Rattle.std.proofs.Common.{◌≡◌, ℕ, List, [], ◌∷◌, ◌++◌, ◌+◌, ◌<◌, ◌*◌, length, max, refl, sym, ap, ◌∙◌, subst, arith, Option, Some, None}
+use Rattle.std.proofs.Common.{Bool, true, false}
 use Rattle.std.proofs.Math.Nat.{le-max_right}
 use Rattle.pipe_model.specs.declared.access.Access.{Access}
 use Rattle.pipe_model.specs.declared.event.Event.{Event}
@@ -94,9 +95,12 @@ module _ (b : BookState) (least : ℕ) (last : LastStops b.log) where
   trace_is None i n = refl
   trace_is (Some d) i n = refl
 
-  pub raised_shard : (seats : ℕ → Option InstanceData) (before : List Access) (k : ℕ) (x : ShardValue) → HasShard before b seats k x → HasShard before (raised b least) seats k x
+  pub raised_shard : (seats : ℕ → Option InstanceData) (before : List Access) (k : ℕ) (x : ShardValue) → HasShard before b seats k x
+      → HasShard before (raised b least) seats k x
   raised_shard seats before k x h = record {
-    shard = subst (λ es. IsShardOf before (store_of (tree_of b.program)) (λ (y : NodeId). instance_marks (columns_after es) (starts_of es) y.iteration y.index) (λ (y : NodeId). left_joined (columns_after es) y.iteration y.index) k x) (sym same) h.shard;
+    shard = subst (λ es. IsShardOf before (store_of (tree_of b.program))
+        (λ (y : NodeId). instance_marks (columns_after es) (starts_of es) y.iteration y.index)
+        (λ (y : NodeId). left_joined (columns_after es) y.iteration y.index) k x) (sym same) h.shard;
     identities = h.identities;
     named = h.named;
     traces = λ i n. h.traces i n ∙ ap (of_shard k) (sym (trace_is (seats i) i n));
@@ -126,9 +130,11 @@ last_is_stop (b ∷ []) (x ∷ es) e is stop = absurd (nothing_more es e (let z 
 last_is_stop (b ∷ (c ∷ bs)) [] e is stop = absurd (cc)
 last_is_stop (b ∷ (c ∷ bs)) (x ∷ es) e is stop = last_is_stop (c ∷ bs) es e (let z : events_of (c ∷ bs) ≡ es ++ e ∷ [] = cc in z) stop
 
-stop_is_last : {limit : ℕ} {events : List Event} {c : State} → ControlRun limit events c → (log : List BookEntry) → events_of log ≡ events → c.stopped ≡ true → LastStops log
+stop_is_last : {limit : ℕ} {events : List Event} {c : State} → ControlRun limit events c → (log : List BookEntry) → events_of log ≡ events
+    → c.stopped ≡ true → LastStops log
 stop_is_last EmptyControlRun log is stopped = absurd (let z : false ≡ true = stopped in cc)
-stop_is_last (ControlRunThen {events = es} {c = d} r e quiet going may) log is stopped = last_is_stop log es e is (stops d e going stopped quiet)
+stop_is_last (ControlRunThen {events = es} {c = d} r e quiet going may) log is stopped = last_is_stop log es e is
+    (stops d e going stopped quiet)
 
 not_empty : (log : List BookEntry) → LastStops log → 0 < length log
 not_empty [] h = absurd h
@@ -141,7 +147,8 @@ module _ (start : HallStart) (seen : List Event) (b : BookState) (shard : ℕ �
   last = stop_is_last h.closed.has_seats.control b.log refl stopped
 
   seen_all : (l : SeenLists) → HasSeenAll b l → HasSeenAll (raised b least) l
-  seen_all l q = subst (λ es. (l.down_log ≡ down_first_log (starts_of es)) × (l.right_log ≡ right_first_log (columns_after es) (starts_of es)))
+  seen_all l q = subst (λ es. (l.down_log ≡ down_first_log (starts_of es))
+      × (l.right_log ≡ right_first_log (columns_after es) (starts_of es)))
       (sym (events_raised b.log least)) q
 
   pub raised_hall : EndedHall start seen (raised b least) shard
@@ -176,12 +183,16 @@ pub record IsClosed (start : HallStart) (seen : List Event) (b : BookState) (sha
   pub constants : start.constants ≡ constants_of b
   pub stop : StopIsLast b shard
 
-by_book : (start : HallStart) (seen : List Event) (b : BookState) (shard : ℕ → ShardValue) → EndedHall start seen b shard → EndedHall (start_of b start.before) seen b shard
+by_book : (start : HallStart) (seen : List Event) (b : BookState) (shard : ℕ → ShardValue) → EndedHall start seen b shard
+    → EndedHall (start_of b start.before) seen b shard
 by_book start seen b shard h =
-    subst (λ s. EndedHall s seen b shard) (ap (λ (k : HallConstants). let s : HallStart = record { constants = k; before = start.before } in s) (sym h.closed.constants)) h
+    subst (λ s. EndedHall s seen b shard) (ap (λ (k : HallConstants). let s : HallStart = record { constants = k; before = start.before }
+    in s) (sym h.closed.constants)) h
 
-pub closed_by : (start : HallStart) (seen : List Event) (b c : BookState) (shard : ℕ → ShardValue) → EndedHall start seen b shard → ((state_of b).stopped ≡ false → c ≡ b)
-    → ((state_of b).stopped ≡ true → (least : ℕ) × (c ≡ raised b least) × ((k : ℕ) → k < 16 → (shard k).last < least)) → IsClosed start seen c shard
+pub closed_by : (start : HallStart) (seen : List Event) (b c : BookState) (shard : ℕ → ShardValue) → EndedHall start seen b shard
+    → ((state_of b).stopped ≡ false → c ≡ b)
+    → ((state_of b).stopped ≡ true → (least : ℕ) × (c ≡ raised b least) × ((k : ℕ) → k < 16 → (shard k).last < least))
+    → IsClosed start seen c shard
 closed_by start seen b c shard h going stopped = by (state_of b).stopped refl
   where
     by : (t : Bool) → (state_of b).stopped ≡ t → IsClosed start seen c shard
@@ -191,11 +202,19 @@ closed_by start seen b c shard h going stopped = by (state_of b).stopped refl
         let q = stopped e in
         let r = raised_hall start seen b shard h q.0 e q.2 in
         subst (λ x. IsClosed start seen x shard) (sym q.1)
-        (record { ended = by_book start seen (raised b q.0) shard r; constants = sym h.closed.constants; stop = raised_stop start seen b shard h q.0 e q.2 })
+        (record {
+          ended = by_book start seen (raised b q.0) shard r;
+          constants = sym h.closed.constants;
+          stop =
+              raised_stop start seen b shard h q.0 e q.2;
+        })
 
-pub close_is : (start : HallStart) (seen : List Event) (b d c : BookState) (xs ys zs : List ShardValue) → ClosedHall start seen b (shard_in xs)
-    → ((k : ℕ) → k < 16 → HasLearned b (shard_in xs k) (shard_in ys k)) → length ys ≡ 16 → zs ≡ ys → d ≡ b → ((state_of d).stopped ≡ false → c ≡ d)
-    → ((state_of d).stopped ≡ true → (least : ℕ) × (c ≡ raised d least) × ((k : ℕ) → k < length zs → (shard_in zs k).last < least)) → IsClosed start seen c (shard_in ys)
+pub close_is : (start : HallStart) (seen : List Event) (b d c : BookState) (xs ys zs : List ShardValue)
+    → ClosedHall start seen b (shard_in xs)
+    → ((k : ℕ) → k < 16 → HasLearned b (shard_in xs k) (shard_in ys k)) → length ys ≡ 16 → zs ≡ ys → d ≡ b
+    → ((state_of d).stopped ≡ false → c ≡ d)
+    → ((state_of d).stopped ≡ true → (least : ℕ) × (c ≡ raised d least) × ((k : ℕ) → k < length zs → (shard_in zs k).last < least))
+    → IsClosed start seen c (shard_in ys)
 close_is start seen b d c xs ys zs h learned len is same going stopped =
     let before = ap (λ (x : BookState). (state_of x).stopped) same in
     closed_by start seen b c (shard_in ys) (learned_hall start seen b (shard_in xs) (shard_in ys) h learned)

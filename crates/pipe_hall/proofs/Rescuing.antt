@@ -1,5 +1,6 @@
 -- The iterations that were left ready, as a list.
-use Rattle.std.proofs.Common.{◌≡◌, ◌<◌, ⊎_elim, inl, inr, ℕ, zero, suc, List, [], ◌∷◌, ◌++◌, length, get_or, refl, sym, ap, ◌∙◌, subst, arith, Bool, true, false, cond, Option, Some, None, Contains}
+use Rattle.std.proofs.Common.{◌≡◌, ◌<◌, ⊎_elim, inl, inr, ℕ, zero, suc, List, [], ◌∷◌, ◌++◌, length, get_or, refl, sym, ap, ◌∙◌, subst}
+use Rattle.std.proofs.Common.{arith, Bool, true, false, cond, Option, Some, None, Contains}
 use Rattle.std.proofs.lemmas.Bool.{cases_lt}
 use Rattle.pipe_model.specs.declared.status.Status.{Status}
 use Rattle.pipe_model.specs.declared.status.Status.TheVariants.{Running, Pending, Completed}
@@ -14,7 +15,8 @@ use Rattle.pipe_model.specs.declared.event.Event.{Event}
 use Rattle.pipe_frame.specs.HallViews.{BeginsWith, RescueSees}
 
 -- the result is right for any equal set of iterations that were left ready
-pub returns_same : {M : Type 0} (limit : ℕ) (s : State) (P Q : ℕ → Type 0) (r : Rescue M) → ((i : ℕ) → P i → Q i) → ((i : ℕ) → Q i → P i) → RescueReturns limit s P r → RescueReturns limit s Q r
+pub returns_same : {M : Type 0} (limit : ℕ) (s : State) (P Q : ℕ → Type 0) (r : Rescue M) → ((i : ℕ) → P i → Q i) → ((i : ℕ) → Q i → P i)
+    → RescueReturns limit s P r → RescueReturns limit s Q r
 returns_same limit s P Q rescue.Stopped to of h = h
 returns_same limit s P Q rescue.Finished to of h = h
 returns_same limit s P Q (rescue.Token t) to of h = (
@@ -95,7 +97,8 @@ unfolding below
 below_has P zero i l e = absurd (omega (arith, l))
 below_has P (suc n) i l e = elim (cases_lt i n) [
   | inl less ↦ by (P n) (below_has P n i less e)
-  | inr more ↦ (let z : i ≡ n = omega (arith, l, more) in subst (λ m. P m ≡ true → Contains (cond (P n) (n ∷ below P n) (below P n)) m) (sym z) (λ q. here (P n) q) e)
+  | inr more ↦ (let z : i ≡ n = omega (arith, l, more) in subst (λ m. P m ≡ true → Contains (cond (P n) (n ∷ below P n) (below P n)) m)
+      (sym z) (λ q. here (P n) q) e)
 ]
   where
     by : (t : Bool) → Contains (below P n) i → Contains (cond t (n ∷ below P n) (below P n)) i
@@ -134,8 +137,10 @@ unfolding ready_list
 in_ready b i h = ready_of b i (below_meets (is_ready b) (length b.tokens) i h)
 
 -- what a call of `rescue` has seen
-pub rescue_sees_of : {M : Type 0} (limit : ℕ) (before after : List Event) (b c : BookState) (r : Rescue M) → BeginsWith (events_of b.log) before → after ≡ events_of c.log
-    → events_of c.log ≡ events_of b.log ++ rescue_events (state_of b) r → RescueReturns limit (state_of b) (IsReady b) r → RescueSees limit before after r
+pub rescue_sees_of : {M : Type 0} (limit : ℕ) (before after : List Event) (b c : BookState) (r : Rescue M)
+    → BeginsWith (events_of b.log) before → after ≡ events_of c.log
+    → events_of c.log ≡ events_of b.log ++ rescue_events (state_of b) r → RescueReturns limit (state_of b) (IsReady b) r
+    → RescueSees limit before after r
 rescue_sees_of limit before after b c r later seen adds h = record {
   base = events_of b.log;
   later = later;

@@ -1,5 +1,7 @@
 -- An access keeps what is known of the book, of the seats and of the shards.
-use Rattle.std.proofs.Common.{◌≡◌, ◌≢◌, ℕ, ◌+◌, ◌*◌, ◌/◌, ◌%◌, ◌^◌, ◌<◌, ◌≤◌, ◌==◌, ◌&&◌, ◌⊎◌, ⊎_elim, inl, inr, List, [], ◌∷◌, ◌++◌, map, get_or, refl, sym, ap, ap₂, ◌∙◌, subst, arith, cond, eq-eqb, ne_eqb, Bool, true, false, Option, Some, None, IfSome, append_assoc}
+use Rattle.std.proofs.Common.{◌≡◌, ◌≢◌, ℕ, ◌+◌, ◌*◌, ◌/◌, ◌%◌, ◌^◌, ◌<◌, ◌≤◌, ◌==◌, ◌&&◌, ◌⊎◌, ⊎_elim, inl, inr, List, [], ◌∷◌, ◌++◌, map}
+use Rattle.std.proofs.Common.{get_or, refl, sym, ap, ap₂, ◌∙◌, subst, arith, cond, eq-eqb, ne_eqb, Bool, true, false, Option, Some, None}
+use Rattle.std.proofs.Common.{IfSome, append_assoc}
 use Rattle.std.proofs.lemmas.List.{map-append}
 use Rattle.std.proofs.lemmas.List.Quantifiers.{all_pairs_push}
 use mathlib.Core.Logic.{dite}
@@ -30,25 +32,30 @@ use Rattle.pipe_hall.specs.SeatViews.{InstanceData, ShardValue}
 use Rattle.pipe_hall.specs.Logs.{accesses_of, book_trace, entry_of, noted_to, of_node, of_shard, trace_by, with_at}
 use Rattle.pipe_hall.specs.Accesses.{GrowLists, IsAccessed}
 use Rattle.pipe_hall.specs.BookParts.{HasSeats, KnowsInstance, joined_in, marks_in}
-use Rattle.pipe_hall.specs.ShardParts.{AgreeOnKnownLog, AgreeOnLog, HasShard, IsCellHistory, IsOfLog, IsShardOf, down_list, right_list, history_at, last_of, who_of}
+use Rattle.pipe_hall.specs.ShardParts.{AgreeOnKnownLog, AgreeOnLog, HasShard, IsCellHistory, IsOfLog, IsShardOf, down_list, right_list}
+use Rattle.pipe_hall.specs.ShardParts.{history_at, last_of, who_of}
 use Rattle.pipe_hall.proofs.Boards.{with_here, with_else, among_cons}
 use Rattle.pipe_hall.proofs.CallEffects.{all_kept}
 
 -- ---- lists with one entry more
 
-of_node_more : (i k : ℕ) (es : List ShardEntry) (e : ShardEntry) → (e.node.iteration ≡ i) × (e.node.index ≡ k) → of_node i k (es ++ e ∷ []) ≡ of_node i k es ++ entry_of e ∷ []
+of_node_more : (i k : ℕ) (es : List ShardEntry) (e : ShardEntry) → (e.node.iteration ≡ i) × (e.node.index ≡ k)
+    → of_node i k (es ++ e ∷ []) ≡ of_node i k es ++ entry_of e ∷ []
 of_node_more i k [] e h = ap₂ (λ a b. cond (a && b) (entry_of e ∷ []) []) (eq-eqb e.node.iteration i h.0) (eq-eqb e.node.index k h.1)
 of_node_more i k (x ∷ es) e h = by ((x.node.iteration == i) && (x.node.index == k)) (of_node_more i k es e h)
   where
     by : (t : Bool) → of_node i k (es ++ e ∷ []) ≡ of_node i k es ++ entry_of e ∷ []
-        → cond t (entry_of x ∷ of_node i k (es ++ e ∷ [])) (of_node i k (es ++ e ∷ [])) ≡ cond t (entry_of x ∷ of_node i k es) (of_node i k es) ++ entry_of e ∷ []
+        → cond t (entry_of x ∷ of_node i k (es ++ e ∷ [])) (of_node i k (es ++ e ∷ [])) ≡ cond t (entry_of x ∷ of_node i k es)
+        (of_node i k es) ++ entry_of e ∷ []
     by true q = ap (λ l. entry_of x ∷ l) q
     by false q = q
 
 -- an entry of another instance
-of_node_other : (i k : ℕ) (es : List ShardEntry) (e : ShardEntry) → ((e.node.iteration == i) && (e.node.index == k)) ≡ false → of_node i k (es ++ e ∷ []) ≡ of_node i k es
+of_node_other : (i k : ℕ) (es : List ShardEntry) (e : ShardEntry) → ((e.node.iteration == i) && (e.node.index == k)) ≡ false
+    → of_node i k (es ++ e ∷ []) ≡ of_node i k es
 of_node_other i k [] e h = ap (λ t. cond t (entry_of e ∷ []) []) h
-of_node_other i k (x ∷ es) e h = ap (λ l. cond ((x.node.iteration == i) && (x.node.index == k)) (entry_of x ∷ l) l) (of_node_other i k es e h)
+of_node_other i k (x ∷ es) e h = ap (λ l. cond ((x.node.iteration == i) && (x.node.index == k)) (entry_of x ∷ l) l)
+    (of_node_other i k es e h)
 
 of_shard_more : (k : ℕ) (es : List Entry) (e : Entry) → e.access.cell.0 % 16 ≡ k → of_shard k (es ++ e ∷ []) ≡ of_shard k es ++ e ∷ []
 of_shard_more k [] e h = ap (λ t. cond t (e ∷ []) []) (eq-eqb (e.access.cell.0 % 16) k h)
@@ -63,12 +70,14 @@ of_shard_other : (k : ℕ) (es : List Entry) (e : Entry) → e.access.cell.0 % 1
 of_shard_other k [] e h = ap (λ t. cond t (e ∷ []) []) (ne_eqb (e.access.cell.0 % 16) k h)
 of_shard_other k (x ∷ es) e h = ap (λ l. cond (x.access.cell.0 % 16 == k) (x ∷ l) l) (of_shard_other k es e h)
 
-noted_more : (c : ℕ) (log : List ShardEntry) (e : ShardEntry) → e.access.cell.0 ≡ c → noted_to c (log ++ e ∷ []) ≡ noted_to c log ++ noted_access e.node e.access.kind ∷ []
+noted_more : (c : ℕ) (log : List ShardEntry) (e : ShardEntry) → e.access.cell.0 ≡ c → noted_to c
+    (log ++ e ∷ []) ≡ noted_to c log ++ noted_access e.node e.access.kind ∷ []
 noted_more c [] e h = ap (λ t. cond t (noted_access e.node e.access.kind ∷ []) []) (eq-eqb e.access.cell.0 c h)
 noted_more c (x ∷ log) e h = by (x.access.cell.0 == c) (noted_more c log e h)
   where
     by : (t : Bool) → noted_to c (log ++ e ∷ []) ≡ noted_to c log ++ noted_access e.node e.access.kind ∷ []
-        → cond t (noted_access x.node x.access.kind ∷ noted_to c (log ++ e ∷ [])) (noted_to c (log ++ e ∷ [])) ≡ cond t (noted_access x.node x.access.kind ∷ noted_to c log) (noted_to c log) ++ noted_access e.node e.access.kind ∷ []
+        → cond t (noted_access x.node x.access.kind ∷ noted_to c (log ++ e ∷ [])) (noted_to c (log ++ e ∷ [])) ≡ cond t
+        (noted_access x.node x.access.kind ∷ noted_to c log) (noted_to c log) ++ noted_access e.node e.access.kind ∷ []
     by true q = ap (λ l. noted_access x.node x.access.kind ∷ l) q
     by false q = q
 
@@ -77,11 +86,13 @@ noted_other c [] e h = ap (λ t. cond t (noted_access e.node e.access.kind ∷ [
 noted_other c (x ∷ log) e h = ap (λ l. cond (x.access.cell.0 == c) (noted_access x.node x.access.kind ∷ l) l) (noted_other c log e h)
 
 -- what holds of each element and of the last
-each_more : {A : Type 0} (P : A → Type 0) (xs : List A) (x : A) → ((y : A) → Among y xs → P y) → P x → (y : A) → Among y (xs ++ x ∷ []) → P y
+each_more : {A : Type 0} (P : A → Type 0) (xs : List A) (x : A) → ((y : A) → Among y xs → P y) → P x → (y : A) → Among y (xs ++ x ∷ [])
+    → P y
 each_more P xs x h p y m = ⊎_elim (λ a. h y a) (λ a. subst P (sym (only_one y x a)) p) (among_either y xs (x ∷ []) m)
 
 -- the last element of a list that has been split elsewhere
-split_last : {A : Type 0} (xs : List A) (e : A) (front : List A) (f : A) (rest : List A) → xs ++ e ∷ [] ≡ front ++ f ∷ rest → ((xs ≡ front) × (e ≡ f)) ⊎ ((rest' : List A) × (xs ≡ front ++ f ∷ rest'))
+split_last : {A : Type 0} (xs : List A) (e : A) (front : List A) (f : A) (rest : List A) → xs ++ e ∷ [] ≡ front ++ f ∷ rest
+    → ((xs ≡ front) × (e ≡ f)) ⊎ ((rest' : List A) × (xs ≡ front ++ f ∷ rest'))
 split_last [] e [] f rest q = inl (refl, (cc))
 split_last [] e (z ∷ zs) f rest q = absurd (let t : [] ≡ zs ++ f ∷ rest = cc in no_end zs f rest t)
   where
@@ -92,19 +103,23 @@ split_last (x ∷ xs) e [] f rest q = inr (xs, (let t : x ≡ f = cc in ap (λ z
 split_last (x ∷ xs) e (z ∷ zs) f rest q =
     let t : x ≡ z = cc in
     let u : xs ++ e ∷ [] ≡ zs ++ f ∷ rest = cc in
-    ⊎_elim (λ (h : (xs ≡ zs) × (e ≡ f)). inl (ap₂ (λ a b. a ∷ b) t h.0, h.1)) (λ (h : (rest' : List _) × (xs ≡ zs ++ f ∷ rest')). inr (h.0, ap₂ (λ a b. a ∷ b) t h.1)) (split_last xs e zs f rest u)
+    ⊎_elim (λ (h : (xs ≡ zs) × (e ≡ f)). inl (ap₂ (λ a b. a ∷ b) t h.0, h.1))
+    (λ (h : (rest' : List _) × (xs ≡ zs ++ f ∷ rest')). inr (h.0, ap₂ (λ a b. a ∷ b) t h.1)) (split_last xs e zs f rest u)
 
 -- tickets rise with a greater one at the end
-rise_more : (xs : List TimedAction) (x : TimedAction) → TicketsRise xs → ((y : TimedAction) → Among y xs → y.ticket < x.ticket) → TicketsRise (xs ++ x ∷ [])
+rise_more : (xs : List TimedAction) (x : TimedAction) → TicketsRise xs → ((y : TimedAction) → Among y xs → y.ticket < x.ticket)
+    → TicketsRise (xs ++ x ∷ [])
 rise_more [] x r l = ((λ y m. absurd (none_among y m)), tt)
 rise_more (z ∷ xs) x r l = (
-  (λ y m. ⊎_elim (λ a. r.0 y a) (λ a. subst (λ (w : TimedAction). z.ticket < w.ticket) (sym (only_one y x a)) (l z Here)) (among_either y xs (x ∷ []) m)),
+  (λ y m. ⊎_elim (λ a. r.0 y a) (λ a. subst (λ (w : TimedAction). z.ticket < w.ticket) (sym (only_one y x a)) (l z Here))
+      (among_either y xs (x ∷ []) m)),
   rise_more xs x r.1 (λ y m. l y (Later z m)),
 )
 
 pub among_timed : (x : TimedAction) (es : List Entry) → Among x (map timed_access es) → (e : Entry) × Among e es × (x ≡ timed_access e)
 among_timed x [] m = absurd (none_among x m)
-among_timed x (e ∷ es) m = ⊎_elim (λ q. (e, Here, q)) (λ q. (let h = among_timed x es q in (h.0, Later e h.1, h.2))) (among_cons x (timed_access e) (map timed_access es) m)
+among_timed x (e ∷ es) m = ⊎_elim (λ q. (e, Here, q)) (λ q. (let h = among_timed x es q in (h.0, Later e h.1, h.2)))
+    (among_cons x (timed_access e) (map timed_access es) m)
 
 last_more : (log : List ShardEntry) (e : ShardEntry) → last_of (log ++ e ∷ []) ≡ e.ticket
 last_more [] e = refl
@@ -113,8 +128,10 @@ last_more (f ∷ (g ∷ es)) e = last_more (g ∷ es) e
 
 -- ---- the shard
 
-module _ (before : List Access) (store : InitialStore) (marks : NodeId → Marks) (joined : NodeId → ℕ) (k : ℕ) (x y : ShardValue) (who : Who) (index ticket : ℕ) (a : Access)
-    (h : IsShardOf before store marks joined k x) (q : IsAccessed who index ticket a x y) (own : a.cell.0 % 16 ≡ k) (declared : a.cell.0 < x.cells.shard.cells) (mine : who.marks ≡ marks who.node) (joins : index ≡ joined who.node)
+module _ (before : List Access) (store : InitialStore) (marks : NodeId → Marks) (joined : NodeId → ℕ) (k : ℕ) (x y : ShardValue)
+    (who : Who) (index ticket : ℕ) (a : Access)
+    (h : IsShardOf before store marks joined k x) (q : IsAccessed who index ticket a x y) (own : a.cell.0 % 16 ≡ k)
+    (declared : a.cell.0 < x.cells.shard.cells) (mine : who.marks ≡ marks who.node) (joins : index ≡ joined who.node)
     (known : AreIn (down_list x.lists) (right_list x.lists) who.marks) (later : x.last < ticket) (bound : ticket ≤ 2 ^ 62) where
   abbrev e : ShardEntry
   e = record { ticket = ticket; node = who.node; access = a }
@@ -129,7 +146,9 @@ module _ (before : List Access) (store : InitialStore) (marks : NodeId → Marks
   who_is = ap (λ (m : Marks). let w : Who = record { node = who.node; marks = m } in w) mine
 
   accesses_are : before ++ accesses_of y.log ≡ (before ++ accesses_of x.log) ++ a ∷ []
-  accesses_are = ap (λ l. before ++ accesses_of l) q.log ∙ (ap (λ l. before ++ l) (map-append (λ (f : ShardEntry). f.access) x.log (e ∷ [])) ∙ sym (append_assoc before (accesses_of x.log) (a ∷ [])))
+  accesses_are = ap (λ l. before ++ accesses_of l) q.log
+      ∙ (ap (λ l. before ++ l) (map-append (λ (f : ShardEntry). f.access) x.log (e ∷ []))
+      ∙ sym (append_assoc before (accesses_of x.log) (a ∷ [])))
 
   -- orders that agree with the longer lists agree with the shorter ones
   agree_old : (down right : NodeId → ℕ) → AgreeOnLog marks y.lists y.log down right → AgreeOnLog marks x.lists x.log down right
@@ -153,18 +172,21 @@ module _ (before : List Access) (store : InitialStore) (marks : NodeId → Marks
 
   kept_new : (o p : Option Who) → IfSome o (IsOfLog marks x.log) → IfSome p (IsEither o who) → IfSome p (IsOfLog marks y.log)
   kept_new o None ho hp = tt
-  kept_new o (Some w) ho hp = ⊎_elim (λ (s : w ≡ who). (e, in_new, s ∙ who_is)) (λ (s : o ≡ Some w). kept_old w (subst (λ z. IfSome z (IsOfLog marks x.log)) s ho)) hp
+  kept_new o (Some w) ho hp = ⊎_elim (λ (s : w ≡ who). (e, in_new, s ∙ who_is))
+      (λ (s : o ≡ Some w). kept_old w (subst (λ z. IfSome z (IsOfLog marks x.log)) s ho)) hp
 
   -- the history of another cell
   other_history : (slot : ℕ) → slot ≢ a.cell.0 / 16 → IsCellHistory marks joined y.lists y.log (k + 16 * slot) (history_at y.histories slot)
   other_history slot ne =
       let old = h.histories slot in
       let c : a.cell.0 ≢ k + 16 * slot = λ s. ne (let z = own in omega (arith, s, z)) in
-      let same : noted_to (k + 16 * slot) y.log ≡ noted_to (k + 16 * slot) x.log = ap (noted_to (k + 16 * slot)) q.log ∙ noted_other (k + 16 * slot) x.log e c in
+      let same : noted_to (k + 16 * slot) y.log ≡ noted_to (k + 16 * slot) x.log = ap (noted_to (k + 16 * slot)) q.log
+      ∙ noted_other (k + 16 * slot) x.log e c in
       let hist : history_at y.histories slot ≡ history_at x.histories slot = q.noted.others slot ne in
       subst (λ z. IsCellHistory marks joined y.lists y.log (k + 16 * slot) z) (sym hist) (record {
         kept = all_kept (IsOfLog marks x.log) (IsOfLog marks y.log) (history_at x.histories slot) kept_old old.kept;
-        after = λ down right agree known. subst (λ l. IsHistoryAfter down right l (history_at x.histories slot)) (sym same) (old.after down right (agree_old down right agree) (known_old down right known));
+        after = λ down right agree known. subst (λ l. IsHistoryAfter down right l (history_at x.histories slot)) (sym same)
+            (old.after down right (agree_old down right agree) (known_old down right known));
       })
 
   own_history : IsCellHistory marks joined y.lists y.log (k + 16 * (a.cell.0 / 16)) (history_at y.histories (a.cell.0 / 16))
@@ -172,12 +194,15 @@ module _ (before : List Access) (store : InitialStore) (marks : NodeId → Marks
       let slot = a.cell.0 / 16 in
       let old = h.histories slot in
       let c : a.cell.0 ≡ k + 16 * slot = (let z = own in omega (arith, z)) in
-      let same : noted_to (k + 16 * slot) y.log ≡ noted_to (k + 16 * slot) x.log ++ noted_access who.node a.kind ∷ [] = ap (noted_to (k + 16 * slot)) q.log ∙ noted_more (k + 16 * slot) x.log e c in
+      let same : noted_to (k + 16 * slot) y.log ≡ noted_to (k + 16 * slot) x.log ++ noted_access who.node a.kind ∷ [] =
+      ap (noted_to (k + 16 * slot)) q.log ∙ noted_more (k + 16 * slot) x.log e c in
       record {
         kept = record {
           writer = kept_new (history_at x.histories slot).writer (history_at y.histories slot).writer old.kept.writer q.noted.each.writer;
-          rightmost = kept_new (history_at x.histories slot).rightmost (history_at y.histories slot).rightmost old.kept.rightmost q.noted.each.rightmost;
-          downmost = kept_new (history_at x.histories slot).downmost (history_at y.histories slot).downmost old.kept.downmost q.noted.each.downmost;
+          rightmost = kept_new (history_at x.histories slot).rightmost (history_at y.histories slot).rightmost old.kept.rightmost
+              q.noted.each.rightmost;
+          downmost = kept_new (history_at x.histories slot).downmost (history_at y.histories slot).downmost old.kept.downmost
+              q.noted.each.downmost;
         };
         after = λ down right agree known. subst (λ l. IsHistoryAfter down right l (history_at y.histories slot)) (sym same)
             (q.noted.step down right
@@ -188,23 +213,29 @@ module _ (before : List Access) (store : InitialStore) (marks : NodeId → Marks
             (noted_to (k + 16 * slot) x.log) (old.after down right (agree_old down right agree) (known_old down right known)));
       }
     where
-      known_kept : (down right : NodeId → ℕ) → AgreeOnKnownLog joined y.log down right → (w : Who) → IsOfLog marks x.log w → AgreeOnKnown (Some index) down right who.node w.node
+      known_kept : (down right : NodeId → ℕ) → AgreeOnKnownLog joined y.log down right → (w : Who) → IsOfLog marks x.log w
+          → AgreeOnKnown (Some index) down right who.node w.node
       known_kept down right known w p =
-          subst (λ n. AgreeOnKnown (Some n) down right who.node w.node) (sym joins) (subst (λ (u : Who). AgreeOnKnown (Some (joined who.node)) down right who.node u.node) (sym p.2) (known e p.0 in_new (in_old p.0 p.1)))
+          subst (λ n. AgreeOnKnown (Some n) down right who.node w.node) (sym joins)
+          (subst (λ (u : Who). AgreeOnKnown (Some (joined who.node)) down right who.node u.node) (sym p.2)
+          (known e p.0 in_new (in_old p.0 p.1)))
 
-      agree_kept : (down right : NodeId → ℕ) → AgreeOnLog marks y.lists y.log down right → (w : Who) → IsOfLog marks x.log w → AgreeOn (down_list x.lists) (right_list x.lists) down right who w
+      agree_kept : (down right : NodeId → ℕ) → AgreeOnLog marks y.lists y.log down right → (w : Who) → IsOfLog marks x.log w
+          → AgreeOn (down_list x.lists) (right_list x.lists) down right who w
       agree_kept down right agree w p =
           let both = agree e p.0 in_new (in_old p.0 p.1) in
           let w' : Who = who_of marks p.0 in
           let there = h.seen p.0 p.1 in
-          let mark : AreIn (down_list x.lists) (right_list x.lists) (marks who.node) = subst (λ (m : Marks). AreIn (down_list x.lists) (right_list x.lists) m) mine known in
+          let mark : AreIn (down_list x.lists) (right_list x.lists) (marks who.node) =
+          subst (λ (m : Marks). AreIn (down_list x.lists) (right_list x.lists) m) mine known in
           let d = q.noted.lists.down.order w'.marks.down_first (marks who.node).down_first there.down mark.down in
           let r = q.noted.lists.right.order w'.marks.right_first (marks who.node).right_first there.right mark.right in
           let old : AgreeOn (down_list x.lists) (right_list x.lists) down right (who_of marks e) w' = record {
             in_down = ((λ z. both.in_down.0 (d.1 z)), (λ z. d.0 (both.in_down.1 z)));
             in_right = ((λ z. both.in_right.0 (r.1 z)), (λ z. r.0 (both.in_right.1 z)));
           } in
-          subst (λ (u : Who). AgreeOn (down_list x.lists) (right_list x.lists) down right u w) (sym who_is) (subst (λ (u : Who). AgreeOn (down_list x.lists) (right_list x.lists) down right (who_of marks e) u) (sym p.2) old)
+          subst (λ (u : Who). AgreeOn (down_list x.lists) (right_list x.lists) down right u w) (sym who_is)
+          (subst (λ (u : Who). AgreeOn (down_list x.lists) (right_list x.lists) down right (who_of marks e) u) (sym p.2) old)
 
   pub shard_accessed : IsShardOf before store marks joined k y
   shard_accessed = record {
@@ -215,22 +246,38 @@ module _ (before : List Access) (store : InitialStore) (marks : NodeId → Marks
     there = λ f m. subst (λ n. f.access.cell.0 < n) (sym (ap (λ (z : _). z.cells) q.part))
         (each_more (λ (g : ShardEntry). g.access.cell.0 < x.cells.shard.cells) x.log e h.there declared f (subst (λ l. Among f l) q.log m));
     replies = λ front rest f s. ⊎_elim
-        (λ (t : (x.log ≡ front) × (e ≡ f)). subst (λ (g : ShardEntry). HasReply store (before ++ accesses_of front) g.access) t.1 (subst (λ l. HasReply store (before ++ accesses_of l) a) t.0 (q.reply store (before ++ accesses_of x.log) h.cells)))
+        (λ (t : (x.log ≡ front) × (e ≡ f)). subst (λ (g : ShardEntry). HasReply store (before ++ accesses_of front) g.access) t.1
+        (subst (λ l. HasReply store (before ++ accesses_of l) a) t.0 (q.reply store (before ++ accesses_of x.log) h.cells)))
         (λ (t : (rest' : List ShardEntry) × (x.log ≡ front ++ f ∷ rest')). h.replies front t.0 f t.1)
         (split_last x.log e front f rest (sym q.log ∙ s));
-    rises = rw q.log (all_pairs_push (λ (f : ShardEntry) (g : ShardEntry). f.ticket < g.ticket) x.log e h.rises (λ n d l. (let m = h.most (get_or x.log n d) (among_at x.log n d l) in omega (arith, m, later))));
+    rises = rw q.log (all_pairs_push (λ (f : ShardEntry) (g : ShardEntry). f.ticket < g.ticket) x.log e h.rises
+        (λ n d l. (let m = h.most (get_or x.log n d) (among_at x.log n d l) in omega (arith, m, later))));
     last = q.last ∙ (sym (last_more x.log e) ∙ ap last_of (sym q.log));
-    most = λ f m. each_more (λ (g : ShardEntry). g.ticket ≤ y.last) x.log e (λ g n. (let z = h.most g n in let w = q.last in omega (arith, z, w, later))) (let w = q.last in omega (arith, w)) f (subst (λ l. Among f l) q.log m);
+    most = λ f m. each_more (λ (g : ShardEntry). g.ticket ≤ y.last) x.log e
+        (λ g n. (let z = h.most g n in let w = q.last in omega (arith, z, w, later))) (let w = q.last in omega (arith, w)) f
+        (subst (λ l. Among f l) q.log m);
     bound = let w = q.last in omega (arith, w, bound);
     seen = λ f m. each_more (λ (g : ShardEntry). AreIn (down_list y.lists) (right_list y.lists) (marks g.node)) x.log e
-        (λ g n. (let z = h.seen g n in record { down = q.noted.lists.down.elements (marks g.node).down_first z.down; right = q.noted.lists.right.elements (marks g.node).right_first z.right }))
-        (subst (λ (m : Marks). AreIn (down_list y.lists) (right_list y.lists) m) mine (record { down = q.noted.lists.down.elements who.marks.down_first known.down; right = q.noted.lists.right.elements who.marks.right_first known.right })) f (subst (λ l. Among f l) q.log m);
+        (λ g n. (let z = h.seen g n in record {
+          down = q.noted.lists.down.elements (marks g.node).down_first z.down;
+          right =
+              q.noted.lists.right.elements (marks g.node).right_first z.right;
+        }))
+        (subst (λ (m : Marks). AreIn (down_list y.lists) (right_list y.lists) m) mine
+        (record {
+          down = q.noted.lists.down.elements who.marks.down_first known.down;
+          right =
+              q.noted.lists.right.elements who.marks.right_first known.right;
+        })) f (subst (λ l. Among f l) q.log m);
     room = (let z = h.room in let w = q.noted.len in let p = ap (λ (s : _). s.cells) q.part in omega (arith, z, w, p));
-    histories = λ slot. dite (ℕ_discrete slot (a.cell.0 / 16)) (λ s. subst (λ n. IsCellHistory marks joined y.lists y.log (k + 16 * n) (history_at y.histories n)) (sym s) own_history) (λ ne. other_history slot ne);
+    histories = λ slot. dite (ℕ_discrete slot (a.cell.0 / 16))
+        (λ s. subst (λ n. IsCellHistory marks joined y.lists y.log (k + 16 * n) (history_at y.histories n)) (sym s) own_history)
+        (λ ne. other_history slot ne);
   }
 
 -- a shard whose passes have seen more
-pub shard_met : (before : List Access) (store : InitialStore) (marks : NodeId → Marks) (joined : NodeId → ℕ) (k : ℕ) (x : ShardValue) (lists : SeenLists) → GrowLists x.lists lists
+pub shard_met : (before : List Access) (store : InitialStore) (marks : NodeId → Marks) (joined : NodeId → ℕ) (k : ℕ) (x : ShardValue)
+    (lists : SeenLists) → GrowLists x.lists lists
     → IsShardOf before store marks joined k x → IsShardOf before store marks joined k (record x { lists = lists })
 shard_met before store marks joined k x lists g h = record {
   number = h.number;
@@ -243,7 +290,11 @@ shard_met before store marks joined k x lists g h = record {
   last = h.last;
   most = h.most;
   bound = h.bound;
-  seen = λ f m. (let z = h.seen f m in record { down = g.down.elements (marks f.node).down_first z.down; right = g.right.elements (marks f.node).right_first z.right });
+  seen = λ f m. (let z = h.seen f m in record {
+    down = g.down.elements (marks f.node).down_first z.down;
+    right =
+        g.right.elements (marks f.node).right_first z.right;
+  });
   room = h.room;
   histories = λ slot. (let old = h.histories slot in record {
     kept = old.kept;
@@ -264,9 +315,14 @@ shard_met before store marks joined k x lists g h = record {
 
 -- the seat's data after an access
 abbrev pub run_accessed : InstanceData → ℕ → Access → InstanceData
-run_accessed d ticket a = record d { fields = record d.fields { now = ticket }; entries = d.entries ++ record { ticket = ticket; access = a } ∷ [] }
+run_accessed d ticket a = record d {
+  fields = record d.fields { now = ticket };
+  entries = d.entries
+      ++ record { ticket = ticket; access = a } ∷ [];
+}
 
-pub run_accessed_is : (b : BookState) (d : InstanceData) (ticket : ℕ) (a : Access) → d.fields.now < ticket → ticket ≤ 2 ^ 62 → KnowsInstance b d → KnowsInstance b (run_accessed d ticket a)
+pub run_accessed_is : (b : BookState) (d : InstanceData) (ticket : ℕ) (a : Access) → d.fields.now < ticket → ticket ≤ 2 ^ 62
+    → KnowsInstance b d → KnowsInstance b (run_accessed d ticket a)
 run_accessed_is b d ticket a later bound h =
     let e : Entry = record { ticket = ticket; access = a } in
     let s = h.started in
@@ -274,7 +330,14 @@ run_accessed_is b d ticket a later bound h =
     record {
       out = record {
         out = h.out.out;
-        token = record { running = h.out.token.running; index = h.out.token.index; marks = h.out.token.marks; joined = h.out.token.joined; folded = h.out.token.folded };
+        token = record {
+          running = h.out.token.running;
+          index = h.out.token.index;
+          marks = h.out.token.marks;
+          joined =
+              h.out.token.joined;
+          folded = h.out.token.folded;
+        };
         now = omega (arith, bound);
       };
       replies = h.replies;
@@ -285,11 +348,14 @@ run_accessed_is b d ticket a later bound h =
           let l = h.to_now t.0 t.1 in
           let z = ap (λ (u : TimedAction). u.ticket) t.2 in
           omega (arith, l, z, later))));
-      from_start = each_more (λ (f : Entry). (n : ℕ) × (start_ticket_of b.log d.fields.iteration d.fields.index ≡ Some n) × (n < f.ticket)) d.entries e h.from_start (s.ticket, s.is, omega (arith, early, later));
-      to_now = each_more (λ (f : Entry). f.ticket ≤ ticket) d.entries e (λ f m. (let l = h.to_now f m in omega (arith, l, later))) (omega arith);
+      from_start = each_more (λ (f : Entry). (n : ℕ) × (start_ticket_of b.log d.fields.iteration d.fields.index ≡ Some n) × (n < f.ticket))
+          d.entries e h.from_start (s.ticket, s.is, omega (arith, early, later));
+      to_now = each_more (λ (f : Entry). f.ticket ≤ ticket) d.entries e (λ f m. (let l = h.to_now f m in omega (arith, l, later)))
+          (omega arith);
     }
 
-module _ (before : List Access) (b : BookState) (seats : ℕ → Option InstanceData) (d : InstanceData) (ticket : ℕ) (a : Access) (h : HasSeats b seats) (is : seats d.fields.iteration ≡ Some d)
+module _ (before : List Access) (b : BookState) (seats : ℕ → Option InstanceData) (d : InstanceData) (ticket : ℕ) (a : Access)
+    (h : HasSeats b seats) (is : seats d.fields.iteration ≡ Some d)
     (later : d.fields.now < ticket) (bound : ticket ≤ 2 ^ 62) where
   abbrev i : ℕ
   i = d.fields.iteration
@@ -308,9 +374,11 @@ module _ (before : List Access) (b : BookState) (seats : ℕ → Option Instance
     traces = h.traces;
     run = λ j f e. dite (ℕ_discrete j i)
         (λ s. (let q : Some d' ≡ Some f = sym (with_here seats i (Some d')) ∙ (ap seats' (sym s) ∙ e) in let z : d' ≡ f = cc in
-        subst (λ (g : InstanceData). (g.fields.iteration ≡ j) × KnowsInstance b g) z (sym s, run_accessed_is b d ticket a later bound (h.run i d is).1)))
+        subst (λ (g : InstanceData). (g.fields.iteration ≡ j) × KnowsInstance b g) z
+        (sym s, run_accessed_is b d ticket a later bound (h.run i d is).1)))
         (λ ne. h.run j f (sym (with_else seats i (Some d') j ne) ∙ e));
-    out = λ j o. dite (ℕ_discrete j i) (λ s. (d', ap seats' s ∙ with_here seats i (Some d'))) (λ ne. (let q = h.out j o in (q.0, with_else seats i (Some d') j ne ∙ q.1)));
+    out = λ j o. dite (ℕ_discrete j i) (λ s. (d', ap seats' s ∙ with_here seats i (Some d')))
+        (λ ne. (let q = h.out j o in (q.0, with_else seats i (Some d') j ne ∙ q.1)));
     timely = h.timely;
     kept = h.kept;
   }
@@ -323,7 +391,8 @@ module _ (before : List Access) (b : BookState) (seats : ℕ → Option Instance
   trace_here =
       ap (λ o. trace_by b o i d.fields.index) (with_here seats i (Some d'))
       ∙ (ap (λ t. cond t (d.entries ++ entry ∷ []) (book_trace b i d.fields.index)) (eq-eqb d.fields.index d.fields.index refl)
-      ∙ (ap (λ l. l ++ entry ∷ []) (sym (ap (λ t. cond t d.entries (book_trace b i d.fields.index)) (eq-eqb d.fields.index d.fields.index refl)))
+      ∙ (ap (λ l. l ++ entry ∷ []) (sym (ap (λ t. cond t d.entries (book_trace b i d.fields.index))
+      (eq-eqb d.fields.index d.fields.index refl)))
       ∙ ap (λ o. trace_by b o i d.fields.index ++ entry ∷ []) (sym is)))
 
   -- the others are the same
@@ -331,8 +400,10 @@ module _ (before : List Access) (b : BookState) (seats : ℕ → Option Instance
   trace_other j n ne = dite (ℕ_discrete j i)
       (λ s. (
       let far : d.fields.index ≢ n = λ z. ne s (sym z) in
-      let new : trace_by b (seats' j) j n ≡ book_trace b j n = ap (λ o. trace_by b o j n) (ap seats' s ∙ with_here seats i (Some d')) ∙ ap (λ t. cond t (d.entries ++ entry ∷ []) (book_trace b j n)) (ne_eqb d.fields.index n far) in
-      let old : trace_by b (seats j) j n ≡ book_trace b j n = ap (λ o. trace_by b o j n) (ap seats s ∙ is) ∙ ap (λ t. cond t d.entries (book_trace b j n)) (ne_eqb d.fields.index n far) in
+      let new : trace_by b (seats' j) j n ≡ book_trace b j n = ap (λ o. trace_by b o j n) (ap seats' s ∙ with_here seats i (Some d'))
+      ∙ ap (λ t. cond t (d.entries ++ entry ∷ []) (book_trace b j n)) (ne_eqb d.fields.index n far) in
+      let old : trace_by b (seats j) j n ≡ book_trace b j n = ap (λ o. trace_by b o j n) (ap seats s ∙ is)
+      ∙ ap (λ t. cond t d.entries (book_trace b j n)) (ne_eqb d.fields.index n far) in
       new ∙ sym old))
       (λ other. ap (λ o. trace_by b o j n) (with_else seats i (Some d') j other))
 
@@ -353,7 +424,8 @@ module _ (before : List Access) (b : BookState) (seats : ℕ → Option Instance
   }
 
   -- the shard of the cell
-  pub own_shard : (k : ℕ) (x y : ShardValue) → a.cell.0 % 16 ≡ k → HasShard before b seats k x → y.log ≡ x.log ++ record { ticket = ticket; node = at i d.fields.index; access = a } ∷ []
+  pub own_shard : (k : ℕ) (x y : ShardValue) → a.cell.0 % 16 ≡ k → HasShard before b seats k x
+      → y.log ≡ x.log ++ record { ticket = ticket; node = at i d.fields.index; access = a } ∷ []
       → (y.lists.down ≡ x.lists.down) × (y.lists.right ≡ x.lists.right) → IsStarted (starts_of (events_of b.log)) (at i d.fields.index)
       → IsShardOf before (store_of (tree_of b.program)) (marks_in b) (joined_in b) k y → HasShard before b seats' k y
   own_shard k x y own q log lists begun new = record {
@@ -366,9 +438,12 @@ module _ (before : List Access) (b : BookState) (seats : ℕ → Option Instance
         ∙ subst (λ p. of_shard k (trace_by b (seats p) p n) ++ entry ∷ [] ≡ of_shard k (trace_by b (seats' p) p n)) (sym s)
         (subst (λ m. of_shard k (trace_by b (seats i) i m) ++ entry ∷ [] ≡ of_shard k (trace_by b (seats' i) i m)) (sym z)
         (sym (ap (of_shard k) trace_here ∙ of_shard_more k (trace_by b (seats i) i d.fields.index) entry own)))))
-        (λ far. of_node_other j n x.log e (ap₂ (λ p r. p && r) (eq-eqb i j (sym s)) (ne_eqb d.fields.index n (λ z. far (sym z)))) ∙ (q.traces j n ∙ sym (ap (of_shard k) (trace_other j n (λ _ z. far z))))))
-        (λ other. of_node_other j n x.log e (ap (λ p. p && (d.fields.index == n)) (ne_eqb i j (λ z. other (sym z)))) ∙ (q.traces j n ∙ sym (ap (of_shard k) (trace_other j n (λ s _. other s)))));
-    started = λ f m. each_more (λ (g : ShardEntry). IsStarted (starts_of (events_of b.log)) g.node) x.log e q.started begun f (subst (λ l. Among f l) log m);
+        (λ far. of_node_other j n x.log e (ap₂ (λ p r. p && r) (eq-eqb i j (sym s)) (ne_eqb d.fields.index n (λ z. far (sym z))))
+        ∙ (q.traces j n ∙ sym (ap (of_shard k) (trace_other j n (λ _ z. far z))))))
+        (λ other. of_node_other j n x.log e (ap (λ p. p && (d.fields.index == n)) (ne_eqb i j (λ z. other (sym z))))
+        ∙ (q.traces j n ∙ sym (ap (of_shard k) (trace_other j n (λ s _. other s)))));
+    started = λ f m. each_more (λ (g : ShardEntry). IsStarted (starts_of (events_of b.log)) g.node) x.log e q.started begun f
+        (subst (λ l. Among f l) log m);
   }
     where
       e : ShardEntry

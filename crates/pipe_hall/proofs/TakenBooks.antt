@@ -35,7 +35,8 @@ use Rattle.pipe_hall.proofs.EndingCalls.{ends_not_stopped, finishes, holds_back,
 
 -- by a seat that was idle, and may have taken in an instance's seat since
 module _ (M : Type 0) (m k n : ViewAndSlots M) (b : BookState) (back : Option InstanceData) (idle : IsIdle m)
-    (constants : k.0.it.constants ≡ m.0.it.constants) (seen : k.0.it.seen ≡ m.0.it.seen) (held : k.0.it.held ≡ m.0.it.held) (empty : k.1 ≡ m.1) (run : k.0.it.run ≡ back)
+    (constants : k.0.it.constants ≡ m.0.it.constants) (seen : k.0.it.seen ≡ m.0.it.seen) (held : k.0.it.held ≡ m.0.it.held)
+    (empty : k.1 ≡ m.1) (run : k.0.it.run ≡ back)
     (counts : k.0.it.tokens ≡ counts_with back m.0.it.tokens)
     (taken : n ≡ (view_of (holding k.0.it 0 (TheBook b)), (0, slots.Out) ∷ k.1)) (shot : BookSnapshot k.0.it 0 b) where
   knew : m.0.it.constants ≡ Some (constants_of b)
@@ -63,12 +64,14 @@ module _ (M : Type 0) (m n : ViewAndSlots M) (b x : BookState) where
   pub lent_of : (back : Option InstanceData) → x ≡ b → HasTaken m n b back → HasTaken m n x back
   lent_of back e h = subst (λ y. HasTaken m n y back) (sym e) h
 
-  pub lent_with : (f : TokenFields) (t : Tie) → x ≡ b → (d : InstanceData) × HasTaken m n b (Some d) × IsDataOf b f t d → (d : InstanceData) × HasTaken m n x (Some d) × IsDataOf x f t d
+  pub lent_with : (f : TokenFields) (t : Tie) → x ≡ b → (d : InstanceData) × HasTaken m n b (Some d) × IsDataOf b f t d
+      → (d : InstanceData) × HasTaken m n x (Some d) × IsDataOf x f t d
   lent_with f t e h = (h.0, subst (λ y. HasTaken m n y (Some h.0)) (sym e) h.1, subst (λ y. IsDataOf y f t h.0) (sym e) h.2)
 
 -- ---- the book is given back
 
-module _ (M : Type 0) (m n : ViewAndSlots M) (b : BookState) (back : Option InstanceData) (h : HasTaken m n b back) (z : ViewAndSlots M) (c : BookState)
+module _ (M : Type 0) (m n : ViewAndSlots M) (b : BookState) (back : Option InstanceData) (h : HasTaken m n b back) (z : ViewAndSlots M)
+    (c : BookState)
     (counts : TokenCounts) (given : z ≡ (view_of (record (after_book n.0.it c None) { tokens = counts }), [])) where
   pub seen_after : z.0.it.seen ≡ events_of c.log
   seen_after = ap (λ (x : ViewAndSlots M). x.0.it.seen) given
@@ -89,11 +92,13 @@ module _ (M : Type 0) (m n : ViewAndSlots M) (b : BookState) (back : Option Inst
         constants = knows ∙ sym h.knew;
       }
 
-  pub sees : (own : List Event) (Returns : State → Type 0) → events_of c.log ≡ events_of b.log ++ own → Returns (state_of b) → Sees m.0.it.seen z.0.it.seen own Returns
+  pub sees : (own : List Event) (Returns : State → Type 0) → events_of c.log ≡ events_of b.log ++ own → Returns (state_of b)
+      → Sees m.0.it.seen z.0.it.seen own Returns
   sees own Returns adds r = record { base = events_of b.log; later = h.seen; adds = seen_after ∙ adds; returns = r }
 
 -- the name of the hall, by the book
-pub name_is : {M : Type 0} (id : TableId) (m n : ViewAndSlots M) (b : BookState) (back : Option InstanceData) → HasTaken m n b back → name_of id m.0.it.constants ≡ name_of id (Some (constants_of b))
+pub name_is : {M : Type 0} (id : TableId) (m n : ViewAndSlots M) (b : BookState) (back : Option InstanceData) → HasTaken m n b back
+    → name_of id m.0.it.constants ≡ name_of id (Some (constants_of b))
 name_is id m n b back h = ap (name_of id) h.knew
 
 -- ---- results without a token
@@ -110,7 +115,8 @@ same_events b c e = ap (λ (x : BookState). events_of x.log) e ∙ sym (append-n
 unchanged : (b c : BookState) → c ≡ b → IsBookCall b None c None
 unchanged b c e = subst (λ x. IsBookCall b None x None) (sym e) (unchanged_call b)
 
-pub nothing_begun : {M : Type 0} (b c : BookState) (r : Begun M) → ((t : FrameToken M) → r ≡ begun.Started t → ⊥) → c ≡ after_begin b r → NothingBegun b c r
+pub nothing_begun : {M : Type 0} (b c : BookState) (r : Begun M) → ((t : FrameToken M) → r ≡ begun.Started t → ⊥) → c ≡ after_begin b r
+    → NothingBegun b c r
 nothing_begun b c begun.Stopped none e = record { call = unchanged b c e; constants = ap constants_of e; adds = same_events b c e }
 nothing_begun b c begun.Closed none e = record { call = unchanged b c e; constants = ap constants_of e; adds = same_events b c e }
 nothing_begun b c begun.NotYet none e = record { call = unchanged b c e; constants = ap constants_of e; adds = same_events b c e }
@@ -123,7 +129,8 @@ pub record NothingFound {M : Type 0} (b c : BookState) (r : Rescue M) : Type 0 w
   pub constants : constants_of c ≡ constants_of b
   pub adds : events_of c.log ≡ events_of b.log ++ rescue_events (state_of b) r
 
-pub nothing_found : {M : Type 0} (b c : BookState) (r : Rescue M) → ((t : FrameToken M) → r ≡ rescue.Token t → ⊥) → c ≡ after_rescue b r → NothingFound b c r
+pub nothing_found : {M : Type 0} (b c : BookState) (r : Rescue M) → ((t : FrameToken M) → r ≡ rescue.Token t → ⊥) → c ≡ after_rescue b r
+    → NothingFound b c r
 nothing_found b c rescue.Stopped none e = record { call = unchanged b c e; constants = ap constants_of e; adds = same_events b c e }
 nothing_found b c rescue.Finished none e = record { call = unchanged b c e; constants = ap constants_of e; adds = same_events b c e }
 nothing_found b c (rescue.Token t) none e = absurd (none t refl)
@@ -131,7 +138,8 @@ nothing_found b c rescue.MayBegin none e = record { call = unchanged b c e; cons
 nothing_found b c rescue.Nothing none e = record { call = unchanged b c e; constants = ap constants_of e; adds = same_events b c e }
 
 -- an instance has ended, and its token is in the book, or spent
-pub ended_without : {M : Type 0} (b c : BookState) (d : InstanceData) (f : TokenFields) (trace : List Entry) (end : StageEnd) (r : Next M) → ((t : FrameToken M) → r ≡ nexts.Go t → ⊥)
+pub ended_without : {M : Type 0} (b c : BookState) (d : InstanceData) (f : TokenFields) (trace : List Entry) (end : StageEnd) (r : Next M)
+    → ((t : FrameToken M) → r ≡ nexts.Go t → ⊥)
     → d.fields ≡ f → d.entries ≡ trace → AdvanceReturns (state_of b) f.iteration f.index end r → c ≡ after_advance b f end trace r
     → ControlRun c.limit (events_of c.log) (state_of c) → HasRisingTickets c.log → IsBookCall b (Some d) c None
 ended_without b c d f trace end nexts.Stopped none sf st returned e control rise = holds_back b c d f trace end (Kept f) _ sf st refl e
@@ -141,9 +149,14 @@ ended_without b c d f trace end nexts.Suspended none sf st returned e control ri
     finishes b c d f trace end _ _ sf st (waits_not_stopped (state_of b) f.iteration end returned.1) (λ q. cc) e control rise
 ended_without b c d f trace end (nexts.Go t) none sf st returned e control rise = absurd (none t refl)
 
-pub advanced : {M : Type 0} (b c : BookState) (f : TokenFields) (trace : List Entry) (end : StageEnd) (r : Next M) → c ≡ after_advance b f end trace r
+pub advanced : {M : Type 0} (b c : BookState) (f : TokenFields) (trace : List Entry) (end : StageEnd) (r : Next M)
+    → c ≡ after_advance b f end trace r
     → (constants_of c ≡ constants_of b) × (events_of c.log ≡ events_of b.log ++ advance_events f.iteration end r)
-advanced b c f trace end r e = (ap constants_of e, ap (λ (x : BookState). events_of x.log) e ∙ events_stamped b.log f.now (advance_events f.iteration end r))
+advanced b c f trace end r e = (
+  ap constants_of e,
+  ap (λ (x : BookState). events_of x.log) e
+      ∙ events_stamped b.log f.now (advance_events f.iteration end r),
+)
 
 -- a fact of a token that is not there
 pub none_started : {M : Type 0} (r : Begun M) (P : FrameToken M → Type 0) → ((t : FrameToken M) → r ≡ begun.Started t → ⊥) → IfStarted r P

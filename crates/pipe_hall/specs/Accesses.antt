@@ -41,10 +41,12 @@ pub record CanBegin (x : ShardValue) (c : ℕ) : Type 0 where
 abbrev pub IsNotedStep : Who → ℕ → AccessKind → SeenLists → History → History → Type 0
 IsNotedStep who joined kind old h k = (down right : NodeId → ℕ) → AgreeOnKept (down_list old) (right_list old) down right who h
     → AgreeOnKnownKept (Some joined) down right who.node h
-    → (accesses : List NotedAccess) → IsHistoryAfter down right accesses h → IsHistoryAfter down right (accesses ++ noted_access who.node kind ∷ []) k
+    → (accesses : List NotedAccess) → IsHistoryAfter down right accesses h → IsHistoryAfter down right
+    (accesses ++ noted_access who.node kind ∷ []) k
 
 -- one more access is noted in the history at a slot
-pub record IsNoted (who : Who) (joined : ℕ) (kind : AccessKind) (slot : ℕ) (old new : SeenLists) (histories after : List History) : Type 0 where
+pub record IsNoted (who : Who) (joined : ℕ) (kind : AccessKind) (slot : ℕ) (old new : SeenLists)
+    (histories after : List History) : Type 0 where
   pub lists : GrowLists old new
   pub len : length after ≡ length histories
   pub others : (n : ℕ) → n ≢ slot → history_at after n ≡ history_at histories n
@@ -55,7 +57,8 @@ pub record IsNoted (who : Who) (joined : ℕ) (kind : AccessKind) (slot : ℕ) (
 pub record IsAccessed (who : Who) (joined ticket : ℕ) (a : Access) (x y : ShardValue) : Type 0 where
   pub number : y.number ≡ x.number
   pub part : y.cells.shard ≡ x.cells.shard
-  pub cells : (store : InitialStore) (before : List Access) → IsStateAfter store before x.cells → IsStateAfter store (before ++ a ∷ []) y.cells
+  pub cells : (store : InitialStore) (before : List Access) → IsStateAfter store before x.cells
+      → IsStateAfter store (before ++ a ∷ []) y.cells
   pub reply : (store : InitialStore) (before : List Access) → IsStateAfter store before x.cells → HasReply store before a
   pub log : y.log ≡ x.log ++ record { ticket = ticket; node = who.node; access = a } ∷ []
   pub last : y.last ≡ ticket

@@ -28,7 +28,8 @@ pub record LeavesOthers (b c : BookState) (i : ℕ) : Type 0 where
   pub joins : (x : NodeId) → IsStarted (starts_of (events_of b.log)) x → joined_in c x ≡ joined_in b x
 
 -- what is known of iteration i afterwards
-pub record IsIterationAfter (b : BookState) (back : Option InstanceData) (c : BookState) (given : Option InstanceData) (i : ℕ) : Type 0 where
+pub record IsIterationAfter (b : BookState) (back : Option InstanceData) (c : BookState) (given : Option InstanceData)
+    (i : ℕ) : Type 0 where
   pub run : (d : InstanceData) → given ≡ Some d → (d.fields.iteration ≡ i) × KnowsInstance c d
   pub out : IsOut c i → (d : InstanceData) × (given ≡ Some d)
   pub timely : (k : ℕ) → IsTimelyTrace c i k

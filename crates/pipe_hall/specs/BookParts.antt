@@ -14,7 +14,8 @@ use Rattle.pipe_model.specs.Runs.TicketLogs.{TimedAction, TicketsRise}
 use Rattle.pipe_model.specs.Runs.TicketOrder.{start_ticket_of, end_ticket_of}
 use Rattle.pipe_frame.specs.RunningTokens.{left_joined}
 use Rattle.pipe_frame.specs.TokenFields.{TokenFields}
-use Rattle.frame_book.specs.BookStates.{BookState, HasRisingTickets, IsOut, Spent, Kept, events_of, item_or, made, replies_at, state_of, timed_access}
+use Rattle.frame_book.specs.BookStates.{BookState, HasRisingTickets, IsOut, Spent, Kept, events_of, item_or, made, replies_at, state_of}
+use Rattle.frame_book.specs.BookStates.{timed_access}
 use Rattle.frame_book.specs.GivenTokens.{IsOutOf}
 use Rattle.pipe_hall.specs.SeatViews.{InstanceData}
 
@@ -39,7 +40,8 @@ pub record KnowsInstance (b : BookState) (d : InstanceData) : Type 0 where
   pub parts : length d.replies ≡ d.fields.index
   pub started : StartedBy b.log d.fields.iteration d.fields.index d.fields.now
   pub rise : TicketsRise (map timed_access d.entries)
-  pub from_start : (e : Entry) → Among e d.entries → (s : ℕ) × (start_ticket_of b.log d.fields.iteration d.fields.index ≡ Some s) × (s < e.ticket)
+  pub from_start : (e : Entry) → Among e d.entries → (s : ℕ) × (start_ticket_of b.log d.fields.iteration d.fields.index ≡ Some s)
+      × (s < e.ticket)
   pub to_now : (e : Entry) → Among e d.entries → e.ticket ≤ d.fields.now
 
 -- the tickets of a trace of the book rise from the start of its instance to its end

@@ -44,11 +44,13 @@ raised b least = record b { log = with_last_raised b.log least }
 
 -- the shard's passes have seen the book's lists to their ends
 abbrev pub HasSeenAll : BookState → SeenLists → Type 0
-HasSeenAll b l = (l.down_log ≡ down_first_log (starts_of (events_of b.log))) × (l.right_log ≡ right_first_log (columns_after (events_of b.log)) (starts_of (events_of b.log)))
+HasSeenAll b l = (l.down_log ≡ down_first_log (starts_of (events_of b.log)))
+    × (l.right_log ≡ right_first_log (columns_after (events_of b.log)) (starts_of (events_of b.log)))
 
 -- each history is that of the accesses to its cell, by the orders of the two lists
 abbrev pub HasHistories : BookState → ℕ → ShardValue → Type 0
-HasHistories b k x = (slot : ℕ) → IsHistoryAfter (down_place (starts_of (events_of b.log))) (right_place (columns_after (events_of b.log)) (starts_of (events_of b.log)))
+HasHistories b k x = (slot : ℕ) → IsHistoryAfter (down_place (starts_of (events_of b.log)))
+    (right_place (columns_after (events_of b.log)) (starts_of (events_of b.log)))
     (noted_to (k + 16 * slot) x.log) (history_at x.histories slot)
 
 -- the shard's passes have seen the book's lists to their ends, and nothing else has changed
@@ -60,7 +62,8 @@ pub record HasLearned (b : BookState) (x y : ShardValue) : Type 0 where
 
 -- the ticket of a stop is greater than those of all accesses
 abbrev pub StopIsLast : BookState → (ℕ → ShardValue) → Type 0
-StopIsLast b shard = (state_of b).stopped ≡ true → (k : ℕ) → k < 16 → (e : ShardEntry) → Among e (shard k).log → e.ticket < last_ticket b.log
+StopIsLast b shard = (state_of b).stopped ≡ true → (k : ℕ) → k < 16 → (e : ShardEntry) → Among e (shard k).log
+    → e.ticket < last_ticket b.log
 
 -- what is known of a hall after its end: the facts of its rule, and each history is that of the accesses to its cell
 pub record EndedHall (start : HallStart) (seen : List Event) (b : BookState) (shard : ℕ → ShardValue) : Type 0 where

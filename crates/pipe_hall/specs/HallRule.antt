@@ -8,7 +8,8 @@ use Rattle.pipe_model.specs.Races.DeterminacyRaces.{Among}
 use Rattle.pipe_frame.specs.HallViews.{BeginsWith}
 use Rattle.pipe_frame.specs.TokenCounts.{no_tokens}
 use Rattle.frame_book.specs.BookStates.{BookState, events_of}
-use Rattle.pipe_hall.specs.SeatViews.{HallConstants, HallStart, InstanceData, SeatView, ShardValue, SlotValue, TheBook, TheShard, constants_of}
+use Rattle.pipe_hall.specs.SeatViews.{HallConstants, HallStart, InstanceData, SeatView, ShardValue, SlotValue, TheBook, TheShard}
+use Rattle.pipe_hall.specs.SeatViews.{constants_of}
 use Rattle.pipe_hall.specs.BookParts.{HasSeats}
 use Rattle.pipe_hall.specs.ShardParts.{HasShard}
 use Rattle.pipe_hall.specs.declared.view.View.{View}
@@ -45,7 +46,8 @@ value_at b shard zero = TheBook b
 value_at b shard (suc k) = TheShard (shard k)
 
 -- the lock at index i is free and its value is at home, or the lock is taken and the value is out
-pub record IsPlaced {M : Type 0} (words : List ℕ) (homes : List (mathlib.Core.Option.Option (Slot M))) (i : ℕ) (x : SlotValue) : Type 0 where
+pub record IsPlaced {M : Type 0} (words : List ℕ) (homes : List (mathlib.Core.Option.Option (Slot M))) (i : ℕ)
+    (x : SlotValue) : Type 0 where
   pub home : slice_index words i ≡ 0 → get_elem? homes i ≡ some (some (slot_of x))
   pub away : slice_index words i ≢ 0 → (slice_index words i ≡ 1) × (get_elem? homes i ≡ some none)
 
@@ -57,10 +59,12 @@ pub record IsRightView (words : List ℕ) (b : BookState) (shard : ℕ → Shard
   pub seen : BeginsWith (events_of b.log) v.seen
   pub met : BeginsWith (events_of b.log) v.met
   pub run : (d : InstanceData) → v.run ≡ Some d → (seats d.fields.iteration ≡ Some d) × (number d.fields.iteration ≡ j)
-  pub held : (i : ℕ) (x : SlotValue) → Among (i, x) v.held → (i < 17) × (holder i ≡ j) × (slice_index words (place i) ≡ 1) × (x ≡ value_at b shard i)
+  pub held : (i : ℕ) (x : SlotValue) → Among (i, x) v.held → (i < 17) × (holder i ≡ j) × (slice_index words (place i) ≡ 1)
+      × (x ≡ value_at b shard i)
 
 -- the locks and the seats of a table, around a book, shards and the data of the seats of running instances
-pub record Board {M : Type 0} (s : State (Slot M) View) (b : BookState) (shard : ℕ → ShardValue) (seats : ℕ → Option InstanceData) : Type 0 where
+pub record Board {M : Type 0} (s : State (Slot M) View) (b : BookState) (shard : ℕ → ShardValue)
+    (seats : ℕ → Option InstanceData) : Type 0 where
   pub number : ℕ → ℕ
   pub holder : ℕ → ℕ
   pub words : length s.words ≡ width

@@ -40,16 +40,19 @@ AgreeOnLog marks lists log down right = (e f : ShardEntry) → Among e log → A
 
 -- of two instances of the log, the orders have one before the other where an access counts it so without a question to the lists
 abbrev pub AgreeOnKnownLog : (NodeId → ℕ) → List ShardEntry → (NodeId → ℕ) → (NodeId → ℕ) → Type 0
-AgreeOnKnownLog joined log down right = (e f : ShardEntry) → Among e log → Among f log → AgreeOnKnown (Some (joined e.node)) down right e.node f.node
+AgreeOnKnownLog joined log down right = (e f : ShardEntry) → Among e log → Among f log → AgreeOnKnown
+    (Some (joined e.node)) down right e.node f.node
 
 -- a kept instance is that of an entry
 abbrev pub IsOfLog : (NodeId → Marks) → List ShardEntry → Who → Type 0
 IsOfLog marks log w = (e : ShardEntry) × Among e log × (w ≡ who_of marks e)
 
 -- the history of cell c is that of the accesses in the log, by any two orders that agree with the lists and with what is known without them
-pub record IsCellHistory (marks : NodeId → Marks) (joined : NodeId → ℕ) (lists : SeenLists) (log : List ShardEntry) (c : ℕ) (h : History) : Type 0 where
+pub record IsCellHistory (marks : NodeId → Marks) (joined : NodeId → ℕ) (lists : SeenLists) (log : List ShardEntry) (c : ℕ)
+    (h : History) : Type 0 where
   pub kept : AllKept (IsOfLog marks log) h
-  pub after : (down right : NodeId → ℕ) → AgreeOnLog marks lists log down right → AgreeOnKnownLog joined log down right → IsHistoryAfter down right (noted_to c log) h
+  pub after : (down right : NodeId → ℕ) → AgreeOnLog marks lists log down right → AgreeOnKnownLog joined log down right
+      → IsHistoryAfter down right (noted_to c log) h
 
 -- the history at a slot of the shard
 abbrev pub history_at : List History → ℕ → History
@@ -62,13 +65,15 @@ last_of (e ∷ []) = e.ticket
 last_of (e ∷ (f ∷ es)) = last_of (f ∷ es)
 
 -- a shard after the accesses of its log, and accesses before the run
-pub record IsShardOf (before : List Access) (store : InitialStore) (marks : NodeId → Marks) (joined : NodeId → ℕ) (k : ℕ) (x : ShardValue) : Type 0 where
+pub record IsShardOf (before : List Access) (store : InitialStore) (marks : NodeId → Marks) (joined : NodeId → ℕ) (k : ℕ)
+    (x : ShardValue) : Type 0 where
   pub number : x.number ≡ k
   pub part : (x.cells.shard.number ≡ k) × (x.cells.shard.shards ≡ 16)
   pub cells : IsStateAfter store (before ++ accesses_of x.log) x.cells
   pub own : (e : ShardEntry) → Among e x.log → e.access.cell.0 % 16 ≡ k
   pub there : (e : ShardEntry) → Among e x.log → e.access.cell.0 < x.cells.shard.cells
-  pub replies : (front rest : List ShardEntry) (e : ShardEntry) → x.log ≡ front ++ e ∷ rest → HasReply store (before ++ accesses_of front) e.access
+  pub replies : (front rest : List ShardEntry) (e : ShardEntry) → x.log ≡ front ++ e ∷ rest
+      → HasReply store (before ++ accesses_of front) e.access
   pub rises : AllPairs (λ (a : ShardEntry) (b : ShardEntry). a.ticket < b.ticket) x.log
   pub last : x.last ≡ last_of x.log
   pub most : (e : ShardEntry) → Among e x.log → e.ticket ≤ x.last

@@ -13,7 +13,8 @@ use Rattle.pipe_frame.specs.TokenCounts.{TokenCounts, no_tokens}
 use Rattle.pipe_frame.specs.TokenFields.{TokenFields, fields_of}
 use Rattle.pipe_frame.specs.declared.token.FrameToken.{FrameToken}
 use Rattle.frame_book.specs.BookStates.{BookState, events_of, replies_at, state_of}
-use Rattle.pipe_hall.specs.SeatViews.{HallConstants, HallStart, InstanceData, SeatView, ShardValue, SlotValue, TheBook, TheShard, constants_of}
+use Rattle.pipe_hall.specs.SeatViews.{HallConstants, HallStart, InstanceData, SeatView, ShardValue, SlotValue, TheBook, TheShard}
+use Rattle.pipe_hall.specs.SeatViews.{constants_of}
 use Rattle.pipe_hall.specs.Logs.{entry_of}
 use Rattle.pipe_hall.specs.BookParts.{HasSeats, KnowsInstance}
 use Rattle.pipe_hall.specs.ShardParts.{HasShard}
@@ -63,7 +64,8 @@ IsSnapshot v i (TheShard x) = ShardSnapshot v i x
 
 -- the value of lock i was taken, or the lock was taken already
 abbrev pub takes_value : {M : Type 0} → ℕ → ViewAndSlots M → ℕ → ViewAndSlots M → Type 0
-takes_value {M} i m r n = (r ≡ 0 → (x : SlotValue) × (n ≡ (view_of (holding m.0.it i x), (place i, slot_of x) ∷ m.1)) × IsSnapshot m.0.it i x) × (r ≢ 0 → n ≡ m)
+takes_value {M} i m r n = (r ≡ 0 → (x : SlotValue) × (n ≡ (view_of (holding m.0.it i x), (place i, slot_of x) ∷ m.1))
+    × IsSnapshot m.0.it i x) × (r ≢ 0 → n ≡ m)
 
 abbrev pub takes_slot : {M : Type 0} → Step (Slot M) → ViewAndSlots M → ℕ → ViewAndSlots M → Type 0
 takes_slot {M} st m r n = (i : ℕ) → st.word ≡ place i → takes_value i m r n

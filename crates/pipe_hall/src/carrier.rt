@@ -54,5 +54,6 @@ pub trait Carrier: Payload<OmWriter> {
     /// A seat changes nothing else.
     ghost seat_whole: { (tree : SyntaxTree) (x : Self) (s : Option RunSeat) → Self.whole tree x → Self.whole tree (with_seat x s) };
 
-    ghost seat_ready: { (tree : SyntaxTree) (input : List ℤ) (x : Self) (s : Option RunSeat) (i : ℕ) (replies : List (List ℤ)) → Self.ready_at tree input x i replies → Self.ready_at tree input (with_seat x s) i replies };
+    ghost seat_ready: { (tree : SyntaxTree) (input : List ℤ) (x : Self) (s : Option RunSeat) (i : ℕ) (replies : List (List ℤ))
+        → Self.ready_at tree input x i replies → Self.ready_at tree input (with_seat x s) i replies };
 }

@@ -59,7 +59,8 @@ fn take_all<R: Wait, M: Carrier>(
 // Frees the table. Who has taken everything has the book and the shards of the rule.
 fn free_table<M: Carrier>(table: HallTable<M>, seat: Seat<Slot<M>, View>)
     requires own { seat.table_id ≡ table.shared.table_id }
-    ensures closed { (b : BookState) (shard : ℕ → ShardValue) → HoldsAll seat.me.0.it.held b shard → ClosedHall (start_in table.shared.key) seat.me.0.it.seen b shard }
+    ensures closed { (b : BookState) (shard : ℕ → ShardValue) → HoldsAll seat.me.0.it.held b shard
+        → ClosedHall (start_in table.shared.key) seat.me.0.it.seen b shard }
 {
     let mut closed = table.close_with(seat);
     let mut i = 0;
@@ -73,8 +74,10 @@ fn free_table<M: Carrier>(table: HallTable<M>, seat: Seat<Slot<M>, View>)
 // The passes of one of the shards see the book's lists to their ends.
 fn learn_at<M: Carrier>(shards: &mut Vec<Shard>, k: usize, book: &mut Book<M, OmWriter>)
     requires there { k < length shards.old.items }
-    requires lists { ((shard_in shards.old.items k).lists.down ≡ book.old.lists.down) × ((shard_in shards.old.items k).lists.right ≡ book.old.lists.right) }
-    ensures learned { (y : ShardValue) × (shards.new.items ≡ set shards.old.items k y) × HasLearned book.old (shard_in shards.old.items k) y }
+    requires lists { ((shard_in shards.old.items k).lists.down ≡ book.old.lists.down)
+        × ((shard_in shards.old.items k).lists.right ≡ book.old.lists.right) }
+    ensures learned { (y : ShardValue) × (shards.new.items ≡ set shards.old.items k y) × HasLearned book.old
+        (shard_in shards.old.items k) y }
     ensures book { book.new ≡ book.old }
 {
     shards[k].learn(book);
@@ -83,7 +86,8 @@ fn learn_at<M: Carrier>(shards: &mut Vec<Shard>, k: usize, book: &mut Book<M, Om
 // The passes of all shards see the book's lists to their ends.
 fn learn_all<M: Carrier>(shards: &mut Vec<Shard>, book: &mut Book<M, OmWriter>)
     requires len { length shards.old.items ≡ 16 }
-    requires lists { (k : ℕ) → k < 16 → ((shard_in shards.old.items k).lists.down ≡ book.old.lists.down) × ((shard_in shards.old.items k).lists.right ≡ book.old.lists.right) }
+    requires lists { (k : ℕ) → k < 16 → ((shard_in shards.old.items k).lists.down ≡ book.old.lists.down)
+        × ((shard_in shards.old.items k).lists.right ≡ book.old.lists.right) }
     ensures len { length shards.new.items ≡ 16 }
     ensures learned { (k : ℕ) → k < 16 → HasLearned book.old (shard_in shards.old.items k) (shard_in shards.new.items k) }
     ensures book { book.new ≡ book.old }
@@ -110,7 +114,8 @@ fn ticket_above(shards: &[Shard]) -> u64
 fn raise_stop<M: Carrier>(book: &mut Book<M, OmWriter>, shards: &[Shard])
     requires bound { (k : ℕ) → k < length shards.now → (shard_in shards.now k).last ≤ 2 ^ 62 }
     ensures going { (state_of book.old).stopped ≡ false → book.new ≡ book.old }
-    ensures stopped { (state_of book.old).stopped ≡ true → (least : ℕ) × (book.new ≡ raised book.old least) × ((k : ℕ) → k < length shards.now → (shard_in shards.now k).last < least) }
+    ensures stopped { (state_of book.old).stopped ≡ true → (least : ℕ) × (book.new ≡ raised book.old least)
+        × ((k : ℕ) → k < length shards.now → (shard_in shards.now k).last < least) }
 {
     if book.is_stopped() {
         book.raise_stop(ticket_above(shards));

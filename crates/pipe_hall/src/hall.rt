@@ -66,7 +66,12 @@ impl<M: Carrier> Model for HallKey<M> {
 
     ghost coded = { Prim.hlevel (codes, expr.the_row.coded, stmt.the_row.coded) };
 
-    ghost view = { λ k. record { hall = record { table = k.seat.table_id; constants = k.seat.me.0.it.constants }; seen = k.seat.me.0.it.seen; tokens = k.seat.me.0.it.tokens } };
+    ghost view = { λ k. record {
+      hall = record { table = k.seat.table_id; constants = k.seat.me.0.it.constants };
+      seen =
+          k.seat.me.0.it.seen;
+      tokens = k.seat.me.0.it.tokens;
+    } };
 
     ghost invariant = { λ k. IsIdle k.seat.me };
 }
@@ -104,7 +109,8 @@ fn add_shards<M: Carrier>(
     slots: &mut Vec<Slot<M>>,
 ) -> Result<(), NoMemory>
     requires room { length slots.old.items + place 16 ≤ vec_capacity slots.old }
-    ensures shards { IfOk result (λ _. (xs : List ShardValue) × (slots.new.items ≡ slots.old.items ++ shard_slots xs) × (length xs ≡ 16) × ((k : ℕ) → k < 16 → IsNewShard before.now (tree_of checked.now) passes.old k (shard_in xs k))) }
+    ensures shards { IfOk result (λ _. (xs : List ShardValue) × (slots.new.items ≡ slots.old.items ++ shard_slots xs) × (length xs ≡ 16)
+        × ((k : ℕ) → k < 16 → IsNewShard before.now (tree_of checked.now) passes.old k (shard_in xs k))) }
 {
     for number in 0..SHARDS {
         let shard = Shard::new(alloc, checked, number, before, passes.split()?)?;

@@ -49,9 +49,11 @@ fn access_by<R: Wait, M: Carrier>(
     write: Option<i64>,
 ) -> Option<Entry>
     requires own { run.old.table_id ≡ hall.now.table.shared.table_id }
-    requires runs { (f : TokenFields) × RunsAs run.old.me f × (who ≡ record { node = at f.iteration f.index; marks = f.marks }) × (now ≡ f.now) × (joined ≡ f.joined) }
+    requires runs { (f : TokenFields) × RunsAs run.old.me f × (who ≡ record { node = at f.iteration f.index; marks = f.marks })
+        × (now ≡ f.now) × (joined ≡ f.joined) }
     requires cell { cell.0 < length (store_of (hall_of run.old.table_id run.old.me).tree).values }
-    requires lists { AreSeenLists (Some passes.old) (hall_of run.old.table_id run.old.me).lists.down (hall_of run.old.table_id run.old.me).lists.right }
+    requires lists { AreSeenLists (Some passes.old) (hall_of run.old.table_id run.old.me).lists.down
+        (hall_of run.old.table_id run.old.me).lists.right }
     requires known { AreElementsOf passes.old.down_log passes.old.right_log who.marks }
     ensures own { (run.new.table_id ≡ run.old.table_id) × (run.new.id ≡ run.old.id) }
     ensures ran { run.new.me ≡ (view_of (ran run.old.me.0.it result), []) }
@@ -79,7 +81,8 @@ fn access_for<R: Wait, M: Carrier>(
     requires own { run.old.table_id ≡ hall.now.table.shared.table_id }
     requires runs { RunsAs run.old.me (fields_of token.old) }
     requires cell { cell.0 < length (store_of (hall_of run.old.table_id run.old.me).tree).values }
-    requires lists { AreSeenLists (Some (M.lists token.old.payload)) (hall_of run.old.table_id run.old.me).lists.down (hall_of run.old.table_id run.old.me).lists.right }
+    requires lists { AreSeenLists (Some (M.lists token.old.payload)) (hall_of run.old.table_id run.old.me).lists.down
+        (hall_of run.old.table_id run.old.me).lists.right }
     requires known { AreElementsOf (M.lists token.old.payload).down_log (M.lists token.old.payload).right_log token.old.marks }
     ensures own { (run.new.table_id ≡ run.old.table_id) × (run.new.id ≡ run.old.id) }
     ensures ran { run.new.me ≡ (view_of (ran run.old.me.0.it result), []) }
@@ -122,11 +125,13 @@ fn access_of<R: Wait, M: Carrier>(
     cell: CellId,
     write: Option<i64>,
 ) -> Option<Entry>
-    requires out { (a : HallConstants) × IsSeated (name_of hall.now.table.shared.table_id (Some a)) (fields_of token.old) (M.tie token.old.payload) × (cell.0 < length (store_of (name_of hall.now.table.shared.table_id (Some a)).tree).values) }
+    requires out { (a : HallConstants) × IsSeated (name_of hall.now.table.shared.table_id (Some a)) (fields_of token.old)
+        (M.tie token.old.payload) × (cell.0 < length (store_of (name_of hall.now.table.shared.table_id (Some a)).tree).values) }
     ensures trace { TraceAfter cell.0 write trace.old trace.new result }
     ensures fields { fields_of token.new ≡ record (fields_of token.old) { now = now_after token.old.now result } }
     ensures whole { (tree : SyntaxTree) → M.whole tree token.old.payload → M.whole tree token.new.payload }
-    ensures ready { (tree : SyntaxTree) (input : List ℤ) (i : ℕ) (before : List (List ℤ)) → M.ready_at tree input token.old.payload i before → M.ready_at tree input token.new.payload i before }
+    ensures ready { (tree : SyntaxTree) (input : List ℤ) (i : ℕ) (before : List (List ℤ)) → M.ready_at tree input token.old.payload i
+        before → M.ready_at tree input token.new.payload i before }
     ensures tie { M.tie token.new.payload ≡ tie_after (M.tie token.old.payload) result }
 {
     let RunSeat { badge } = take_seat_of(&mut token.payload);
@@ -170,7 +175,8 @@ pub(crate) fn access_at<R: Wait, M: Carrier>(
     ensures out { IsSeated (hall_of seat.old.table_id seat.old.me) (fields_of token.new) (M.tie token.new.payload) }
     ensures instance { IsSameInstance (fields_of token.old) (fields_of token.new) (M.tie token.old.payload) (M.tie token.new.payload) }
     ensures whole { (tree : SyntaxTree) → M.whole tree token.old.payload → M.whole tree token.new.payload }
-    ensures ready { (tree : SyntaxTree) (input : List ℤ) (i : ℕ) (before : List (List ℤ)) → M.ready_at tree input token.old.payload i before → M.ready_at tree input token.new.payload i before }
+    ensures ready { (tree : SyntaxTree) (input : List ℤ) (i : ℕ) (before : List (List ℤ)) → M.ready_at tree input token.old.payload i
+        before → M.ready_at tree input token.new.payload i before }
     ensures replies { seated_replies (M.tie token.new.payload) ≡ seated_replies (M.tie token.old.payload) }
     ensures access { AccessReturns cell.0 write trace.old trace.new result }
     ensures trace { trace.new ≡ seated_entries (M.tie token.new.payload) }

@@ -8,7 +8,8 @@ ghost use Rattle.pipe_hall.specs.SeatViews.{HallConstants, InstanceData, ShardVa
 ghost use Rattle.pipe_hall.specs.HallRule.{place, slot_of, view_of, width};
 ghost use Rattle.pipe_hall.specs.WorkerSeats.{HoldsBook};
 ghost use Rattle.pipe_hall.specs.InstanceSeats.{badge_view};
-ghost use Rattle.pipe_hall.specs.Steps.{BookSnapshot, ShardSnapshot, IsSnapshot, after_book, after_shard, holding, new_instance, run_seat, with_run, without_run};
+ghost use Rattle.pipe_hall.specs.Steps.{BookSnapshot, ShardSnapshot, IsSnapshot, after_book, after_shard, holding, new_instance, run_seat};
+ghost use Rattle.pipe_hall.specs.Steps.{with_run, without_run};
 ghost use Rattle.pipe_hall.specs.BookCalls.{IsBookCall};
 ghost use Rattle.pipe_hall.specs.Accesses.{MadeBy};
 ghost use Rattle.pipe_hall.specs.declared.view.View.{View};
@@ -64,7 +65,9 @@ impl<M: Carrier> Locks<M> {
         requires own { seat.old.table_id ≡ self.now.table.shared.table_id }
         requires lock { lock < 17 }
         ensures own { (seat.new.table_id ≡ seat.old.table_id) × (seat.new.id ≡ seat.old.id) }
-        ensures some { IfSome result (λ y. (x : SlotValue) × (y ≡ slot_of x) × (seat.new.me ≡ (view_of (holding seat.old.me.0.it lock x), (place lock, Slot.Out) ∷ seat.old.me.1)) × IsSnapshot seat.old.me.0.it lock x) }
+        ensures some { IfSome result (λ y. (x : SlotValue) × (y ≡ slot_of x)
+            × (seat.new.me ≡ (view_of (holding seat.old.me.0.it lock x), (place lock, Slot.Out) ∷ seat.old.me.1))
+            × IsSnapshot seat.old.me.0.it lock x) }
         ensures none { IfNone result (seat.new.me ≡ seat.old.me) }
     {
         let shared = &self.table.shared;
@@ -80,7 +83,9 @@ impl<M: Carrier> Locks<M> {
         requires own { seat.old.table_id ≡ self.now.table.shared.table_id }
         requires lock { lock < 17 }
         ensures own { (seat.new.table_id ≡ seat.old.table_id) × (seat.new.id ≡ seat.old.id) }
-        ensures taken { (x : SlotValue) × (result ≡ slot_of x) × (seat.new.me ≡ (view_of (holding seat.old.me.0.it lock x), (place lock, Slot.Out) ∷ seat.old.me.1)) × IsSnapshot seat.old.me.0.it lock x }
+        ensures taken { (x : SlotValue) × (result ≡ slot_of x)
+            × (seat.new.me ≡ (view_of (holding seat.old.me.0.it lock x), (place lock, Slot.Out) ∷ seat.old.me.1))
+            × IsSnapshot seat.old.me.0.it lock x }
     {
         let mut looks = 0u32;
         for _ in rt.forever() {
@@ -132,7 +137,10 @@ impl<M: Carrier> Locks<M> {
         requires own { seat.old.table_id ≡ self.now.table.shared.table_id }
         requires there { number < 16 }
         ensures own { (seat.new.table_id ≡ seat.old.table_id) × (seat.new.id ≡ seat.old.id) }
-        ensures taken { seat.new.me ≡ (view_of (holding seat.old.me.0.it (1 + number) (TheShard result)), (place (1 + number), Slot.Out) ∷ seat.old.me.1) }
+        ensures taken { seat.new.me ≡ (
+          view_of (holding seat.old.me.0.it (1 + number) (TheShard result)),
+          (place (1 + number), Slot.Out) ∷ seat.old.me.1,
+        ) }
         ensures snapshot { ShardSnapshot seat.old.me.0.it (1 + number) result }
     {
         match self.take(rt, seat, 1 + number as usize) {
@@ -163,11 +171,14 @@ impl<M: Carrier> Locks<M> {
         mut token: FrameToken<M>,
     ) -> FrameToken<M>
         requires own { seat.old.table_id ≡ self.now.table.shared.table_id }
-        requires call { (b : BookState) × (back : Option InstanceData) × HoldsBook seat.old.me b back × IsBookCall b back book (Some (new_instance book (fields_of token))) }
+        requires call { (b : BookState) × (back : Option InstanceData) × HoldsBook seat.old.me b back
+            × IsBookCall b back book (Some (new_instance book (fields_of token))) }
         requires constants { (a : HallConstants) × (seat.old.me.0.it.constants ≡ Some a) }
         ensures own { (seat.new.table_id ≡ seat.old.table_id) × (seat.new.id ≡ seat.old.id) }
         ensures given { seat.new.me ≡ (view_of (without_run (after_book seat.old.me.0.it book None)), []) }
-        ensures token { (r : RunSeat) × (result ≡ record token { payload = M.with_seat token.payload (Some r) }) × (r.badge.table_id ≡ seat.old.table_id) × (r.badge.views ≡ view_of (run_seat (after_book seat.old.me.0.it book (Some (new_instance book (fields_of token))))) ∷ []) }
+        ensures token { (r : RunSeat) × (result ≡ record token { payload = M.with_seat token.payload (Some r) })
+            × (r.badge.table_id ≡ seat.old.table_id) × (r.badge.views ≡ view_of
+            (run_seat (after_book seat.old.me.0.it book (Some (new_instance book (fields_of token))))) ∷ []) }
     {
         let shared = &self.table.shared;
         drop(shared.exchange(seat, 0, Slot::Book(book)));
@@ -183,9 +194,12 @@ impl<M: Carrier> Locks<M> {
     // The step in which the book is given back beside the token of `said`.
     fn return_beside(&self, seat: &mut Seat<Slot<M>, View>, said: &Slot<M>)
         requires own { seat.old.table_id ≡ self.now.table.shared.table_id }
-        requires call { (t : FrameToken M) × (c : BookState) × (v : View) × (b : BookState) × (back : Option InstanceData) × (said.now ≡ Slot.Token t) × (seat.old.me ≡ (v, (0, Slot.Book c) ∷ [])) × (v.it.held ≡ (0, TheBook b) ∷ []) × (v.it.run ≡ back) × IsBookCall b back c (Some (new_instance c (fields_of t))) }
+        requires call { (t : FrameToken M) × (c : BookState) × (v : View) × (b : BookState) × (back : Option InstanceData)
+            × (said.now ≡ Slot.Token t) × (seat.old.me ≡ (v, (0, Slot.Book c) ∷ [])) × (v.it.held ≡ (0, TheBook b) ∷ [])
+            × (v.it.run ≡ back) × IsBookCall b back c (Some (new_instance c (fields_of t))) }
         ensures own { (seat.new.table_id ≡ seat.old.table_id) × (seat.new.id ≡ seat.old.id) }
-        ensures given { (t : FrameToken M) (c : BookState) → said.now ≡ Slot.Token t → seat.old.me.1 ≡ (0, Slot.Book c) ∷ [] → seat.new.me ≡ (view_of (after_book seat.old.me.0.it c (Some (new_instance c (fields_of t)))), []) }
+        ensures given { (t : FrameToken M) (c : BookState) → said.now ≡ Slot.Token t → seat.old.me.1 ≡ (0, Slot.Book c) ∷ []
+            → seat.new.me ≡ (view_of (after_book seat.old.me.0.it c (Some (new_instance c (fields_of t)))), []) }
     {
         self.table
             .shared
@@ -213,9 +227,12 @@ impl<M: Carrier> Locks<M> {
     )
         requires own { seat.old.table_id ≡ self.now.table.shared.table_id }
         requires there { number < 16 }
-        requires made { (x : ShardValue) × (seat.old.me.1 ≡ (place (1 + number), Slot.Out) ∷ []) × (seat.old.me.0.it.held ≡ (1 + number, TheShard x) ∷ []) × ((shard ≡ x) ⊎ ((d : InstanceData) × (seat.old.me.0.it.run ≡ Some d) × MadeBy d number x shard)) }
+        requires made { (x : ShardValue) × (seat.old.me.1 ≡ (place (1 + number), Slot.Out) ∷ [])
+            × (seat.old.me.0.it.held ≡ (1 + number, TheShard x) ∷ [])
+            × ((shard ≡ x) ⊎ ((d : InstanceData) × (seat.old.me.0.it.run ≡ Some d) × MadeBy d number x shard)) }
         ensures own { (seat.new.table_id ≡ seat.old.table_id) × (seat.new.id ≡ seat.old.id) }
-        ensures given { (x : ShardValue) → seat.old.me.0.it.held ≡ (1 + number, TheShard x) ∷ [] → seat.new.me ≡ (view_of (after_shard seat.old.me.0.it x shard), []) }
+        ensures given { (x : ShardValue) → seat.old.me.0.it.held ≡ (1 + number, TheShard x) ∷ []
+            → seat.new.me ≡ (view_of (after_shard seat.old.me.0.it x shard), []) }
     {
         let shared = &self.table.shared;
         let slot = STRIDE * (1 + number as usize);

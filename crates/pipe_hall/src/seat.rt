@@ -45,7 +45,12 @@ impl<'a, M: Carrier> Model for HallSeat<'a, M> {
 
     ghost coded = { Prim.hlevel (codes, expr.the_row.coded, stmt.the_row.coded) };
 
-    ghost view = { λ s. record { hall = record { table = s.seat.table_id; constants = s.seat.me.0.it.constants }; seen = s.seat.me.0.it.seen; tokens = s.seat.me.0.it.tokens } };
+    ghost view = { λ s. record {
+      hall = record { table = s.seat.table_id; constants = s.seat.me.0.it.constants };
+      seen =
+          s.seat.me.0.it.seen;
+      tokens = s.seat.me.0.it.tokens;
+    } };
 
     ghost invariant = { λ s. IsIdle s.seat.me × (s.seat.table_id ≡ s.hall.now.hall.table) };
 }
@@ -87,11 +92,14 @@ impl<'a, M: Carrier> Hall<M> for HallSeat<'a, M> {
         requires out { IsSeated (hall_name self.old.hall) (fields_of token) (M.tie token.payload) }
         requires trace { trace ≡ seated_entries (M.tie token.payload) }
         requires whole { M.whole (hall_name self.old.hall).tree token.payload }
-        requires performs { IsPerformed (pipeline_of (hall_name self.old.hall).tree (hall_name self.old.hall).input) token.iteration (seated_replies (M.tie token.payload)) trace end }
-        requires ready { NamesNextStage end → M.ready_at (hall_name self.old.hall).tree (hall_name self.old.hall).input token.payload token.iteration (seated_replies (M.tie token.payload) ++ replies_of trace ∷ []) }
+        requires performs { IsPerformed (pipeline_of (hall_name self.old.hall).tree (hall_name self.old.hall).input) token.iteration
+            (seated_replies (M.tie token.payload)) trace end }
+        requires ready { NamesNextStage end → M.ready_at (hall_name self.old.hall).tree (hall_name self.old.hall).input token.payload
+            token.iteration (seated_replies (M.tie token.payload) ++ replies_of trace ∷ []) }
         requires stopped { end ≡ StageEnd.Stopped → (state_after self.old.seen).stopped ≡ true }
         ensures named { hall_name self.new.hall ≡ hall_name self.old.hall }
-        ensures sees { Sees self.old.seen self.new.seen (advance_events token.iteration end result) (λ s. AdvanceReturns s token.iteration token.index end result) }
+        ensures sees { Sees self.old.seen self.new.seen (advance_events token.iteration end result)
+            (λ s. AdvanceReturns s token.iteration token.index end result) }
         ensures tokens { Exchanges (tokens_next result) 1 self.old.tokens self.new.tokens }
         ensures seen_runs { ControlRun (hall_name self.new.hall).limit self.new.seen (state_after self.new.seen) }
         ensures token { IfGo result (IsGivenToken M.ready_at M.tie (hall_name self.old.hall)) }
@@ -114,7 +122,8 @@ impl<'a, M: Carrier> Hall<M> for HallSeat<'a, M> {
     fn leave_ready<R: Wait>(&mut self, rt: &R, token: FrameToken<M>)
         requires out { IsSeated (hall_name self.old.hall) (fields_of token) (M.tie token.payload) }
         requires fresh { seated_entries (M.tie token.payload) ≡ [] }
-        requires ready { M.ready_at (hall_name self.old.hall).tree (hall_name self.old.hall).input token.payload token.iteration (seated_replies (M.tie token.payload)) }
+        requires ready { M.ready_at (hall_name self.old.hall).tree (hall_name self.old.hall).input token.payload token.iteration
+            (seated_replies (M.tie token.payload)) }
         ensures named { hall_name self.new.hall ≡ hall_name self.old.hall }
         ensures sees { Sees self.old.seen self.new.seen [] (λ s. Unit {0}) }
         ensures tokens { Exchanges 0 1 self.old.tokens self.new.tokens }

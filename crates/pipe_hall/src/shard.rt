@@ -51,7 +51,15 @@ impl Model for Shard {
 
     ghost Value = { ShardValue };
 
-    ghost view = { λ s. record { number = s.number; cells = s.cells; histories = s.histories.items; log = s.log.items; last = s.last; lists = s.passes } };
+    ghost view = { λ s. record {
+      number = s.number;
+      cells = s.cells;
+      histories = s.histories.items;
+      log = s.log.items;
+      last =
+          s.last;
+      lists = s.passes;
+    } };
 
     // The number of the cell of each history is a `u32`.
     ghost invariant = { λ s. s.number + 16 * length s.histories.items ≤ 2 ^ 32 };
@@ -63,7 +71,8 @@ fn asked(cells: &Cells, cell: CellId, write: Option<i64>) -> Access
     requires own { IsOfShard cells.now.shard cell.0 }
     ensures asked { IsAsked cell.0 write result }
     ensures cell { result.cell.0 ≡ cell.0 }
-    ensures reply { (store : InitialStore) (before : List PlainAccess) → IsStateAfter store before cells.now → HasReply store before result }
+    ensures reply { (store : InitialStore) (before : List PlainAccess) → IsStateAfter store before cells.now
+        → HasReply store before result }
 {
     match write {
         Some(value) => Access {
@@ -83,8 +92,10 @@ fn asked(cells: &Cells, cell: CellId, write: Option<i64>) -> Access
 fn apply(cells: &mut Cells, access: Access)
     requires there { access.cell.0 < cells.old.shard.cells }
     requires own { IsOfShard cells.old.shard access.cell.0 }
-    requires reply { (store : InitialStore) (before : List PlainAccess) → IsStateAfter store before cells.old → HasReply store before access }
-    ensures state { (store : InitialStore) (before : List PlainAccess) → IsStateAfter store before cells.old → IsStateAfter store (before ++ access ∷ []) cells.new }
+    requires reply { (store : InitialStore) (before : List PlainAccess) → IsStateAfter store before cells.old
+        → HasReply store before access }
+    ensures state { (store : InitialStore) (before : List PlainAccess) → IsStateAfter store before cells.old
+        → IsStateAfter store (before ++ access ∷ []) cells.new }
     ensures shard { cells.new.shard ≡ cells.old.shard }
 {
     match access.kind {

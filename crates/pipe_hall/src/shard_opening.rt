@@ -26,7 +26,8 @@ fn replay_access(cells: &mut Cells, count: u32, number: u32, access: Access)
     requires output { 1 < count }
     requires number { cells.old.shard.number ≡ number }
     requires shards { cells.old.shard.shards ≡ 16 }
-    ensures state { (store : InitialStore) (before : List PlainAccess) → IsStateAfter store before cells.old → IsStateAfter store (before ++ access ∷ []) cells.new }
+    ensures state { (store : InitialStore) (before : List PlainAccess) → IsStateAfter store before cells.old
+        → IsStateAfter store (before ++ access ∷ []) cells.new }
     ensures shard { cells.new.shard ≡ cells.old.shard }
 {
     if count <= access.cell.0 {

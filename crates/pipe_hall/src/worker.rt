@@ -75,7 +75,8 @@ fn take_back<R: Wait, M: Carrier>(
     requires idle { IsIdle seat.old.me }
     requires out { IsSeated (hall_of seat.old.table_id seat.old.me) (fields_of token.old) (M.tie token.old.payload) }
     ensures own { seat.new.table_id ≡ seat.old.table_id }
-    ensures taken { (d : InstanceData) × HasTaken seat.old.me seat.new.me result (Some d) × IsDataOf result (fields_of token.old) (M.tie token.old.payload) d }
+    ensures taken { (d : InstanceData) × HasTaken seat.old.me seat.new.me result (Some d) × IsDataOf result (fields_of token.old)
+        (M.tie token.old.payload) d }
     ensures token { token.new ≡ record token.old { payload = M.with_seat token.old.payload None } }
 {
     let run = take_seat_of(&mut token.payload);
@@ -91,7 +92,8 @@ fn return_token<M: Carrier>(
     token: FrameToken<M>,
 ) -> FrameToken<M>
     requires own { seat.old.table_id ≡ hall.now.table.shared.table_id }
-    requires call { (b : BookState) × (back : Option InstanceData) × HoldsBook seat.old.me b back × IsBookCall b back book (Some (new_instance book (fields_of token))) }
+    requires call { (b : BookState) × (back : Option InstanceData) × HoldsBook seat.old.me b back
+        × IsBookCall b back book (Some (new_instance book (fields_of token))) }
     requires constants { seat.old.me.0.it.constants ≡ Some (constants_of book) }
     requires token { IsGivenBy M.ready_at M.tie book token }
     ensures own { seat.new.table_id ≡ seat.old.table_id }
@@ -113,7 +115,8 @@ pub(crate) fn begin_at<R: Wait, M: Carrier>(
     requires idle { IsIdle seat.old.me }
     ensures own { seat.new.table_id ≡ seat.old.table_id }
     ensures idle { StaysIdle seat.old.me seat.new.me }
-    ensures sees { Sees seat.old.me.0.it.seen seat.new.me.0.it.seen (begin_events result) (λ s. BeginReturns (hall_of seat.old.table_id seat.old.me).limit s result) }
+    ensures sees { Sees seat.old.me.0.it.seen seat.new.me.0.it.seen (begin_events result)
+        (λ s. BeginReturns (hall_of seat.old.table_id seat.old.me).limit s result) }
     ensures tokens { Exchanges (tokens_begun result) 0 seat.old.me.0.it.tokens seat.new.me.0.it.tokens }
     ensures runs { IfStarted result (λ t. IsTokenOf seat.new.me.0.it.seen (fields_of t)) }
     ensures token { IfStarted result (IsGivenToken M.ready_at M.tie (hall_of seat.old.table_id seat.old.me)) }
@@ -199,7 +202,8 @@ pub(crate) fn leave_ready_at<R: Wait, M: Carrier>(
     requires idle { IsIdle seat.old.me }
     requires out { IsSeated (hall_of seat.old.table_id seat.old.me) (fields_of token) (M.tie token.payload) }
     requires fresh { seated_entries (M.tie token.payload) ≡ [] }
-    requires ready { M.ready_at (hall_of seat.old.table_id seat.old.me).tree (hall_of seat.old.table_id seat.old.me).input token.payload token.iteration (seated_replies (M.tie token.payload)) }
+    requires ready { M.ready_at (hall_of seat.old.table_id seat.old.me).tree (hall_of seat.old.table_id seat.old.me).input token.payload
+        token.iteration (seated_replies (M.tie token.payload)) }
     ensures own { seat.new.table_id ≡ seat.old.table_id }
     ensures idle { StaysIdle seat.old.me seat.new.me }
     ensures sees { Sees seat.old.me.0.it.seen seat.new.me.0.it.seen [] (λ s. Unit {0}) }
@@ -226,12 +230,16 @@ pub(crate) fn advance_at<R: Wait, M: Carrier>(
     requires out { IsSeated (hall_of seat.old.table_id seat.old.me) (fields_of token) (M.tie token.payload) }
     requires trace { trace ≡ seated_entries (M.tie token.payload) }
     requires whole { M.whole (hall_of seat.old.table_id seat.old.me).tree token.payload }
-    requires performs { IsPerformed (pipeline_of (hall_of seat.old.table_id seat.old.me).tree (hall_of seat.old.table_id seat.old.me).input) token.iteration (seated_replies (M.tie token.payload)) trace end }
-    requires ready { NamesNextStage end → M.ready_at (hall_of seat.old.table_id seat.old.me).tree (hall_of seat.old.table_id seat.old.me).input token.payload token.iteration (seated_replies (M.tie token.payload) ++ replies_of trace ∷ []) }
+    requires performs { IsPerformed (pipeline_of (hall_of seat.old.table_id seat.old.me).tree
+        (hall_of seat.old.table_id seat.old.me).input) token.iteration (seated_replies (M.tie token.payload)) trace end }
+    requires ready { NamesNextStage end → M.ready_at (hall_of seat.old.table_id seat.old.me).tree
+        (hall_of seat.old.table_id seat.old.me).input token.payload token.iteration
+        (seated_replies (M.tie token.payload) ++ replies_of trace ∷ []) }
     requires stopped { end ≡ StageEnd.Stopped → (state_after seat.old.me.0.it.seen).stopped ≡ true }
     ensures own { seat.new.table_id ≡ seat.old.table_id }
     ensures idle { StaysIdle seat.old.me seat.new.me }
-    ensures sees { Sees seat.old.me.0.it.seen seat.new.me.0.it.seen (advance_events token.iteration end result) (λ s. AdvanceReturns s token.iteration token.index end result) }
+    ensures sees { Sees seat.old.me.0.it.seen seat.new.me.0.it.seen (advance_events token.iteration end result)
+        (λ s. AdvanceReturns s token.iteration token.index end result) }
     ensures tokens { Exchanges (tokens_next result) 1 seat.old.me.0.it.tokens seat.new.me.0.it.tokens }
     ensures runs { IfGo result (λ t. IsTokenOf seat.new.me.0.it.seen (fields_of t)) }
     ensures token { IfGo result (IsGivenToken M.ready_at M.tie (hall_of seat.old.table_id seat.old.me)) }

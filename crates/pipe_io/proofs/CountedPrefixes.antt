@@ -3,7 +3,8 @@ use Rattle.std.proofs.Common.{◌≡◌, ◌∙◌, ℕ, ◌+◌, Bool, true, fa
 use Rattle.std.specs.List.{list_all, prefix_len}
 
 -- an item that passes, before a prefix that passes
-one_more_passes : (p : ℕ → Bool) (x n : ℕ) (xs : List ℕ) → p x ≡ true → list_all p (take n xs) ≡ true → list_all p (take (1 + n) (x ∷ xs)) ≡ true
+one_more_passes : (p : ℕ → Bool) (x n : ℕ) (xs : List ℕ) → p x ≡ true → list_all p (take n xs) ≡ true
+    → list_all p (take (1 + n) (x ∷ xs)) ≡ true
 one_more_passes p x n xs here rest = let e : 1 + n ≡ suc n = omega arith in rw (e, here) rest
 
 -- all items of the counted prefix pass
@@ -11,7 +12,8 @@ pub prefix_passes : (p : ℕ → Bool) (xs : List ℕ) → list_all p (take (pre
 prefix_passes p [] = refl
 prefix_passes p (x ∷ xs) = by_first (p x) refl (prefix_passes p xs)
   where
-    by_first : (b : Bool) → p x ≡ b → list_all p (take (prefix_len p xs) xs) ≡ true → list_all p (take (cond (p x) (1 + prefix_len p xs) 0) (x ∷ xs)) ≡ true
+    by_first : (b : Bool) → p x ≡ b → list_all p (take (prefix_len p xs) xs) ≡ true → list_all p
+        (take (cond (p x) (1 + prefix_len p xs) 0) (x ∷ xs)) ≡ true
     by_first true e ih = rw e (one_more_passes p x (prefix_len p xs) xs e ih)
     by_first false e ih = rw e refl
 

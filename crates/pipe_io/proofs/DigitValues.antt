@@ -21,7 +21,8 @@ number_of_prefix xs n =
     rw whole (fold_grows (number_of (take n xs)) (drop n xs))
 
 -- if a prefix writes a number above a bound, so do all digits
-pub prefix_too_wide : (xs : List ℕ) (i v most : ℕ) → i < length xs → v ≡ number_of (take i xs) → most < 10 * v + (get_or xs i 0 - 48) → most < number_of xs
+pub prefix_too_wide : (xs : List ℕ) (i v most : ℕ) → i < length xs → v ≡ number_of (take i xs) → most < 10 * v + (get_or xs i 0 - 48)
+    → most < number_of xs
 prefix_too_wide xs i v most within so_far wide =
     let prefix : number_of (take (i + 1) xs) ≡ 10 * v + (get_or xs i 0 - 48) = fold_more with_digit 0 xs i 0 within
     ∙ ap (λ n. with_digit n (get_or xs i 0)) (sym so_far) in

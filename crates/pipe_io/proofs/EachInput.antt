@@ -1,5 +1,6 @@
 -- Each input is a list of numbers, or it has a fault.
-use Rattle.std.proofs.Common.{◌≡◌, ◌∙◌, sym, ℕ, ℤ, ◌<◌, ◌≤◌, ◌^◌, Bool, true, false, List, [], ◌∷◌, ◌++◌, length, length-drop, take, drop, refl, zero, suc, arith, ◌⊎◌, inl, inr, cond, ◌==◌}
+use Rattle.std.proofs.Common.{◌≡◌, ◌∙◌, sym, ℕ, ℤ, ◌<◌, ◌≤◌, ◌^◌, Bool, true, false, List, [], ◌∷◌, ◌++◌, length, length-drop, take, drop}
+use Rattle.std.proofs.Common.{refl, zero, suc, arith, ◌⊎◌, inl, inr, cond, ◌==◌}
 use Rattle.std.specs.List.{prefix_len}
 use Rattle.std.proofs.lemmas.Bool.{cases_lt, false≢true}
 use Rattle.std.proofs.lemmas.Bool.Decides.{nat_tests}
@@ -19,7 +20,8 @@ use Rattle.pipe_io.proofs.ReadingLaws.{Reaches, at_end, at_flaw, at_start, past_
 
 -- the bytes begin with a number and one more is allowed, or something is wrong there
 abbrev NumeralOrFlaw : List ℕ → ℕ → Type 0
-NumeralOrFlaw bytes before = ((numeral : Numeral) × IsNumeralOf bytes numeral × (before < MOST_NUMBERS)) ⊎ ((flaw : Flaw) × IsFlaw bytes before flaw)
+NumeralOrFlaw bytes before = ((numeral : Numeral) × IsNumeralOf bytes numeral × (before < MOST_NUMBERS)) ⊎
+    ((flaw : Flaw) × IsFlaw bytes before flaw)
 
 -- a number may end here or not
 ends_or_not : (bytes : List ℕ) → EndsNumber bytes ⊎ (EndsNumber bytes → ⊥)
@@ -54,10 +56,21 @@ signed_or_flaw : (is_negative : Bool) (ds : List ℕ) (before : ℕ) → before 
     → NumeralOrFlaw (with_sign is_negative ds) before
 signed_or_flaw is_negative ds before few plain = by_count (cases_lt 0 (prefix_len is_digit ds))
   where
-    by_end : 0 < prefix_len is_digit ds → before < MOST_NUMBERS → FitsI64 (signed is_negative (number_of (take (prefix_len is_digit ds) ds)))
-        → EndsNumber (drop (prefix_len is_digit ds) ds) ⊎ (EndsNumber (drop (prefix_len is_digit ds) ds) → ⊥) → NumeralOrFlaw (with_sign is_negative ds) before
-    by_end some room fits (inl ends) = inl (_, numeral is_negative ds (cond is_negative 1 0) (prefix_len is_digit ds) _ refl some refl refl fits ends, room)
-    by_end some room fits (inr never) = inr (_, cut is_negative ds before (cond is_negative 1 0) (prefix_len is_digit ds) _ refl some room refl refl fits never)
+    by_end : 0 < prefix_len is_digit ds → before < MOST_NUMBERS
+        → FitsI64 (signed is_negative (number_of (take (prefix_len is_digit ds) ds)))
+        → EndsNumber (drop (prefix_len is_digit ds) ds) ⊎ (EndsNumber (drop (prefix_len is_digit ds) ds) → ⊥)
+        → NumeralOrFlaw (with_sign is_negative ds) before
+    by_end some room fits (inl ends) = inl (
+      _,
+      numeral is_negative ds (cond is_negative 1 0)
+          (prefix_len is_digit ds) _ refl some refl refl fits ends,
+      room,
+    )
+    by_end some room fits (inr never) = inr (
+      _,
+      cut is_negative ds before (cond is_negative 1 0)
+          (prefix_len is_digit ds) _ refl some room refl refl fits never,
+    )
 
     by_value : 0 < prefix_len is_digit ds → before < MOST_NUMBERS
         → FitsI64 (signed is_negative (number_of (take (prefix_len is_digit ds) ds)))
@@ -66,16 +79,22 @@ signed_or_flaw is_negative ds before few plain = by_count (cases_lt 0 (prefix_le
     by_value some room (inl fits) = by_end some room fits (ends_or_not (drop (prefix_len is_digit ds) ds))
     by_value some room (inr never) = inr (_, wide is_negative ds before (prefix_len is_digit ds) refl some room never)
 
-    by_room : 0 < prefix_len is_digit ds → (before < MOST_NUMBERS) ⊎ (MOST_NUMBERS ≤ before) → NumeralOrFlaw (with_sign is_negative ds) before
+    by_room : 0 < prefix_len is_digit ds → (before < MOST_NUMBERS) ⊎ (MOST_NUMBERS ≤ before)
+        → NumeralOrFlaw (with_sign is_negative ds) before
     by_room some (inl room) = by_value some room (fits_or_not is_negative (number_of (take (prefix_len is_digit ds) ds)))
     by_room some (inr full) = inr (_, one_more is_negative ds before (prefix_len is_digit ds) refl some (omega (arith, full, few)))
 
     by_count : (0 < prefix_len is_digit ds) ⊎ (prefix_len is_digit ds ≤ 0) → NumeralOrFlaw (with_sign is_negative ds) before
     by_count (inl some) = by_room some (cases_lt before MOST_NUMBERS)
-    by_count (inr none) = inr (_, no_number is_negative ds before (cond is_negative 1 0) (prefix_len is_digit ds) refl (omega (arith, none)) refl plain)
+    by_count (inr none) = inr (
+      _,
+      no_number is_negative ds before (cond is_negative 1 0) (prefix_len is_digit ds) refl
+          (omega (arith, none)) refl plain,
+    )
 
 -- this holds whatever the first byte is, if it is no separator
-numeral_or_flaw : (b : ℕ) (following : List ℕ) (before : ℕ) → before ≤ MOST_NUMBERS → is_blank b ≡ false → NumeralOrFlaw (b ∷ following) before
+numeral_or_flaw : (b : ℕ) (following : List ℕ) (before : ℕ) → before ≤ MOST_NUMBERS → is_blank b ≡ false
+    → NumeralOrFlaw (b ∷ following) before
 numeral_or_flaw b following before few no_blank = by_sign (b == minus) refl
   where
     by_sign : (t : Bool) → (b == minus) ≡ t → NumeralOrFlaw (b ∷ following) before
@@ -98,7 +117,8 @@ flaw_is_fault bytes rest found flaws.TooWide r f = (_, at_flaw bytes rest found 
 flaw_is_fault bytes rest found flaws.TooMany r f = (_, at_flaw bytes rest found flaws.TooMany _ r f refl)
 
 -- if at most `bound` bytes are left, the input is numbers or has a fault
-goes_on : (bound : ℕ) (bytes : List ℕ) (found : List ℤ) (rest : List ℕ) → length rest ≤ bound → Reaches bytes found rest → NumbersOrFault bytes
+goes_on : (bound : ℕ) (bytes : List ℕ) (found : List ℤ) (rest : List ℕ) → length rest ≤ bound → Reaches bytes found rest
+    → NumbersOrFault bytes
 goes_on bound bytes found [] h r = inl (found, at_end bytes found r)
 goes_on zero bytes found (b ∷ following) h r = absurd (omega arith)
 goes_on (suc bound) bytes found (b ∷ following) h r = elim (blank_or_not b) [
@@ -106,7 +126,8 @@ goes_on (suc bound) bytes found (b ∷ following) h r = elim (blank_or_not b) [
   | inr no_blank ↦ elim (numeral_or_flaw b following (length found) r.few no_blank) [
     | inl p ↦ (
         let some = p.1.some in
-        goes_on bound bytes (found ++ p.0.value ∷ []) (drop p.0.length (b ∷ following)) (omega (arith, h, some, length-drop p.0.length (b ∷ following)))
+        goes_on bound bytes (found ++ p.0.value ∷ []) (drop p.0.length (b ∷ following))
+        (omega (arith, h, some, length-drop p.0.length (b ∷ following)))
         (past_number bytes (b ∷ following) found p.0 r p.1 p.2))
     | inr f ↦ inr (flaw_is_fault bytes (b ∷ following) found f.0 r f.1)
   ]

@@ -1,5 +1,6 @@
 -- The number with which bytes begin.
-use Rattle.std.proofs.Common.{◌≡◌, ◌∙◌, ap, sym, refl, ℕ, ℤ, ◌+◌, ◌<◌, ◌≤◌, ◌==◌, Bool, true, false, cond, List, [], ◌∷◌, ◌++◌, length, take, drop, length-take-le, Some, suc, arith}
+use Rattle.std.proofs.Common.{◌≡◌, ◌∙◌, ap, sym, refl, ℕ, ℤ, ◌+◌, ◌<◌, ◌≤◌, ◌==◌, Bool, true, false, cond, List, [], ◌∷◌, ◌++◌, length}
+use Rattle.std.proofs.Common.{take, drop, length-take-le, Some, suc, arith}
 use Rattle.std.specs.List.{list_all, prefix_len}
 use Rattle.std.proofs.lemmas.Bool.{and_parts}
 use Rattle.std.proofs.lemmas.Bool.Decides.{nat_tests}
@@ -18,7 +19,8 @@ digits_is [] some all = absurd (omega arith)
 digits_is (d ∷ ds) some all = rw all refl
 
 -- so do digits with a sign or without one
-pub value_is : (b : Bool) (ds : List ℕ) → 0 < length ds → list_all is_digit ds ≡ true → value_of (with_sign b ds) ≡ Some (signed b (number_of ds))
+pub value_is : (b : Bool) (ds : List ℕ) → 0 < length ds → list_all is_digit ds ≡ true → value_of (with_sign b ds) ≡ Some
+    (signed b (number_of ds))
 value_is true ds some all = rw (digits_is ds some all) refl
 value_is false [] some all = absurd (omega arith)
 value_is false (d ∷ ds) some all =
@@ -62,7 +64,8 @@ no_number false ds before sign m counted none s bare = rw s (StrayByte (by_first
     by_first (c ∷ cs) h d = (h.0, d, h.1)
 
 -- the length of a number with its sign
-signed_length : (b : Bool) (ds : List ℕ) (sign m : ℕ) → m ≡ prefix_len is_digit ds → sign ≡ cond b 1 0 → sign + m ≡ length (with_sign b (take m ds))
+signed_length : (b : Bool) (ds : List ℕ) (sign m : ℕ) → m ≡ prefix_len is_digit ds → sign ≡ cond b 1 0
+    → sign + m ≡ length (with_sign b (take m ds))
 signed_length true ds sign m counted s = let long : length (take m ds) ≡ m =
     length-take-le m ds (rw counted (prefix_len-le-length is_digit ds)) in omega (arith, long, s)
 signed_length false ds sign m counted s = let long : length (take m ds) ≡ m =
@@ -84,7 +87,8 @@ pub wide : (b : Bool) (ds : List ℕ) (before m : ℕ) → m ≡ prefix_len is_d
 wide b ds before m counted some few never = WideNumber _ _ _ few (begins b ds m counted some) never
 
 -- a number that a bad byte follows
-pub cut : (b : Bool) (ds : List ℕ) (before sign m : ℕ) (v : ℤ) → m ≡ prefix_len is_digit ds → 0 < m → before < MOST_NUMBERS → sign ≡ cond b 1 0
+pub cut : (b : Bool) (ds : List ℕ) (before sign m : ℕ) (v : ℤ) → m ≡ prefix_len is_digit ds → 0 < m → before < MOST_NUMBERS
+    → sign ≡ cond b 1 0
     → v ≡ signed b (number_of (take m ds)) → FitsI64 v
     → (EndsNumber (drop m ds) → ⊥) → IsFlaw (with_sign b ds) before (flaws.BadByte (sign + m))
 cut b ds before sign m v counted some few s value fits never =

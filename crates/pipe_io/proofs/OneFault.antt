@@ -1,5 +1,6 @@
 -- An input has at most one fault, and none if it is a list of numbers.
-use Rattle.std.proofs.Common.{◌≡◌, ◌∙◌, ap, sym, subst, refl, ℕ, ℤ, ◌+◌, ◌<◌, ◌≤◌, ◌==◌, true, false, List, [], ◌∷◌, ◌++◌, length, length-append, length-drop, drop, All, Some, None, option_map, suc, arith, append-nil, ◌⊎◌, inl, inr, ◌-◌}
+use Rattle.std.proofs.Common.{◌≡◌, ◌∙◌, ap, sym, subst, refl, ℕ, ℤ, ◌+◌, ◌<◌, ◌≤◌, ◌==◌, true, false, List, [], ◌∷◌, ◌++◌, length}
+use Rattle.std.proofs.Common.{length-append, length-drop, drop, All, Some, None, option_map, suc, arith, append-nil, ◌⊎◌, inl, inr, ◌-◌}
 use Rattle.std.proofs.lemmas.Bool.{and_parts}
 use Rattle.std.proofs.lemmas.Bool.Decides.{nat_tests}
 use Rattle.std.specs.List.{list_all}
@@ -9,7 +10,9 @@ use Rattle.pipe_io.specs.declared.input_fault.InputFault.TheVariants as faults
 use Rattle.pipe_io.specs.declared.numerals.Flaw.{Flaw}
 use Rattle.pipe_io.specs.declared.numerals.Flaw.TheVariants as flaws
 use Rattle.pipe_io.specs.declared.bounds.TheConstants.{LONGEST_INPUT, MOST_NUMBERS}
-use Rattle.pipe_io.specs.InputFile.{AreNumbersOf, HasFault, HasStrayByte, HasBareMinus, HasTooMany, HasWideNumber, HasCutNumber, IsTooLong, IsReached, BeginsBareMinus, BeginsNothing, BeginsNumber, FitsI64, EndsNumber, ListsNumbers, Number, Separator, EndsHere, begins_digit, digits_value, signed, value_of, minus}
+use Rattle.pipe_io.specs.InputFile.{AreNumbersOf, HasFault, HasStrayByte, HasBareMinus, HasTooMany, HasWideNumber, HasCutNumber, IsTooLong}
+use Rattle.pipe_io.specs.InputFile.{IsReached, BeginsBareMinus, BeginsNothing, BeginsNumber, FitsI64, EndsNumber, ListsNumbers, Number}
+use Rattle.pipe_io.specs.InputFile.{Separator, EndsHere, begins_digit, digits_value, signed, value_of, minus}
 use Rattle.pipe_io.specs.Numerals.{CutNumber, IsFlaw, OneMore, WideNumber, BareMinus, StrayByte, fault_at}
 use Rattle.pipe_io.proofs.OneReading.{Continues, one_continues, all_digits, mapped, no_digit_after, one_text, tail_digits}
 
@@ -21,7 +24,8 @@ number_first b bs n e bare =
     (and_parts (is_digit b) (list_all is_digit bs) (all_digits (b ∷ bs) m.0 m.1)).0
 
 -- a digit comes after the `-` of a number
-pub digit_after_minus : (b : ℕ) (bs following : List ℕ) (n : ℤ) → value_of (b ∷ bs) ≡ Some n → (b == minus) ≡ true → begins_digit (bs ++ following) ≡ true
+pub digit_after_minus : (b : ℕ) (bs following : List ℕ) (n : ℤ) → value_of (b ∷ bs) ≡ Some n → (b == minus) ≡ true
+    → begins_digit (bs ++ following) ≡ true
 digit_after_minus b [] following n e is_minus = let bad : None ≡ Some n = rw is_minus at e in cc (bad)
 digit_after_minus b (d ∷ ds) following n e is_minus = (and_parts (is_digit d) (list_all is_digit ds) (tail_digits b (d ∷ ds) n e).0).0
 
@@ -78,11 +82,13 @@ one_flaw {rest = rest} (WideNumber t b n c s w) (StrayByte h) = absurd (no_numbe
 one_flaw {rest = rest} (WideNumber t b n c s w) (BareMinus h) = absurd (no_number_at_minus rest t b n h s.value s.parts)
 one_flaw (WideNumber t b n c s w) (OneMore t' b' n' c' s') = absurd (omega (arith, c, c'))
 one_flaw (WideNumber t b n c s w) (WideNumber t' b' n' c' s' w') = refl
-one_flaw (WideNumber t b n c s w) (CutNumber t' b' n' c' s' fits u) = let same : n ≡ n' = (one_number s s').2 in absurd (w (subst FitsI64 (sym same) fits))
+one_flaw (WideNumber t b n c s w) (CutNumber t' b' n' c' s' fits u) = let same : n ≡ n' = (one_number s s').2 in
+    absurd (w (subst FitsI64 (sym same) fits))
 one_flaw {rest = rest} (CutNumber t b n c s w u) (StrayByte h) = absurd (no_number_there rest t b n h s.value s.parts)
 one_flaw {rest = rest} (CutNumber t b n c s w u) (BareMinus h) = absurd (no_number_at_minus rest t b n h s.value s.parts)
 one_flaw (CutNumber t b n c s w u) (OneMore t' b' n' c' s') = absurd (omega (arith, c, c'))
-one_flaw (CutNumber t b n c s fits u) (WideNumber t' b' n' c' s' w) = let same : n ≡ n' = (one_number s s').2 in absurd (w (subst FitsI64 same fits))
+one_flaw (CutNumber t b n c s fits u) (WideNumber t' b' n' c' s' w) = let same : n ≡ n' = (one_number s s').2 in
+    absurd (w (subst FitsI64 same fits))
 one_flaw (CutNumber t b n c s w u) (CutNumber t' b' n' c' s' w' u') = ap (λ x. flaws.BadByte (length x)) (one_number s s').0
 
 -- a number does not begin with a separator
@@ -126,7 +132,8 @@ pub record IsFlawed (bytes : List ℕ) (fault : InputFault) : Type 0 where
   pub fault_is : fault ≡ fault_at flaw place
 
 -- a fault is the length, or something wrong at an offset
-pub flawed : {bytes : List ℕ} {fault : InputFault} → HasFault bytes fault → ((fault ≡ faults.TooLong) × (LONGEST_INPUT < length bytes)) ⊎ IsFlawed bytes fault
+pub flawed : {bytes : List ℕ} {fault : InputFault} → HasFault bytes fault → ((fault ≡ faults.TooLong) × (LONGEST_INPUT < length bytes)) ⊎
+    IsFlawed bytes fault
 flawed (IsTooLong long) = inl (refl, long)
 flawed (HasStrayByte place before r h) = let none : place + 0 ≡ place = omega arith in
     inr (record {
@@ -145,7 +152,15 @@ flawed (HasTooMany place before t x n r c h) = inr (record
 flawed (HasWideNumber place before t x n r c h w) =
     inr (record { place = place; before = before; reached = r; flaw = flaws.TooWide; wrong = WideNumber t x n c h w; fault_is = refl })
 flawed (HasCutNumber place before t x n r c h w u) =
-    inr (record { place = place; before = before; reached = r; flaw = flaws.BadByte (length t); wrong = CutNumber t x n c h w u; fault_is = refl })
+    inr (record {
+      place = place;
+      before = before;
+      reached = r;
+      flaw = flaws.BadByte (length t);
+      wrong = CutNumber t x n c h w u;
+      fault_is =
+          refl;
+    })
 
 -- equal rests have equal offsets
 same_place : (bytes : List ℕ) (p q : ℕ) → p ≤ length bytes → q ≤ length bytes → drop p bytes ≡ drop q bytes → p ≡ q
@@ -181,8 +196,10 @@ one_fault_at {bytes} {f} {g} a b = by_side (one_continues a.reached.listed b.rea
 
     by_side : Continues (drop a.place bytes) (drop b.place bytes) a.before b.before
         ⊎ Continues (drop b.place bytes) (drop a.place bytes) b.before a.before → f ≡ g
-    by_side (inl s) = let e = no_further (drop b.place bytes) b.before a s b.reached.few b.reached.narrow in at_one e.1 (ap length (sym e.0))
-    by_side (inr s) = let e = no_further (drop a.place bytes) a.before b s a.reached.few a.reached.narrow in at_one (sym e.1) (ap length e.0)
+    by_side (inl s) = let e = no_further (drop b.place bytes) b.before a s b.reached.few b.reached.narrow in
+        at_one e.1 (ap length (sym e.0))
+    by_side (inr s) = let e = no_further (drop a.place bytes) a.before b s a.reached.few a.reached.narrow in
+        at_one (sym e.1) (ap length e.0)
 
 -- no number is written by no bytes
 no_text : (t x : List ℕ) (n : ℤ) → value_of t ≡ Some n → [] ≡ t ++ x → ⊥
@@ -219,7 +236,8 @@ one_fault {bytes} {f} {g} a b = by_kind (flawed a) (flawed b)
 pub numbers_have_no_fault : {bytes : List ℕ} {f : InputFault} {numbers : List ℤ} → HasFault bytes f → AreNumbersOf bytes numbers → ⊥
 numbers_have_no_fault {bytes} {f} {numbers} h a = by_kind (flawed h)
   where
-    by_side : (x : IsFlawed bytes f) → Continues (drop x.place bytes) [] x.before numbers ⊎ Continues [] (drop x.place bytes) numbers x.before → ⊥
+    by_side : (x : IsFlawed bytes f) → Continues (drop x.place bytes) [] x.before numbers ⊎ Continues []
+        (drop x.place bytes) numbers x.before → ⊥
     by_side x (inl s) = byte_there x.wrong (no_further [] numbers x s a.few a.narrow).1
     by_side x (inr s) = byte_there x.wrong (nothing_left s.2 refl)
 

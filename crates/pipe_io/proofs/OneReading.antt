@@ -1,17 +1,20 @@
 -- An input is at most one list of numbers.
-use Rattle.std.proofs.Common.{◌≡◌, ◌∙◌, ap, sym, subst, refl, ℕ, ℤ, ◌==◌, Bool, true, false, cond, List, [], ◌∷◌, ◌++◌, Option, Some, None, option_map, arith, append-nil, ◌⊎◌, inl, inr}
+use Rattle.std.proofs.Common.{◌≡◌, ◌∙◌, ap, sym, subst, refl, ℕ, ℤ, ◌==◌, Bool, true, false, cond, List, [], ◌∷◌, ◌++◌, Option, Some, None}
+use Rattle.std.proofs.Common.{option_map, arith, append-nil, ◌⊎◌, inl, inr}
 use Rattle.std.specs.List.{list_all}
 use Rattle.std.proofs.lemmas.Bool.{and_parts}
 use Rattle.std.proofs.lemmas.Bool.Decides.{nat_tests}
 use Rattle.pipe_model.specs.Language.Lexis.{is_blank, is_digit, number_of}
-use Rattle.pipe_io.specs.InputFile.{AreNumbersOf, EndsNumber, ListsNumbers, Number, Separator, EndsHere, begins_digit, digits_value, signed, value_of, minus}
+use Rattle.pipe_io.specs.InputFile.{AreNumbersOf, EndsNumber, ListsNumbers, Number, Separator, EndsHere, begins_digit, digits_value, signed}
+use Rattle.pipe_io.specs.InputFile.{value_of, minus}
 
 -- a text with a value in digits is all digits
 pub all_digits : (ds : List ℕ) (n : ℕ) → digits_value ds ≡ Some n → list_all is_digit ds ≡ true
 all_digits [] n e = refl
 all_digits (d ∷ ds) n e = by_test (list_all is_digit (d ∷ ds)) refl e
   where
-    by_test : (b : Bool) → list_all is_digit (d ∷ ds) ≡ b → cond b (Some (number_of (d ∷ ds))) None ≡ Some n → list_all is_digit (d ∷ ds) ≡ true
+    by_test : (b : Bool) → list_all is_digit (d ∷ ds) ≡ b → cond b (Some (number_of (d ∷ ds))) None ≡ Some n
+        → list_all is_digit (d ∷ ds) ≡ true
     by_test true t h = t
     by_test false t h = cc (h)
 
@@ -24,12 +27,14 @@ mapped f (Some x) y e = (x, refl)
 pub tail_digits : (b : ℕ) (bs : List ℕ) (n : ℤ) → value_of (b ∷ bs) ≡ Some n → (list_all is_digit bs ≡ true) × (is_blank b ≡ false)
 tail_digits b bs n e = by_sign (b == minus) refl e
   where
-    by_sign : (s : Bool) → (b == minus) ≡ s → cond s (option_map (signed true) (digits_value bs)) (option_map (signed false) (digits_value (b ∷ bs))) ≡ Some n
+    by_sign : (s : Bool) → (b == minus) ≡ s → cond s (option_map (signed true) (digits_value bs))
+        (option_map (signed false) (digits_value (b ∷ bs))) ≡ Some n
         → (list_all is_digit bs ≡ true) × (is_blank b ≡ false)
     by_sign true t h = let m = mapped (signed true) (digits_value bs) n h in (all_digits bs m.0 m.1, grind (arith, nat_tests, t))
     by_sign false t h =
         let m = mapped (signed false) (digits_value (b ∷ bs)) n h in
-        let parts : (is_digit b ≡ true) × (list_all is_digit bs ≡ true) = and_parts (is_digit b) (list_all is_digit bs) (all_digits (b ∷ bs) m.0 m.1) in
+        let parts : (is_digit b ≡ true) × (list_all is_digit bs ≡ true) = and_parts (is_digit b) (list_all is_digit bs)
+        (all_digits (b ∷ bs) m.0 m.1) in
         (parts.1, grind (arith, nat_tests, parts.0))
 
 -- two prefixes that have all digits at the beginning are the same
@@ -47,7 +52,8 @@ one_digits (a ∷ ts) [] x y p q e h g =
 one_digits (a ∷ ts) (b ∷ bs) x y p q e h g =
     let first : a ≡ b = cc (e) in
     let rest : ts ++ x ≡ bs ++ y = cc (e) in
-    let ih = one_digits ts bs x y (and_parts (is_digit a) (list_all is_digit ts) p).1 (and_parts (is_digit b) (list_all is_digit bs) q).1 rest h g in
+    let ih = one_digits ts bs x y (and_parts (is_digit a) (list_all is_digit ts) p).1 (and_parts (is_digit b) (list_all is_digit bs) q).1
+    rest h g in
     let tails : ts ≡ bs = ih.0 in
     (cc (first, tails), ih.1)
 

@@ -1,12 +1,14 @@
 -- The numbers found so far, and the rest of the input.
-use Rattle.std.proofs.Common.{◌≡◌, ◌∙◌, ap, sym, subst, refl, ℕ, ℤ, ◌+◌, ◌-◌, ◌<◌, ◌≤◌, true, List, [], ◌∷◌, ◌++◌, length, drop, All, arith, suc, Some, length-drop, length-append, append-nil, append_assoc}
+use Rattle.std.proofs.Common.{◌≡◌, ◌∙◌, ap, sym, subst, refl, ℕ, ℤ, ◌+◌, ◌-◌, ◌<◌, ◌≤◌, true, List, [], ◌∷◌, ◌++◌, length, drop, All, arith}
+use Rattle.std.proofs.Common.{suc, Some, length-drop, length-append, append-nil, append_assoc}
 use Rattle.std.proofs.lemmas.List.{drop-drop}
 use Rattle.std.proofs.lemmas.List.Elements.{All-push}
 use Rattle.pipe_model.specs.Language.Lexis.{is_blank}
 use Rattle.pipe_io.specs.declared.numerals.Flaw.{Flaw}
 use Rattle.pipe_io.specs.declared.numerals.Numeral.{Numeral}
 use Rattle.pipe_io.specs.declared.bounds.TheConstants.{LONGEST_INPUT, MOST_NUMBERS}
-use Rattle.pipe_io.specs.InputFile.{AreNumbersOf, FitsI64, HasBareMinus, HasCutNumber, HasStrayByte, HasTooMany, HasWideNumber, IsFaultOf, IsReached, ListsNumbers, Number, Separator, EndsHere, value_of, EndsNumber}
+use Rattle.pipe_io.specs.InputFile.{AreNumbersOf, FitsI64, HasBareMinus, HasCutNumber, HasStrayByte, HasTooMany, HasWideNumber, IsFaultOf}
+use Rattle.pipe_io.specs.InputFile.{IsReached, ListsNumbers, Number, Separator, EndsHere, value_of, EndsNumber}
 use Rattle.pipe_io.specs.Numerals.{CutNumber, IsFlaw, IsNumeralOf, OneMore, WideNumber, BareMinus, StrayByte, fault_at}
 
 -- `found` are the numbers before the rest, and numbers of the rest continue them
@@ -56,7 +58,8 @@ lists_past : (rest text following : List ℕ) (n : ℤ) (others : List ℤ) (end
 lists_past rest text following n others end e value ends d = rw e (Number text n value ends d)
 
 -- `Reaches` holds after a number
-pub past_number : (bytes rest : List ℕ) (found : List ℤ) (numeral : Numeral) → Reaches bytes found rest → IsNumeralOf rest numeral → length found < MOST_NUMBERS
+pub past_number : (bytes rest : List ℕ) (found : List ℤ) (numeral : Numeral) → Reaches bytes found rest → IsNumeralOf rest numeral
+    → length found < MOST_NUMBERS
     → Reaches bytes (found ++ numeral.value ∷ []) (drop numeral.length rest)
 past_number bytes rest found numeral r p few =
     let n = numeral.length in
@@ -106,9 +109,11 @@ pub at_flaw : (bytes rest : List ℕ) (found : List ℤ) (flaw : Flaw) (place : 
 at_flaw bytes rest found flaw place r f e = let same : place ≡ r.place = omega (arith, e, r.within) in rw same (by_flaw f)
   where
     by_flaw : {flaw : Flaw} → IsFlaw rest (length found) flaw → IsFaultOf bytes (fault_at flaw r.place)
-    by_flaw (StrayByte h) = let none : r.place + 0 ≡ r.place = omega arith in rw none (HasStrayByte r.place found (reached bytes rest found r) (rw r.here h))
+    by_flaw (StrayByte h) = let none : r.place + 0 ≡ r.place = omega arith in
+        rw none (HasStrayByte r.place found (reached bytes rest found r) (rw r.here h))
     by_flaw (BareMinus h) = HasBareMinus r.place found (reached bytes rest found r) (rw r.here h)
     by_flaw (OneMore text following n full h) = HasTooMany r.place found text following n (reached bytes rest found r) full (rw r.here h)
-    by_flaw (WideNumber text following n few h never) = HasWideNumber r.place found text following n (reached bytes rest found r) few (rw r.here h) never
+    by_flaw (WideNumber text following n few h never) = HasWideNumber r.place found text following n (reached bytes rest found r) few
+        (rw r.here h) never
     by_flaw (CutNumber text following n few h fits never) =
         HasCutNumber r.place found text following n (reached bytes rest found r) few (rw r.here h) fits never

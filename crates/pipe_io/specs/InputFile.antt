@@ -1,5 +1,6 @@
 -- The numbers of an input file, and the fault of a file that is not a list of numbers within the bounds.
-use Rattle.std.specs.Prelude.{◌≡◌, ℕ, ℤ, pos, neg_ℤ, ◌≤ℤ◌, ◌^◌, ◌-◌, ◌+◌, ◌<◌, ◌≤◌, ◌==◌, Bool, true, false, List, [], ◌∷◌, ◌++◌, length, drop, All}
+use Rattle.std.specs.Prelude.{◌≡◌, ℕ, ℤ, pos, neg_ℤ, ◌≤ℤ◌, ◌^◌, ◌-◌, ◌+◌, ◌<◌, ◌≤◌, ◌==◌, Bool, true, false, List, [], ◌∷◌, ◌++◌, length}
+use Rattle.std.specs.Prelude.{drop, All}
 use Rattle.std.specs.Prelude.{Option, Some, None, if◌then◌else◌, option_map}
 use Rattle.std.specs.List.{list_all}
 use Rattle.pipe_model.specs.Language.Lexis.{is_blank, is_digit, number_of}
@@ -36,7 +37,8 @@ EndsNumber (b ∷ bs) = is_blank b ≡ true
 -- the bytes are these numbers, among separators, and then `rest`
 pub data ListsNumbers : List ℕ → List ℤ → List ℕ → Type 0 where
   EndsHere : (rest : List ℕ) → ListsNumbers rest [] rest
-  Separator : {bytes rest : List ℕ} {numbers : List ℤ} (b : ℕ) → is_blank b ≡ true → ListsNumbers bytes numbers rest → ListsNumbers (b ∷ bytes) numbers rest
+  Separator : {bytes rest : List ℕ} {numbers : List ℤ} (b : ℕ) → is_blank b ≡ true → ListsNumbers bytes numbers rest
+      → ListsNumbers (b ∷ bytes) numbers rest
   Number : {bytes rest : List ℕ} {numbers : List ℤ} (text : List ℕ) (n : ℤ) → value_of text ≡ Some n → EndsNumber bytes
       → ListsNumbers bytes numbers rest → ListsNumbers (text ++ bytes) (n ∷ numbers) rest
 
@@ -86,14 +88,17 @@ BeginsBareMinus (b ∷ bs) = ((b == minus) ≡ true) × (begins_digit bs ≡ fal
 -- its value. A number that is too wide counts before a bad byte after it
 pub data HasFault (bytes : List ℕ) : InputFault → Type 0 where
   IsTooLong : LONGEST_INPUT < length bytes → HasFault bytes faults.TooLong
-  HasStrayByte : (place : ℕ) (before : List ℤ) → IsReached bytes place before → BeginsNothing (drop place bytes) → HasFault bytes (faults.BadByte place)
+  HasStrayByte : (place : ℕ) (before : List ℤ) → IsReached bytes place before → BeginsNothing (drop place bytes)
+      → HasFault bytes (faults.BadByte place)
   HasBareMinus : (place : ℕ) (before : List ℤ) → IsReached bytes place before → BeginsBareMinus (drop place bytes)
       → HasFault bytes (faults.BadByte (place + 1))
   HasTooMany : (place : ℕ) (before : List ℤ) (text following : List ℕ) (n : ℤ) → IsReached bytes place before → length before ≡ MOST_NUMBERS
       → BeginsNumber (drop place bytes) text following n → HasFault bytes (faults.TooMany place)
-  HasWideNumber : (place : ℕ) (before : List ℤ) (text following : List ℕ) (n : ℤ) → IsReached bytes place before → length before < MOST_NUMBERS
+  HasWideNumber : (place : ℕ) (before : List ℤ) (text following : List ℕ) (n : ℤ) → IsReached bytes place before
+      → length before < MOST_NUMBERS
       → BeginsNumber (drop place bytes) text following n → (FitsI64 n → ⊥) → HasFault bytes (faults.TooWide place)
-  HasCutNumber : (place : ℕ) (before : List ℤ) (text following : List ℕ) (n : ℤ) → IsReached bytes place before → length before < MOST_NUMBERS
+  HasCutNumber : (place : ℕ) (before : List ℤ) (text following : List ℕ) (n : ℤ) → IsReached bytes place before
+      → length before < MOST_NUMBERS
       → BeginsNumber (drop place bytes) text following n → FitsI64 n → (EndsNumber following → ⊥)
       → HasFault bytes (faults.BadByte (place + length text))
 

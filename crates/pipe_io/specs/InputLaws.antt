@@ -17,4 +17,5 @@ FaultyInputsAreNoNumbers = (bytes : List ℕ) (fault : InputFault) (numbers : Li
 
 -- each input is a list of numbers, or it has a fault
 abbrev pub InputsAreNumbersOrFaulty : Type 0
-InputsAreNumbersOrFaulty = (bytes : List ℕ) → ((numbers : List ℤ) × AreNumbersOf bytes numbers) ⊎ ((fault : InputFault) × HasFault bytes fault)
+InputsAreNumbersOrFaulty = (bytes : List ℕ) → ((numbers : List ℤ) × AreNumbersOf bytes numbers) ⊎
+    ((fault : InputFault) × HasFault bytes fault)

@@ -32,10 +32,12 @@ pub record IsNumeralOf (bytes : List ℕ) (numeral : Numeral) : Type 0 where
 pub data IsFlaw (bytes : List ℕ) (before : ℕ) : Flaw → Type 0 where
   StrayByte : BeginsNothing bytes → IsFlaw bytes before (flaws.BadByte 0)
   BareMinus : BeginsBareMinus bytes → IsFlaw bytes before (flaws.BadByte 1)
-  OneMore : (text following : List ℕ) (n : ℤ) → before ≡ MOST_NUMBERS → BeginsNumber bytes text following n → IsFlaw bytes before flaws.TooMany
+  OneMore : (text following : List ℕ) (n : ℤ) → before ≡ MOST_NUMBERS → BeginsNumber bytes text following n
+      → IsFlaw bytes before flaws.TooMany
   WideNumber : (text following : List ℕ) (n : ℤ) → before < MOST_NUMBERS → BeginsNumber bytes text following n → (FitsI64 n → ⊥)
       → IsFlaw bytes before flaws.TooWide
-  CutNumber : (text following : List ℕ) (n : ℤ) → before < MOST_NUMBERS → BeginsNumber bytes text following n → FitsI64 n → (EndsNumber following → ⊥)
+  CutNumber : (text following : List ℕ) (n : ℤ) → before < MOST_NUMBERS → BeginsNumber bytes text following n → FitsI64 n
+      → (EndsNumber following → ⊥)
       → IsFlaw bytes before (flaws.BadByte (length text))
 
 -- the offset of the fault after the first byte

@@ -1,5 +1,6 @@
 -- Each source has tokens within the bounds, or a fault.
-use Rattle.std.proofs.Common.{◌≡◌, ◌∙◌, ap, sym, ℕ, ◌+◌, ◌-◌, ◌<◌, ◌≤◌, ◌^◌, Bool, true, false, List, [], ◌∷◌, ◌++◌, length, length-drop, take, drop, refl, zero, suc, arith, ◌⊎◌, inl, inr, Option, Some, None, append-nil, append_assoc}
+use Rattle.std.proofs.Common.{◌≡◌, ◌∙◌, ap, sym, ℕ, ◌+◌, ◌-◌, ◌<◌, ◌≤◌, ◌^◌, Bool, true, false, List, [], ◌∷◌, ◌++◌, length, length-drop}
+use Rattle.std.proofs.Common.{take, drop, refl, zero, suc, arith, ◌⊎◌, inl, inr, Option, Some, None, append-nil, append_assoc}
 use Rattle.std.specs.List.{prefix_len}
 use Rattle.std.specs.Str.{bytes_eq}
 use Rattle.std.proofs.lemmas.Bool.{cases_lt, false≢true}
@@ -55,7 +56,8 @@ one_more_row seen bytes best row h = by_both (front_or_not (text_of row) bytes) 
     by_both (inr no_front) out = (best, keeps seen bytes best row h (λ front out. no_front front))
 
 -- the best of all rows
-best_of : (rows seen : List OpRow) (bytes : List ℕ) (best : Option OpRow) → IsBest seen bytes best → (other : Option OpRow) × IsBest (seen ++ rows) bytes other
+best_of : (rows seen : List OpRow) (bytes : List ℕ) (best : Option OpRow) → IsBest seen bytes best
+    → (other : Option OpRow) × IsBest (seen ++ rows) bytes other
 best_of [] seen bytes best h = (best, rw (append-nil seen) h)
 best_of (row ∷ rows) seen bytes best h =
     let one = one_more_row seen bytes best row h in
@@ -86,7 +88,8 @@ word_or_flaw : (bytes following : List ℕ) (b : ℕ) → bytes ≡ b ∷ follow
 word_or_flaw bytes following b e letter = by_place (word_place (take (1 + prefix_len is_name_byte following) bytes)) refl
   where
     by_length : word_place (take (1 + prefix_len is_name_byte following) bytes) ≡ None
-        → (64 < length (take (1 + prefix_len is_name_byte following) bytes)) ⊎ (length (take (1 + prefix_len is_name_byte following) bytes) ≤ 64)
+        → (64 < length (take (1 + prefix_len is_name_byte following) bytes)) ⊎
+        (length (take (1 + prefix_len is_name_byte following) bytes) ≤ 64)
         → PieceOrFlaw bytes
     by_length h (inl long) = inr (_, name_flaw bytes following _ b _ e letter refl refl h long)
     by_length h (inr short) = inl (_, name_piece bytes following _ b _ e letter refl refl h short)
@@ -108,14 +111,23 @@ number_or_flaw bytes following b e letter digit = by_value (cases_lt (number_of 
 piece_or_flaw : (b : ℕ) (following : List ℕ) → PieceOrFlaw (b ∷ following)
 piece_or_flaw b following = by_tests (is_blank b) (begins_comment (b ∷ following)) (is_letter b) (is_digit b) refl refl refl refl
   where
-    by_tests : (blank comment letter digit : Bool) → is_blank b ≡ blank → begins_comment (b ∷ following) ≡ comment → is_letter b ≡ letter → is_digit b ≡ digit
+    by_tests : (blank comment letter digit : Bool) → is_blank b ≡ blank → begins_comment (b ∷ following) ≡ comment → is_letter b ≡ letter
+        → is_digit b ≡ digit
         → PieceOrFlaw (b ∷ following)
     by_tests true comment letter digit h i j k = inl (_, ABlank b following refl h)
     by_tests false true letter digit h i j k = inl (_, comment_piece (b ∷ following) _ i refl)
     by_tests false false true digit h i j k = word_or_flaw (b ∷ following) following b refl j
     by_tests false false false true h i j k = number_or_flaw (b ∷ following) following b refl j k
     by_tests false false false false h i j k =
-        punctuation_or_flaw (b ∷ following) b (record { following = following; parts = refl; no_blank = h; no_comment = i; no_letter = j; no_digit = k })
+        punctuation_or_flaw (b ∷ following) b (record {
+          following = following;
+          parts = refl;
+          no_blank = h;
+          no_comment = i;
+          no_letter =
+              j;
+          no_digit = k;
+        })
 
 -- ---- whole sources
 
@@ -127,14 +139,16 @@ flaw_is_fault source found rest flaws.TooWide r f = (_, at_flaw source found res
 flaw_is_fault source found rest flaws.NameTooLong r f = (_, at_flaw source found rest flaws.NameTooLong _ r f refl)
 
 -- if at most `bound` bytes are left, the source has tokens or a fault
-goes_on : (bound : ℕ) (source : List ℕ) (found : List Token) (rest : List ℕ) → length rest ≤ bound → Reaches source found rest → IsLexedOrHasFault source
+goes_on : (bound : ℕ) (source : List ℕ) (found : List Token) (rest : List ℕ) → length rest ≤ bound → Reaches source found rest
+    → IsLexedOrHasFault source
 goes_on bound source found [] h r = inl (found, at_end source found r)
 goes_on zero source found (b ∷ following) h r = absurd (omega arith)
 goes_on (suc bound) source found (b ∷ following) h r = elim (piece_or_flaw b following) [
   | inl p ↦ (
       let within = piece_within p.1 in
       goes_on bound source (found ++ tokens_of p.0 (length source - length (b ∷ following))) (drop (length_of p.0) (b ∷ following))
-      (omega (arith, h, within.0, within.1, length-drop (length_of p.0) (b ∷ following))) (past_piece source found (b ∷ following) p.0 _ r p.1 refl))
+      (omega (arith, h, within.0, within.1, length-drop (length_of p.0) (b ∷ following)))
+      (past_piece source found (b ∷ following) p.0 _ r p.1 refl))
   | inr f ↦ inr (flaw_is_fault source found (b ∷ following) f.0 r f.1)
 ]
 

@@ -12,7 +12,8 @@ position_is p xs k d within before here =
     rw e (let t : ltb k (length xs) ≡ true = grind (arith, nat_tests) in ap (λ b. cond b (Some k) None) t)
 
 -- there is none if the test fails everywhere
-pub position_is_none : {X : Type 0} (p : X → Bool) (xs : List X) (d : X) → ((j : ℕ) → j < length xs → p (get_or xs j d) ≡ false) → position p xs ≡ None
+pub position_is_none : {X : Type 0} (p : X → Bool) (xs : List X) (d : X) → ((j : ℕ) → j < length xs → p (get_or xs j d) ≡ false)
+    → position p xs ≡ None
 position_is_none p xs d fails =
     let e : position_or_len p xs ≡ length xs = position_or_len_is p xs (length xs) d (omega arith) fails (λ h. absurd (omega (arith, h))) in
     rw e (let t : ltb (length xs) (length xs) ≡ false = grind (arith, nat_tests) in ap (λ b. cond b (Some (length xs)) None) t)

@@ -21,7 +21,8 @@ number_of_front xs n =
     rw whole (fold_grows (number_of (take n xs)) (drop n xs))
 
 -- if a prefix writes a number that is too wide, so do all digits
-pub front_too_wide : (xs : List ℕ) (i v : ℕ) → i < length xs → v ≡ number_of (take i xs) → 2 ^ 63 ≤ 10 * v + (get_or xs i 0 - 48) → 2 ^ 63 ≤ number_of xs
+pub front_too_wide : (xs : List ℕ) (i v : ℕ) → i < length xs → v ≡ number_of (take i xs) → 2 ^ 63 ≤ 10 * v + (get_or xs i 0 - 48)
+    → 2 ^ 63 ≤ number_of xs
 front_too_wide xs i v within so_far wide =
     let front : number_of (take (i + 1) xs) ≡ 10 * v + (get_or xs i 0 - 48) = fold_more with_digit 0 xs i 0 within
     ∙ ap (λ n. with_digit n (get_or xs i 0)) (sym so_far) in

@@ -1,5 +1,6 @@
 -- Operators and signs with which bytes begin.
-use Rattle.std.proofs.Common.{◌≡◌, ◌≢◌, ◌∙◌, ap, sym, ℕ, ◌+◌, ◌<◌, ◌≤◌, Bool, true, false, List, [], ◌∷◌, ◌++◌, length, length-append, take, drop, refl, arith, cond, ◌⊎◌, inl, inr, position, Option, Some, None, Contains, append_assoc}
+use Rattle.std.proofs.Common.{◌≡◌, ◌≢◌, ◌∙◌, ap, sym, ℕ, ◌+◌, ◌<◌, ◌≤◌, Bool, true, false, List, [], ◌∷◌, ◌++◌, length, length-append, take}
+use Rattle.std.proofs.Common.{drop, refl, arith, cond, ◌⊎◌, inl, inr, position, Option, Some, None, Contains, append_assoc}
 use Rattle.std.specs.Str.{bytes_eq}
 use Rattle.std.proofs.Math.Seq.{drop-append_seam, take-append_seam}
 use Rattle.std.proofs.lemmas.Bool.{false≢true}
@@ -48,7 +49,8 @@ punctuation_is text s e = by_place (position (λ operator. bytes_eq operator tex
 -- ---- prefixes of bytes that begin with punctuation
 
 -- each prefix that is a symbol is punctuation
-front_is_punctuation : (bytes text rest : List ℕ) (first : ℕ) (s : Symbol) → BeginsPunctuation first bytes → bytes ≡ text ++ rest → symbol_of text ≡ Some s
+front_is_punctuation : (bytes text rest : List ℕ) (first : ℕ) (s : Symbol) → BeginsPunctuation first bytes → bytes ≡ text ++ rest
+    → symbol_of text ≡ Some s
     → punctuation_symbol text ≡ Some s
 front_is_punctuation bytes [] rest first s begins e t = (let none : None ≡ Some s = t in cc (none))
 front_is_punctuation bytes (b ∷ text) rest first s begins e t =
@@ -57,7 +59,8 @@ front_is_punctuation bytes (b ∷ text) rest first s begins e t =
     sym (as_punctuation b text (rw same at begins.no_letter) (rw same at begins.no_digit)) ∙ t
 
 -- and each prefix that is punctuation is a symbol
-punctuation_at_front : (bytes text rest : List ℕ) (first : ℕ) (s : Symbol) → BeginsPunctuation first bytes → bytes ≡ text ++ rest → text ≢ []
+punctuation_at_front : (bytes text rest : List ℕ) (first : ℕ) (s : Symbol) → BeginsPunctuation first bytes → bytes ≡ text ++ rest
+    → text ≢ []
     → punctuation_symbol text ≡ Some s
     → symbol_of text ≡ Some s
 punctuation_at_front bytes [] rest first s begins e some t = absurd (some refl)
@@ -76,13 +79,16 @@ some_more [] n = absurd (n refl)
 some_more (c ∷ more) n = omega arith
 
 -- no row's symbol is a longer prefix than the symbol of the longest row
-not_longer : (rows : List OpRow) (bytes : List ℕ) (row other : OpRow) → IsLongestRow rows bytes row → Contains rows other → StartsWith (text_of other) bytes
+not_longer : (rows : List OpRow) (bytes : List ℕ) (row other : OpRow) → IsLongestRow rows bytes row → Contains rows other
+    → StartsWith (text_of other) bytes
     → length (text_of other) ≤ length (text_of row)
 not_longer rows bytes row other h among front =
-    All-contains (λ other. StartsWith (text_of other) bytes → length (text_of other) ≤ length (text_of row)) rows other h.longest among front
+    All-contains (λ other. StartsWith (text_of other) bytes → length (text_of other) ≤ length (text_of row)) rows other h.longest among
+    front
 
 -- if no row's symbol is a prefix, this row's is none
-no_front : (rows : List OpRow) (bytes : List ℕ) (row : OpRow) → HasNoSymbol rows bytes → Contains rows row → StartsWith (text_of row) bytes → ⊥
+no_front : (rows : List OpRow) (bytes : List ℕ) (row : OpRow) → HasNoSymbol rows bytes → Contains rows row → StartsWith (text_of row) bytes
+    → ⊥
 no_front rows bytes row h among front = All-contains (λ other. StartsWith (text_of other) bytes → ⊥) rows row h among front
 
 -- ---- operators
@@ -98,7 +104,8 @@ operator_is_longest : (bytes : List ℕ) (first code : ℕ) → BeginsPunctuatio
     → IsLongest (text_of h.row) h.longest.front.0
 operator_is_longest bytes first code begins h = record { longest = no_longer }
   where
-    no_longer : (more after : List ℕ) (s : Symbol) → h.longest.front.0 ≡ more ++ after → more ≢ [] → symbol_of (text_of h.row ++ more) ≡ Some s → ⊥
+    no_longer : (more after : List ℕ) (s : Symbol) → h.longest.front.0 ≡ more ++ after → more ≢ []
+        → symbol_of (text_of h.row ++ more) ≡ Some s → ⊥
     no_longer more after s e some t =
         let text = text_of h.row ++ more in
         let front : bytes ≡ text ++ after = longer_front bytes (text_of h.row) h.longest.front.0 more after h.longest.front.1 e in
@@ -123,8 +130,10 @@ operator_piece bytes first code begins h =
     let some : text ≢ [] = operator_is_some h.row among in
     let n : operator_length code ≡ length text = ap operator_length (sym h.same)
     ∙ at_row (λ row. operator_length row.code) (λ row. length (text_of row)) h.row refl among in
-    let front : take (operator_length code) bytes ≡ text = ap (λ x. take x bytes) n ∙ ap (λ x. take (length text) x) parts ∙ take-append_seam text rest in
-    let following : drop (operator_length code) bytes ≡ rest = ap (λ x. drop x bytes) n ∙ ap (λ x. drop (length text) x) parts ∙ drop-append_seam text rest in
+    let front : take (operator_length code) bytes ≡ text = ap (λ x. take x bytes) n ∙ ap (λ x. take (length text) x) parts
+    ∙ take-append_seam text rest in
+    let following : drop (operator_length code) bytes ≡ rest = ap (λ x. drop x bytes) n ∙ ap (λ x. drop (length text) x) parts
+    ∙ drop-append_seam text rest in
     let symbol : symbol_of text ≡ Some (symbols.Operator code) =
     punctuation_at_front bytes text rest first (symbols.Operator code) begins parts some (rw h.same at (row_symbol h.row among)) in
     let token : IsToken text rest (symbols.Operator code) =
@@ -150,7 +159,8 @@ only_sign bytes text rest first s begins none e t = elim (punctuation_is text s 
 sign_symbol : (bytes : List ℕ) (first : ℕ) → BeginsPunctuation first bytes → HasNoSymbol OPS.rows bytes → is_sign first ≡ true
     → symbol_of (first ∷ []) ≡ Some (symbols.Sign first)
 sign_symbol bytes first begins none sign =
-    as_punctuation first [] begins.no_letter begins.no_digit ∙ by_place (position (λ operator. bytes_eq operator (first ∷ [])) operators) refl
+    as_punctuation first [] begins.no_letter begins.no_digit ∙ by_place (position (λ operator. bytes_eq operator (first ∷ [])) operators)
+    refl
   where
     by_place : (o : Option ℕ) → position (λ operator. bytes_eq operator (first ∷ [])) operators ≡ o
         → operator_or_sign o (first ∷ []) ≡ Some (symbols.Sign first)

@@ -1,13 +1,16 @@
 -- Pieces taken from the beginning of a source, one after the other.
-use Rattle.std.proofs.Common.{◌≡◌, ◌∙◌, ap, sym, subst, ℕ, ◌+◌, ◌-◌, ◌<◌, ◌≤◌, List, [], ◌∷◌, ◌++◌, length, length-take-le, length-drop, take, drop, refl, arith, All, append-nil, append_assoc}
+use Rattle.std.proofs.Common.{◌≡◌, ◌∙◌, ap, sym, subst, ℕ, ◌+◌, ◌-◌, ◌<◌, ◌≤◌, List, [], ◌∷◌, ◌++◌, length, length-take-le, length-drop}
+use Rattle.std.proofs.Common.{take, drop, refl, arith, All, append-nil, append_assoc}
 use Rattle.std.proofs.lemmas.List.{drop-drop, take-append-drop}
 use Rattle.std.proofs.lemmas.List.Elements.{All-push}
 use Rattle.pipe_model.specs.declared.token.Token.{Token}
-use Rattle.pipe_model.specs.Language.Tokens.{kind_of, token_at, IsLexed, IsReached, IsTokenWithinBounds, HasBadByte, HasLongName, HasWideNumber, Scans, Stops, Blank, Comment, Taken}
+use Rattle.pipe_model.specs.Language.Tokens.{kind_of, token_at, IsLexed, IsReached, IsTokenWithinBounds, HasBadByte, HasLongName}
+use Rattle.pipe_model.specs.Language.Tokens.{HasWideNumber, Scans, Stops, Blank, Comment, Taken}
 use Rattle.pipe_lexer.specs.declared.piece.Flaw.{Flaw}
 use Rattle.pipe_lexer.specs.declared.piece.Piece.{Piece}
 use Rattle.pipe_lexer.specs.Faults.{fault_at, IsFaultOf}
-use Rattle.pipe_lexer.specs.Pieces.{length_of, tokens_of, IsFlaw, IsPiece, ABlank, AComment, AToken, NoTokenBegins, NumberIsWide, NameIsLong}
+use Rattle.pipe_lexer.specs.Pieces.{length_of, tokens_of, IsFlaw, IsPiece, ABlank, AComment, AToken, NoTokenBegins, NumberIsWide}
+use Rattle.pipe_lexer.specs.Pieces.{NameIsLong}
 
 -- a piece has at least one byte, and at most all bytes
 pub piece_within : {bytes : List ℕ} {piece : Piece} → IsPiece bytes piece → (0 < length_of piece) × (length_of piece ≤ length bytes)
@@ -27,7 +30,15 @@ pub record Reaches (source : List ℕ) (found : List Token) (rest : List ℕ) : 
 -- at the beginning no token is found
 pub at_start : (source : List ℕ) → length source ≤ 1048576 → Reaches source [] source
 at_start source short =
-    record { short = short; place = 0; within = omega arith; here = refl; keeps = λ others end d. d; bounded = λ k d h. absurd (omega arith) }
+    record {
+      short = short;
+      place = 0;
+      within = omega arith;
+      here = refl;
+      keeps = λ others end d. d;
+      bounded =
+          λ k d h. absurd (omega arith);
+    }
 
 -- a scan goes on after a piece
 scans_past : {bytes : List ℕ} {piece : Piece} (place : ℕ) (others : List Token) (end : List ℕ) → IsPiece bytes piece
@@ -50,10 +61,12 @@ piece_bounded : {bytes : List ℕ} {piece : Piece} (place : ℕ) (found : List T
     → All IsTokenWithinBounds (found ++ tokens_of piece place)
 piece_bounded place found (ABlank b following e g) h = rw (append-nil found) h
 piece_bounded place found (AComment n some within c) h = rw (append-nil found) h
-piece_bounded place found (AToken s n some within t w) h = All-push IsTokenWithinBounds found (record { kind = kind_of s; place = place; length = n }) h w
+piece_bounded place found (AToken s n some within t w) h = All-push IsTokenWithinBounds found
+    (record { kind = kind_of s; place = place; length = n }) h w
 
 -- `Reaches` holds after one more piece
-pub past_piece : (source : List ℕ) (found : List Token) (rest : List ℕ) (piece : Piece) (place : ℕ) → Reaches source found rest → IsPiece rest piece
+pub past_piece : (source : List ℕ) (found : List Token) (rest : List ℕ) (piece : Piece) (place : ℕ) → Reaches source found rest
+    → IsPiece rest piece
     → place ≡ length source - length rest → Reaches source (found ++ tokens_of piece place) (drop (length_of piece) rest)
 past_piece source found rest piece place r p e =
     let same : place ≡ r.place = omega (arith, e, r.within) in
@@ -86,7 +99,8 @@ reached source found rest r = record {
 }
 
 -- a flaw at the beginning of the rest is the fault of the source
-pub at_flaw : (source : List ℕ) (found : List Token) (rest : List ℕ) (flaw : Flaw) (place : ℕ) → Reaches source found rest → IsFlaw rest flaw
+pub at_flaw : (source : List ℕ) (found : List Token) (rest : List ℕ) (flaw : Flaw) (place : ℕ) → Reaches source found rest
+    → IsFlaw rest flaw
     → place ≡ length source - length rest → IsFaultOf source (fault_at flaw place)
 at_flaw source found rest flaw place r f e = let same : place ≡ r.place = omega (arith, e, r.within) in rw same (by_flaw f)
   where

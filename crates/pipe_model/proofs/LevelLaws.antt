@@ -23,7 +23,8 @@ below_operands (suc (suc (suc (suc (suc (suc (suc (suc (suc (suc (suc (suc (suc 
 below_operands (suc (suc (suc (suc (suc (suc (suc (suc (suc (suc (suc (suc (suc (suc n)))))))))))))) = omega arith
 
 -- from a level to one that is lower by these steps
-down : (steps : ℕ) {from : ℕ} {ts : List Symbol} {e : Expression} (level : ℕ) → level + steps ≡ from → Derives from ts e → Derives level ts e
+down : (steps : ℕ) {from : ℕ} {ts : List Symbol} {e : Expression} (level : ℕ) → level + steps ≡ from → Derives from ts e
+    → Derives level ts e
 down zero {ts = ts} {e = e} level h d = subst (λ x. Derives x ts e) (omega (arith, h)) d
 down (suc steps) level h d = Tighter (down steps (suc level) (omega (arith, h)) d)
 

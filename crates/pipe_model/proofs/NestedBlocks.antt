@@ -3,7 +3,8 @@ use Rattle.std.proofs.Common.{◌≡◌, ap, ◌∙◌, refl}
 use mathlib.Core.Former.{Count}
 use Rattle.pipe_model.specs.declared.tree.Block.{Block}
 use Rattle.pipe_model.specs.declared.tree.Expr.{Expr}
-use Rattle.pipe_model.specs.declared.tree.Stmt.{Stmt, Row_of-Stmt, end_of-Stmt, more_of-Stmt, items-the_row-Stmt, items_hidden-the_row-Stmt-0}
+use Rattle.pipe_model.specs.declared.tree.Stmt.{Stmt, Row_of-Stmt, end_of-Stmt, more_of-Stmt, items-the_row-Stmt}
+use Rattle.pipe_model.specs.declared.tree.Stmt.{items_hidden-the_row-Stmt-0}
 use Rattle.pipe_model.specs.declared.tree.Stmt.TheVariants as stmts
 use Rattle.pipe_model.specs.Language.SyntaxTree.{Then, If, While, expression_of, statement_of, statements_in, statements_of}
 

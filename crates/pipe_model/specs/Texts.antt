@@ -56,7 +56,8 @@ kind_text accesses.Write = codes "write"
 -- the line of a race: the cell's name, and its two accesses, the earlier first
 abbrev pub race_line : (ℕ → List ℕ) → Report → List ℕ
 race_line cell_name r =
-    codes "race " ++ (cell_name r.cell.0 ++ (codes " " ++ (kind_text r.earlier_kind ++ (codes " " ++ (instance_text r.earlier r.earlier_number
+    codes "race " ++ (cell_name r.cell.0 ++ (codes " "
+    ++ (kind_text r.earlier_kind ++ (codes " " ++ (instance_text r.earlier r.earlier_number
     ++ (codes " " ++ (kind_text r.later_kind ++ (codes " " ++ (instance_text r.later r.later_number ++ codes "\n")))))))))
 
 -- the words of the call form no command

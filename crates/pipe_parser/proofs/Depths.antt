@@ -1,5 +1,6 @@
 -- Counting brackets in a loop.
-use Rattle.std.proofs.Common.{◌≡◌, ℕ, ◌+◌, ◌-◌, ◌<◌, ◌≤◌, List, [], ◌∷◌, ◌++◌, length, append_assoc, append-nil, length-append, refl, sym, ap, ◌∙◌, arith, subst, Bool, true, false, cond}
+use Rattle.std.proofs.Common.{◌≡◌, ℕ, ◌+◌, ◌-◌, ◌<◌, ◌≤◌, List, [], ◌∷◌, ◌++◌, length, append_assoc, append-nil, length-append, refl, sym}
+use Rattle.std.proofs.Common.{ap, ◌∙◌, arith, subst, Bool, true, false, cond}
 use Rattle.std.specs.List.{count_by}
 use Rattle.std.proofs.lemmas.List.Sums.{count_by-le-length}
 use Rattle.pipe_model.specs.declared.symbol.Symbol.{Symbol}
@@ -25,7 +26,8 @@ pub opened_more : (p : Symbol → Bool) (before : List Symbol) (t : Symbol) (n m
 opened_more p before t n m h i = i ∙ ap (λ x. x + cond (p t) 1 0) h ∙ sym (count_one_more p before t)
 
 -- the counts after one more symbol
-pub counted_more : (all rest following : List Symbol) (t : Symbol) (opened closed o c : ℕ) → Counted all rest opened closed → rest ≡ t ∷ following
+pub counted_more : (all rest following : List Symbol) (t : Symbol) (opened closed o c : ℕ) → Counted all rest opened closed
+    → rest ≡ t ∷ following
     → o ≡ opened + cond (is_opening_bracket t) 1 0 → c ≡ closed + cond (is_closing_bracket t) 1 0 → o - c ≤ 64
     → Counted all following o c
 counted_more all rest following t opened closed o c k h i j l =
@@ -40,7 +42,8 @@ counted_more all rest following t opened closed o c k h i j l =
     }
 
 -- the symbol with which too many brackets are open
-pub counted_too_many : (all rest following : List Symbol) (t : Symbol) (opened closed o c : ℕ) → Counted all rest opened closed → rest ≡ t ∷ following
+pub counted_too_many : (all rest following : List Symbol) (t : Symbol) (opened closed o c : ℕ) → Counted all rest opened closed
+    → rest ≡ t ∷ following
     → o ≡ opened + cond (is_opening_bracket t) 1 0 → c ≡ closed + cond (is_closing_bracket t) 1 0 → 64 < o - c
     → OpensTooMany all (length all - length following)
 counted_too_many all rest following t opened closed o c k h i j l =

@@ -1,5 +1,6 @@
 -- Each list of symbols spells a program or has a first fault.
-use Rattle.std.proofs.Common.{◌≡◌, ◌≢◌, ℕ, zero, suc, ◌+◌, ◌-◌, List, [], ◌∷◌, ◌++◌, length, take, append_assoc, append-nil, refl, sym, arith, subst, ◌⊎◌, inl, inr}
+use Rattle.std.proofs.Common.{◌≡◌, ◌≢◌, ℕ, zero, suc, ◌+◌, ◌-◌, List, [], ◌∷◌, ◌++◌, length, take, append_assoc, append-nil, refl, sym}
+use Rattle.std.proofs.Common.{arith, subst, ◌⊎◌, inl, inr}
 use Rattle.std.proofs.lemmas.Bool.{cases_eq, cases_lt}
 use Rattle.pipe_model.specs.declared.symbol.Symbol.{Symbol}
 use Rattle.grammar_laws.specs.ProgramMachine.{Outside, Verdict, Accepted, Unexpected, TooLong, judge, program}
@@ -19,7 +20,8 @@ shallow_or_deep before (t ∷ rest) h =
       | inl l ↦ inr (length before + 1, record { before = before; t = t; after = rest; split = refl; many = refl; shallow = h; deep = l })
       | inr l ↦ (
           let same : (before ++ t ∷ []) ++ rest ≡ before ++ t ∷ rest = append_assoc before (t ∷ []) rest in
-          subst (λ x. IsShallow x ⊎ ((k : ℕ) × OpensTooMany x k)) same (shallow_or_deep (before ++ t ∷ []) rest (shallow_more before t h l)))
+          subst (λ x. IsShallow x ⊎ ((k : ℕ) × OpensTooMany x k)) same
+          (shallow_or_deep (before ++ t ∷ []) rest (shallow_more before t h l)))
     ]
 
 -- symbols that never open too many brackets, by the machine's verdict on all of them

@@ -4,7 +4,8 @@ use Rattle.pipe_model.specs.declared.symbol.Symbol.{Symbol}
 use Rattle.pipe_model.specs.declared.symbol.Symbol.TheVariants as symbols
 use Rattle.pipe_model.specs.Language.SyntaxTree.{Expression, Number, Name, Element, More, Take, Iter, binary_expression}
 use Rattle.pipe_model.specs.Language.Grammar.{any_expression, operand_level, level_of}
-use Rattle.grammar_laws.specs.Reading.{Reads, ReadsNumeral, ReadsName, ReadsElement, ReadsMore, ReadsTake, ReadsIter, ReadsNegative, ReadsNot, ReadsBracketed, Extends, Joins, NoSign}
+use Rattle.grammar_laws.specs.Reading.{Reads, ReadsNumeral, ReadsName, ReadsElement, ReadsMore, ReadsTake, ReadsIter, ReadsNegative}
+use Rattle.grammar_laws.specs.Reading.{ReadsNot, ReadsBracketed, Extends, Joins, NoSign}
 use Rattle.grammar_laws.specs.ExpressionMachine.{Want, Sign, Tail, ending}
 use Rattle.grammar_laws.proofs.ExpressionPassing.{passes, passes_expression, tail_joins, is_op}
 use Rattle.pipe_parser.specs.declared.fault.SyntaxFault.{SyntaxFault}
@@ -37,7 +38,8 @@ fault_closed sign e ts mid r = fault_after (closed sign) (Sign sign ∷ []) ts m
 -- ---- operators that extend an expression
 
 -- an operator and its operand extend an expression, and so does what follows them
-pub joins : (level code : ℕ) (a b e : Expression) (ts following mid rest : List Symbol) → ts ≡ symbols.Operator code ∷ following → level_of code ≡ level
+pub joins : (level code : ℕ) (a b e : Expression) (ts following mid rest : List Symbol) → ts ≡ symbols.Operator code ∷ following
+    → level_of code ≡ level
     → Reads (suc level) following b mid → Extends level (binary_expression code a b) mid e rest
     → Extends level a ts e rest
 joins level code a b e ts following mid rest h i r g = rw h (Joins code i r g)
@@ -47,7 +49,8 @@ pub passes_join : (level code : ℕ) (b : Expression) (ts following mid : List S
     → level_of code ≡ level
     → Reads (suc level) following b mid → (below : List Want) → ending ts (Tail ∷ below) ≡ ending mid (Tail ∷ below)
 passes_join level code b ts following mid l h i r below =
-    ap (λ x. ending x (Tail ∷ below)) h ∙ tail_joins code following below (is_op code level i l) ∙ passes (suc level) r (omega (arith, l)) below
+    ap (λ x. ending x (Tail ∷ below)) h ∙ tail_joins code following below (is_op code level i l)
+    ∙ passes (suc level) r (omega (arith, l)) below
 
 -- ---- operands
 -- a name without an index
@@ -65,26 +68,32 @@ pub number_read : (ts : List Symbol) (n : ℤ) (rest : List Symbol) → ts ≡ s
 number_read ts n rest h = rw h (ReadsNumeral n rest)
 
 -- the word `more` and its brackets
-pub more_read : (ts rest left : List Symbol) → ts ≡ symbols.Word 17 ∷ rest → rest ≡ symbols.Sign 40 ∷ symbols.Sign 41 ∷ left → Reads operand_level ts More left
+pub more_read : (ts rest left : List Symbol) → ts ≡ symbols.Word 17 ∷ rest → rest ≡ symbols.Sign 40 ∷ symbols.Sign 41 ∷ left
+    → Reads operand_level ts More left
 more_read ts rest left h i = rw (h, i) (ReadsMore left)
 
 -- the word `take` and its brackets
-pub take_read : (ts rest left : List Symbol) → ts ≡ symbols.Word 18 ∷ rest → rest ≡ symbols.Sign 40 ∷ symbols.Sign 41 ∷ left → Reads operand_level ts Take left
+pub take_read : (ts rest left : List Symbol) → ts ≡ symbols.Word 18 ∷ rest → rest ≡ symbols.Sign 40 ∷ symbols.Sign 41 ∷ left
+    → Reads operand_level ts Take left
 take_read ts rest left h i = rw (h, i) (ReadsTake left)
 
 -- the word `iter` and its brackets
-pub iter_read : (ts rest left : List Symbol) → ts ≡ symbols.Word 19 ∷ rest → rest ≡ symbols.Sign 40 ∷ symbols.Sign 41 ∷ left → Reads operand_level ts Iter left
+pub iter_read : (ts rest left : List Symbol) → ts ≡ symbols.Word 19 ∷ rest → rest ≡ symbols.Sign 40 ∷ symbols.Sign 41 ∷ left
+    → Reads operand_level ts Iter left
 iter_read ts rest left h i = rw (h, i) (ReadsIter left)
 
 -- a minus and its operand
-pub negative_read : (ts rest left : List Symbol) (e : Expression) → ts ≡ symbols.Operator 10 ∷ rest → ReadsUnary 1 rest e left → Reads operand_level ts e left
+pub negative_read : (ts rest left : List Symbol) (e : Expression) → ts ≡ symbols.Operator 10 ∷ rest → ReadsUnary 1 rest e left
+    → Reads operand_level ts e left
 negative_read ts rest left e h u = rw (h, u.is) (ReadsNegative u.reads)
 
 -- a `!` and its operand
-pub not_read : (ts rest left : List Symbol) (e : Expression) → ts ≡ symbols.Sign 33 ∷ rest → ReadsUnary 2 rest e left → Reads operand_level ts e left
+pub not_read : (ts rest left : List Symbol) (e : Expression) → ts ≡ symbols.Sign 33 ∷ rest → ReadsUnary 2 rest e left
+    → Reads operand_level ts e left
 not_read ts rest left e h u = rw (h, u.is) (ReadsNot u.reads)
 
 -- an expression in round brackets
-pub bracket_read : (ts inside rest : List Symbol) (e : Expression) → ts ≡ symbols.Sign 40 ∷ inside → Reads any_expression inside e (symbols.Sign 41 ∷ rest)
+pub bracket_read : (ts inside rest : List Symbol) (e : Expression) → ts ≡ symbols.Sign 40 ∷ inside
+    → Reads any_expression inside e (symbols.Sign 41 ∷ rest)
     → Reads operand_level ts e rest
 bracket_read ts inside rest e h r = rw h (ReadsBracketed r)

@@ -1,5 +1,6 @@
 -- Full expressions in a window of 257 symbols.
-use Rattle.std.proofs.Common.{◌≡◌, ℕ, suc, ◌+◌, ◌-◌, ◌<◌, ◌≤◌, List, [], ◌∷◌, ◌++◌, sym, ap, ◌∙◌, append-nil, append_assoc, subst, arith, length, take, drop, length-append, length-drop, Some}
+use Rattle.std.proofs.Common.{◌≡◌, ℕ, suc, ◌+◌, ◌-◌, ◌<◌, ◌≤◌, List, [], ◌∷◌, ◌++◌, sym, ap, ◌∙◌, append-nil, append_assoc, subst, arith}
+use Rattle.std.proofs.Common.{length, take, drop, length-append, length-drop, Some}
 use Rattle.std.proofs.Math.Seq.{drop-append_seam}
 use Rattle.std.proofs.lemmas.List.{length-take-le, nil_from_length, take-append-drop}
 use Rattle.pipe_model.specs.declared.symbol.Symbol.{Symbol}
@@ -62,7 +63,8 @@ stuck_within ts left s =
     omega (arith, ends.1, ap length m.split, length-append m.before m.rest)
 
 -- a reader that is stuck, in at most 256 symbols
-pub stuck_short : (ts : List Symbol) (left : ℕ) → length ts ≤ 256 → expression.IsStuck whole ts left → IsRejected 256 full ts (machine.Unexpected left)
+pub stuck_short : (ts : List Symbol) (left : ℕ) → length ts ≤ 256 → expression.IsStuck whole ts left
+    → IsRejected 256 full ts (machine.Unexpected left)
 stuck_short ts left l s = record { refused = λ below. stuck_full 256 ts left below s (omega (arith, l)) }
 
 -- a reader that is stuck before the end of the window
@@ -79,7 +81,8 @@ stuck_in_window ts left l p s =
     }
 
 -- an expression that ends before the end of the window
-pub read_in_window : (ts rest : List Symbol) (e : Expression) → 256 < length ts → Reads any_expression (take 257 ts) e rest → 0 < length rest
+pub read_in_window : (ts rest : List Symbol) (e : Expression) → 256 < length ts → Reads any_expression (take 257 ts) e rest
+    → 0 < length rest
     → ReadsFull 256 ts e (drop (257 - length rest) ts)
 read_in_window ts rest e l r p =
     let t = sound r in
@@ -97,7 +100,8 @@ read_in_window ts rest e l r p =
     }
 
 -- in at most 256 symbols, a fault of the reader of expressions is the fault of reading a full expression
-pub stuck_fault : (ts : List Symbol) → length ts ≤ 256 → (f : SyntaxFault) → expression_faults.ExpressionStops whole ts f → SyntaxStops full ts f
+pub stuck_fault : (ts : List Symbol) → length ts ≤ 256 → (f : SyntaxFault) → expression_faults.ExpressionStops whole ts f
+    → SyntaxStops full ts f
 stuck_fault ts l (faults.Unexpected left) s = stuck_short ts left l s
 stuck_fault ts l (faults.TooDeep left) s = s
 stuck_fault ts l (faults.TooLong left) s = absurd s

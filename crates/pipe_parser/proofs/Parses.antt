@@ -1,5 +1,6 @@
 -- The results of reading symbols, with the bound on open brackets.
-use Rattle.std.proofs.Common.{◌≡◌, ◌≢◌, ℕ, zero, suc, ◌+◌, ◌-◌, ◌<◌, ◌≤◌, List, [], ◌∷◌, ◌++◌, length, take, append_assoc, append-nil, length-append, refl, sym, ap, ◌∙◌, arith, subst, inl, inr}
+use Rattle.std.proofs.Common.{◌≡◌, ◌≢◌, ℕ, zero, suc, ◌+◌, ◌-◌, ◌<◌, ◌≤◌, List, [], ◌∷◌, ◌++◌, length, take, append_assoc, append-nil}
+use Rattle.std.proofs.Common.{length-append, refl, sym, ap, ◌∙◌, arith, subst, inl, inr}
 use Rattle.std.proofs.Math.Seq.{take-append_seam}
 use Rattle.pipe_model.specs.declared.symbol.Symbol.{Symbol}
 use Rattle.grammar_laws.specs.ProgramMachine.{Outside, Verdict, Accepted, Unexpected, TooLong, judge, program}
@@ -7,7 +8,8 @@ use Rattle.pipe_model.specs.Language.SyntaxTree.{SyntaxTree}
 use Rattle.grammar_laws.specs.Reading.{ReadsProgram}
 use Rattle.pipe_model.specs.Language.Spelling as spelling
 use Rattle.pipe_model.specs.Language.Spelling.{Spells, IsShallow, FirstFault, GrammarRule}
-use Rattle.grammar_laws.proofs.FaultRules.{IsShallowBefore, ComesToLast, first_unexpected, first_unexpected_end, first_too_long, first_too_deep}
+use Rattle.grammar_laws.proofs.FaultRules.{IsShallowBefore, ComesToLast, first_unexpected, first_unexpected_end, first_too_long}
+use Rattle.grammar_laws.proofs.FaultRules.{first_too_deep}
 use Rattle.grammar_laws.proofs.FirstFaults.{is_unexpected, is_too_long}
 use Rattle.grammar_laws.proofs.OpenBrackets.{shallow_before_one, shallow_is_before}
 use Rattle.grammar_laws.proofs.ProgramPassing.{accepts_program}
@@ -20,7 +22,14 @@ use Rattle.pipe_parser.specs.declared.fault.SyntaxFault.TheVariants as faults
 
 -- shallow symbols spell the program that was read from them
 pub spelled : (ts : List Symbol) (p : SyntaxTree) → ReadsProgram 256 ts p → IsShallow ts → Spells ts p
-spelled ts p r h = let t = sound_program r in record { pieces = t.taken; split = t.split; derived = t.derived; short = t.short; shallow = h }
+spelled ts p r h = let t = sound_program r in record {
+  pieces = t.taken;
+  split = t.split;
+  derived = t.derived;
+  short = t.short;
+  shallow =
+      h;
+}
 
 -- no more symbols are left than there are
 pub unexpected_within : (ts : List Symbol) (n : ℕ) → judge 256 ts (Outside program) ≡ Unexpected n → n ≤ length ts
@@ -50,12 +59,15 @@ shallow_unexpected ts n v h = by_left n refl
     by_left : (m : ℕ) → n ≡ m → FirstFault ts spelling.Unexpected (length ts - n)
     by_left zero e = at_place (omega (arith, e)) (first_unexpected_end ts (v ∙ ap Unexpected e) h)
     by_left (suc m) e =
-        without_more (first_unexpected ts [] n (length ts - n) v (omega (arith, e)) (omega (arith, unexpected_within ts n v)) (shallow_is_before ts h))
+        without_more (first_unexpected ts [] n (length ts - n) v (omega (arith, e)) (omega (arith, unexpected_within ts n v))
+        (shallow_is_before ts h))
 
 -- the symbol that makes an expression too long is the first fault
-pub shallow_too_long : (ts : List Symbol) (n : ℕ) → judge 256 ts (Outside program) ≡ TooLong n → IsShallow ts → FirstFault ts spelling.TooLong (length ts - n)
+pub shallow_too_long : (ts : List Symbol) (n : ℕ) → judge 256 ts (Outside program) ≡ TooLong n → IsShallow ts
+    → FirstFault ts spelling.TooLong (length ts - n)
 shallow_too_long ts n v h =
-    without_more (first_too_long ts [] n (length ts - n) v (inr (h.shallow ts [] (sym (append-nil ts)))) (omega (arith, (too_long_within ts n v).1))
+    without_more (first_too_long ts [] n (length ts - n) v (inr (h.shallow ts [] (sym (append-nil ts))))
+    (omega (arith, (too_long_within ts n v).1))
     (shallow_is_before ts h))
 
 -- so the fault that the readers report is the first one
@@ -120,12 +132,15 @@ cut_too_long ts k n o v l =
     (omega (arith, cut_many ts k o, cut_long_within ts k n o v)) (cut_shallow ts k o))
 
 -- the bracket too many is the first fault, if the machine reaches it
-pub cut_too_deep : (ts : List Symbol) (k : ℕ) (v : Verdict) → OpensTooMany ts k → judge 256 (take k ts) (Outside program) ≡ v → ComesToLast v
+pub cut_too_deep : (ts : List Symbol) (k : ℕ) (v : Verdict) → OpensTooMany ts k → judge 256 (take k ts) (Outside program) ≡ v
+    → ComesToLast v
     → FirstFault ts spelling.TooDeep (k - 1)
 cut_too_deep ts k v o e c =
     let same : judge 256 (o.before ++ o.t ∷ []) (Outside program) ≡ v = ap (λ x. judge 256 x (Outside program)) (sym (cut_is ts k o)) ∙ e in
-    of_all (sym o.split) (at_place (omega (arith, o.many)) (first_too_deep o.before o.t o.after v same c (shallow_before_one o.before o.t o.shallow) o.deep))
+    of_all (sym o.split) (at_place (omega (arith, o.many))
+    (first_too_deep o.before o.t o.after v same c (shallow_before_one o.before o.t o.shallow) o.deep))
 
 -- and also if a program was read
-pub cut_read : (ts : List Symbol) (k : ℕ) (p : SyntaxTree) → OpensTooMany ts k → ReadsProgram 256 (take k ts) p → FirstFault ts spelling.TooDeep (k - 1)
+pub cut_read : (ts : List Symbol) (k : ℕ) (p : SyntaxTree) → OpensTooMany ts k → ReadsProgram 256 (take k ts) p
+    → FirstFault ts spelling.TooDeep (k - 1)
 cut_read ts k p o r = cut_too_deep ts k Accepted o (accepts_program r) tt

@@ -1,5 +1,6 @@
 -- Readings of limits, cells and programs and the faults of their readers, by the first symbols.
-use Rattle.std.proofs.Common.{◌≡◌, ap, sym, ◌∙◌, subst, ℕ, ℤ, pos, negsuc, List, [], ◌∷◌, ◌++◌, ◌<◌, length, append_assoc, append-nil, refl, arith, Option, Some, None, ◌==◌, false, int_lt}
+use Rattle.std.proofs.Common.{◌≡◌, ap, sym, ◌∙◌, subst, ℕ, ℤ, pos, negsuc, List, [], ◌∷◌, ◌++◌, ◌<◌, length, append_assoc, append-nil, refl}
+use Rattle.std.proofs.Common.{arith, Option, Some, None, ◌==◌, false, int_lt}
 use Rattle.std.proofs.Math.IntN.{neg_ℤ, ◌-ℤ◌, +ℤ_idl}
 use Rattle.std.proofs.lemmas.List.{nil_from_length}
 use Rattle.std.proofs.lemmas.Bool.{false≢true}
@@ -8,10 +9,13 @@ use Rattle.pipe_model.specs.declared.symbol.Symbol.TheVariants as symbols
 use Rattle.pipe_model.specs.declared.tree.Declaration.{Declaration}
 use Rattle.pipe_model.specs.declared.tree.Limits.{Limits}
 use Rattle.grammar_laws.specs.ProgramMachine as machine
-use Rattle.grammar_laws.specs.ProgramMachine.{Want, Sign, Word, AnyName, AnyNumber, FullExpression, Part, Cells, Size, Value, Natural, Outside, judge, program, IsRejected}
+use Rattle.grammar_laws.specs.ProgramMachine.{Want, Sign, Word, AnyName, AnyNumber, FullExpression, Part, Cells, Size, Value, Natural}
+use Rattle.grammar_laws.specs.ProgramMachine.{Outside, judge, program, IsRejected}
 use Rattle.pipe_model.specs.Language.SyntaxTree.{Expression, Statements}
 use Rattle.pipe_model.specs.Language.Grammar.{declaration}
-use Rattle.grammar_laws.specs.Reading.{ReadsPart, ReadsSize, ReadsNoSize, ReadsSizeIs, ReadsValue, ReadsValueIs, ReadsNegativeValue, ReadsCell, ReadsCellIs, ReadsCells, ReadsNoCell, ReadsCellThen, ReadsProgram, ReadsAll, NoSign, NoWord}
+use Rattle.grammar_laws.specs.Reading.{ReadsPart, ReadsSize, ReadsNoSize, ReadsSizeIs, ReadsValue, ReadsValueIs, ReadsNegativeValue}
+use Rattle.grammar_laws.specs.Reading.{ReadsCell, ReadsCellIs, ReadsCells, ReadsNoCell, ReadsCellThen, ReadsProgram, ReadsAll, NoSign}
+use Rattle.grammar_laws.specs.Reading.{NoWord}
 use Rattle.grammar_laws.proofs.ProgramPassing.{passes_cells, passes_part, passes_block, passes_cell, passes_size, passes_value}
 use Rattle.pipe_parser.specs.declared.fault.SyntaxFault.{SyntaxFault}
 use Rattle.pipe_parser.specs.declared.fault.SyntaxFault.TheVariants as faults
@@ -23,7 +27,8 @@ use Rattle.pipe_parser.proofs.StatementFronts.{fault_after, fault_before, passes
 
 -- a fault of the first wants after the symbols that were read
 fault_through : (wants others more : List Want) (ts us : List Symbol)
-    → ((below : List Want) → judge 256 ts (Outside (wants ++ below)) ≡ judge 256 us (Outside ((others ++ more) ++ below))) → (f : SyntaxFault)
+    → ((below : List Want) → judge 256 ts (Outside (wants ++ below)) ≡ judge 256 us (Outside ((others ++ more) ++ below)))
+    → (f : SyntaxFault)
     → SyntaxStops others us f
     → SyntaxStops wants ts f
 fault_through wants others more ts us h f x = fault_after wants (others ++ more) ts us h f (fault_before others more us f x)
@@ -64,7 +69,8 @@ value_as_number (symbols.Operator code ∷ ts) below h = let e : (code == 10) �
 value_as_number (symbols.Sign b ∷ ts) below h = refl
 
 -- so its fault is a fault of a number
-pub fault_value : (ts : List Symbol) → NoOperator 10 ts → (f : SyntaxFault) → SyntaxStops (AnyNumber ∷ []) ts f → SyntaxStops (Value ∷ []) ts f
+pub fault_value : (ts : List Symbol) → NoOperator 10 ts → (f : SyntaxFault) → SyntaxStops (AnyNumber ∷ []) ts f
+    → SyntaxStops (Value ∷ []) ts f
 fault_value ts h = fault_after (Value ∷ []) (AnyNumber ∷ []) ts ts (λ below. value_as_number ts below h)
 
 -- a number is read as the value
@@ -72,7 +78,8 @@ pub value_read : (n : ℤ) (ts rest : List Symbol) → ts ≡ symbols.Number n �
 value_read n ts rest h = rw h (ReadsValueIs n rest)
 
 -- a number after a minus is read as its negative
-pub minus_read : (n : ℤ) (ts us rest : List Symbol) → ts ≡ symbols.Operator 10 ∷ us → us ≡ symbols.Number n ∷ rest → int_lt n (pos 0) ≡ false
+pub minus_read : (n : ℤ) (ts us rest : List Symbol) → ts ≡ symbols.Operator 10 ∷ us → us ≡ symbols.Number n ∷ rest
+    → int_lt n (pos 0) ≡ false
     → ReadsValue ts (pos 0 -ℤ n) rest
 minus_read (pos size) ts us rest h i w =
     let same : pos 0 -ℤ pos size ≡ neg_ℤ (pos size) = +ℤ_idl (neg_ℤ (pos size)) in
@@ -80,32 +87,38 @@ minus_read (pos size) ts us rest h i w =
 minus_read (negsuc k) ts us rest h i w = absurd (false≢true (sym w))
 
 -- a declaration, by its parts
-pub cell_read : (name : List ℕ) (size : Option ℤ) (value : ℤ) (ts a b c d rest : List Symbol) → ts ≡ symbols.Name name ∷ a → ReadsSize a size b
+pub cell_read : (name : List ℕ) (size : Option ℤ) (value : ℤ) (ts a b c d rest : List Symbol) → ts ≡ symbols.Name name ∷ a
+    → ReadsSize a size b
     → b ≡ symbols.Sign 61 ∷ c → ReadsValue c value d → d ≡ symbols.Sign 59 ∷ rest
     → ReadsCell ts (declaration name size value) rest
 cell_read name size value ts a b c d rest h s i v j =
     rw h (ReadsCellIs name (subst (λ x. ReadsSize a size x) i s) (subst (λ x. ReadsValue c value x) j v))
 
 -- the machine passes the name and the size of a cell
-passes_name : (name : List ℕ) (size : Option ℤ) (ts a b : List Symbol) → ts ≡ symbols.Name name ∷ a → ReadsSize a size b → (below : List Want)
+passes_name : (name : List ℕ) (size : Option ℤ) (ts a b : List Symbol) → ts ≡ symbols.Name name ∷ a → ReadsSize a size b
+    → (below : List Want)
     → judge 256 ts (Outside (cell ++ below)) ≡ judge 256 b (Outside (Sign 61 ∷ Value ∷ Sign 59 ∷ below))
 passes_name name size ts a b h s below =
     ap (λ x. judge 256 x (Outside (cell ++ below))) h ∙ passes_size 256 s (Sign 61 ∷ Value ∷ Sign 59 ∷ below)
 
 -- a fault of the sign before the value
-pub fault_equals : (name : List ℕ) (size : Option ℤ) (ts a b : List Symbol) → ts ≡ symbols.Name name ∷ a → ReadsSize a size b → (f : SyntaxFault)
+pub fault_equals : (name : List ℕ) (size : Option ℤ) (ts a b : List Symbol) → ts ≡ symbols.Name name ∷ a → ReadsSize a size b
+    → (f : SyntaxFault)
     → SyntaxStops (Sign 61 ∷ []) b f
     → SyntaxStops cell ts f
-fault_equals name size ts a b h s = fault_through cell (Sign 61 ∷ []) (Value ∷ Sign 59 ∷ []) ts b (λ below. passes_name name size ts a b h s below)
+fault_equals name size ts a b h s = fault_through cell (Sign 61 ∷ []) (Value ∷ Sign 59 ∷ []) ts b
+    (λ below. passes_name name size ts a b h s below)
 
 -- the machine passes that sign
-passes_equals : (name : List ℕ) (size : Option ℤ) (ts a b c : List Symbol) → ts ≡ symbols.Name name ∷ a → ReadsSize a size b → b ≡ symbols.Sign 61 ∷ c
+passes_equals : (name : List ℕ) (size : Option ℤ) (ts a b c : List Symbol) → ts ≡ symbols.Name name ∷ a → ReadsSize a size b
+    → b ≡ symbols.Sign 61 ∷ c
     → (below : List Want) → judge 256 ts (Outside (cell ++ below)) ≡ judge 256 c (Outside (Value ∷ Sign 59 ∷ below))
 passes_equals name size ts a b c h s i below =
     passes_name name size ts a b h s below ∙ ap (λ x. judge 256 x (Outside (Sign 61 ∷ Value ∷ Sign 59 ∷ below))) i
 
 -- a fault of the sign after the value
-pub fault_cell_end : (name : List ℕ) (size : Option ℤ) (value : ℤ) (ts a b c d : List Symbol) → ts ≡ symbols.Name name ∷ a → ReadsSize a size b
+pub fault_cell_end : (name : List ℕ) (size : Option ℤ) (value : ℤ) (ts a b c d : List Symbol) → ts ≡ symbols.Name name ∷ a
+    → ReadsSize a size b
     → b ≡ symbols.Sign 61 ∷ c → ReadsValue c value d → (f : SyntaxFault) → SyntaxStops (Sign 59 ∷ []) d f
     → SyntaxStops cell ts f
 fault_cell_end name size value ts a b c d h s i v =
@@ -113,7 +126,8 @@ fault_cell_end name size value ts a b c d h s i v =
 
 -- one more declaration is appended to those found so far
 pub one_more_cell : (all rest declared following : List Symbol) (found : List Declaration) (d : Declaration)
-    → ((ds : List Declaration) (end : List Symbol) → ReadsCells rest ds end → ReadsCells all (found ++ ds) end) → rest ≡ symbols.Word 6 ∷ declared
+    → ((ds : List Declaration) (end : List Symbol) → ReadsCells rest ds end → ReadsCells all (found ++ ds) end)
+    → rest ≡ symbols.Word 6 ∷ declared
     → ReadsCell declared d following → (ds : List Declaration) (end : List Symbol) → ReadsCells following ds end
     → ReadsCells all ((found ++ d ∷ []) ++ ds) end
 one_more_cell all rest declared following found d f h r ds end rs =
@@ -121,7 +135,8 @@ one_more_cell all rest declared following found d f h r ds end rs =
     subst (λ x. ReadsCells all x end) (sym (append_assoc found (d ∷ []) ds)) (f (d ∷ ds) end more)
 
 -- the machine passes it
-pub passes_one_cell : (rest declared following : List Symbol) (d : Declaration) → rest ≡ symbols.Word 6 ∷ declared → ReadsCell declared d following
+pub passes_one_cell : (rest declared following : List Symbol) (d : Declaration) → rest ≡ symbols.Word 6 ∷ declared
+    → ReadsCell declared d following
     → (below : List Want) → judge 256 rest (Outside (Cells ∷ below)) ≡ judge 256 following (Outside (Cells ∷ below))
 passes_one_cell rest declared following d h r below = ap (λ x. judge 256 x (Outside (Cells ∷ below))) h ∙ passes_cell 256 r (Cells ∷ below)
 
@@ -133,7 +148,8 @@ cells_read all rest found f h = subst (λ x. ReadsCells all x rest) (append-nil 
 
 -- a fault of one declaration is a fault of the declarations
 pub fault_cell : (all rest declared : List Symbol)
-    → ((below : List Want) → judge 256 all (Outside (Cells ∷ below)) ≡ judge 256 rest (Outside (Cells ∷ below))) → rest ≡ symbols.Word 6 ∷ declared
+    → ((below : List Want) → judge 256 all (Outside (Cells ∷ below)) ≡ judge 256 rest (Outside (Cells ∷ below)))
+    → rest ≡ symbols.Word 6 ∷ declared
     → (f : SyntaxFault) → SyntaxStops cell declared f
     → SyntaxStops (Cells ∷ []) all f
 fault_cell all rest declared p h =
@@ -141,17 +157,20 @@ fault_cell all rest declared p h =
 
 -- ---- the loop
 -- a fault of the loop's body
-pub fault_loop_body : (e : Expression) (ts following mid : List Symbol) → ts ≡ symbols.Word 8 ∷ following → ReadsTest following e mid → (f : SyntaxFault)
+pub fault_loop_body : (e : Expression) (ts following mid : List Symbol) → ts ≡ symbols.Word 8 ∷ following → ReadsTest following e mid
+    → (f : SyntaxFault)
     → SyntaxStops block mid f
     → SyntaxStops loop ts f
 fault_loop_body e ts following mid h t =
-    fault_after loop block ts mid (λ below. ap (λ x. judge 256 x (Outside (loop ++ below))) h ∙ passes_test e following mid t (block ++ below))
+    fault_after loop block ts mid (λ below. ap (λ x. judge 256 x (Outside (loop ++ below))) h
+    ∙ passes_test e following mid t (block ++ below))
 
 -- the machine passes the loop
 passes_loop : (e : Expression) (ss : Statements) (ts rest : List Symbol) → ReadsLoop ts e ss rest → (below : List Want)
     → judge 256 ts (Outside (loop ++ below)) ≡ judge 256 rest (Outside below)
 passes_loop e ss ts rest l below =
-    ap (λ x. judge 256 x (Outside (loop ++ below))) l.begins ∙ passes_test e l.following l.mid l.tested (block ++ below) ∙ passes_block l.block below
+    ap (λ x. judge 256 x (Outside (loop ++ below))) l.begins ∙ passes_test e l.following l.mid l.tested (block ++ below)
+    ∙ passes_block l.block below
 
 -- ---- programs
 
@@ -208,11 +227,13 @@ refuses_loop l ds init ts a b c h r p = refuses_after loop (Part 11 ∷ []) ts c
 
 -- the machine passes the loop of a program
 after_loop : (l : Limits) (ds : List Declaration) (init body : Statements) (e : Expression) (ts a b c d : List Symbol) → HasLimits ts l a
-    → ReadsCells a ds b → ReadsPart 256 7 b init c → ReadsLoop c e body d → judge 256 ts (Outside program) ≡ judge 256 d (Outside (Part 11 ∷ []))
+    → ReadsCells a ds b → ReadsPart 256 7 b init c → ReadsLoop c e body d → judge 256 ts (Outside program) ≡ judge 256 d
+    (Outside (Part 11 ∷ []))
 after_loop l ds init body e ts a b c d h r p q = after_init l ds init ts a b c h r p ∙ passes_loop e body c d q (Part 11 ∷ [])
 
 -- a fault of the last part
-pub refuses_last : (l : Limits) (ds : List Declaration) (init body : Statements) (e : Expression) (ts a b c d : List Symbol) → HasLimits ts l a
+pub refuses_last : (l : Limits) (ds : List Declaration) (init body : Statements) (e : Expression) (ts a b c d : List Symbol)
+    → HasLimits ts l a
     → ReadsCells a ds b → ReadsPart 256 7 b init c → ReadsLoop c e body d → (f : SyntaxFault) → SyntaxStops (Part 11 ∷ []) d f
     → Refuses ts f
 refuses_last l ds init body e ts a b c d h r p q = refuses_after (Part 11 ∷ []) [] ts d (after_loop l ds init body e ts a b c d h r p q)
@@ -223,14 +244,16 @@ left_over [] h = absurd (omega (arith, h))
 left_over (t ∷ ts) h = refl
 
 -- a fault of the symbols after the last part
-pub refuses_more : (l : Limits) (ds : List Declaration) (init body last : Statements) (e : Expression) (ts a b c d rest : List Symbol) → HasLimits ts l a
+pub refuses_more : (l : Limits) (ds : List Declaration) (init body last : Statements) (e : Expression) (ts a b c d rest : List Symbol)
+    → HasLimits ts l a
     → ReadsCells a ds b → ReadsPart 256 7 b init c → ReadsLoop c e body d → ReadsPart 256 11 d last rest → 0 < length rest
     → judge 256 ts (Outside program) ≡ machine.Unexpected (length rest)
 refuses_more l ds init body last e ts a b c d rest h r p q x n =
     after_loop l ds init body e ts a b c d h r p q ∙ passes_part x [] ∙ left_over rest n
 
 -- a program, by its parts
-pub program_read : (l : Limits) (ds : List Declaration) (init body last : Statements) (e : Expression) (ts a b c d rest : List Symbol) → HasLimits ts l a
+pub program_read : (l : Limits) (ds : List Declaration) (init body last : Statements) (e : Expression) (ts a b c d rest : List Symbol)
+    → HasLimits ts l a
     → ReadsCells a ds b → ReadsPart 256 7 b init c → ReadsLoop c e body d → ReadsPart 256 11 d last rest → length rest ≡ 0
     → ReadsProgram 256 ts (record { limits = l; cells = ds; init = init; test = e; body = body; last = last })
 program_read l ds init body last e ts a b c d rest h r p q x n =

@@ -7,8 +7,11 @@ use Rattle.pipe_model.specs.declared.tree.Expr.{Expr}
 use Rattle.pipe_model.specs.declared.tree.Stmt.{Stmt}
 use Rattle.grammar_laws.specs.ProgramMachine as machine
 use Rattle.grammar_laws.specs.ProgramMachine.{Want, Sign, FullExpression, Part, Outside, judge}
-use Rattle.pipe_model.specs.Language.SyntaxTree.{Expression, Statements, Empty, Then, Let, Assign, AssignElement, Emit, If, While, statement_of, statements_of, stage_statement}
-use Rattle.grammar_laws.specs.Reading.{ReadsFull, ReadsStatement, ReadsLet, ReadsAssign, ReadsAssignElement, ReadsEmit, ReadsIf, ReadsWhile, ReadsWait, ReadsWaitNext, ReadsContinue, ReadsContinueNext, ReadsStatements, ReadsClose, ReadsBlock, ReadsBraces, ReadsPart, ReadsNoPart, ReadsPartIs, NoSign, NoWord}
+use Rattle.pipe_model.specs.Language.SyntaxTree.{Expression, Statements, Empty, Then, Let, Assign, AssignElement, Emit, If, While}
+use Rattle.pipe_model.specs.Language.SyntaxTree.{statement_of, statements_of, stage_statement}
+use Rattle.grammar_laws.specs.Reading.{ReadsFull, ReadsStatement, ReadsLet, ReadsAssign, ReadsAssignElement, ReadsEmit, ReadsIf, ReadsWhile}
+use Rattle.grammar_laws.specs.Reading.{ReadsWait, ReadsWaitNext, ReadsContinue, ReadsContinueNext, ReadsStatements, ReadsClose, ReadsBlock}
+use Rattle.grammar_laws.specs.Reading.{ReadsBraces, ReadsPart, ReadsNoPart, ReadsPartIs, NoSign, NoWord}
 use Rattle.grammar_laws.proofs.FullExpressions.{passes_full, stage_number, passes_stage_number}
 use Rattle.grammar_laws.proofs.ProgramPassing.{passes_block}
 use Rattle.pipe_parser.specs.declared.fault.SyntaxFault.{SyntaxFault}
@@ -39,14 +42,16 @@ pub block_read : (ts all rest following : List Symbol) (found : List Stmt) → t
     → rest ≡ symbols.Sign 125 ∷ following
     → ReadsBlock 256 ts (statements_of found) following
 block_read ts all rest following found h f e =
-    let closed : ReadsStatements 256 rest Empty following = subst (λ x. ReadsStatements 256 x Empty following) (sym e) (ReadsClose following) in
+    let closed : ReadsStatements 256 rest Empty following = subst (λ x. ReadsStatements 256 x Empty following) (sym e)
+    (ReadsClose following) in
     rw h (ReadsBraces (subst (λ x. ReadsStatements 256 all x following) (before_none found) (f Empty following closed)))
 
 -- ---- faults
 
 -- a fault after the symbols that were read is the fault of the whole
 pub fault_after : (wants others : List Want) (ts us : List Symbol)
-    → ((below : List Want) → judge 256 ts (Outside (wants ++ below)) ≡ judge 256 us (Outside (others ++ below))) → (f : SyntaxFault) → SyntaxStops others us f
+    → ((below : List Want) → judge 256 ts (Outside (wants ++ below)) ≡ judge 256 us (Outside (others ++ below))) → (f : SyntaxFault)
+    → SyntaxStops others us f
     → SyntaxStops wants ts f
 fault_after wants others ts us h (faults.Unexpected left) x = record { refused = λ below. h below ∙ x.refused below }
 fault_after wants others ts us h (faults.TooLong left) x = record { refused = λ below. h below ∙ x.refused below }
@@ -67,7 +72,8 @@ fault_before wants more ts =
     by_cases same (faults.TooDeep left) x = x
 
 -- a fault after a full expression
-pub fault_full : (others : List Want) (e : Expression) (ts mid : List Symbol) → ReadsFull 256 ts e mid → (f : SyntaxFault) → SyntaxStops others mid f
+pub fault_full : (others : List Want) (e : Expression) (ts mid : List Symbol) → ReadsFull 256 ts e mid → (f : SyntaxFault)
+    → SyntaxStops others mid f
     → SyntaxStops (FullExpression ∷ others) ts f
 fault_full others e ts mid r = fault_after (FullExpression ∷ others) others ts mid (λ below. passes_full r (others ++ below))
 
@@ -76,11 +82,13 @@ pub fault_index : (index : Expression) (ts mid : List Symbol) → ReadsFull 256 
     → SyntaxStops (Sign 61 ∷ []) mid f
     → SyntaxStops element ts f
 fault_index index ts mid r f x =
-    fault_after element (Sign 61 ∷ FullExpression ∷ Sign 59 ∷ []) ts mid (λ below. passes_full r (Sign 93 ∷ Sign 61 ∷ FullExpression ∷ Sign 59 ∷ below)) f
+    fault_after element (Sign 61 ∷ FullExpression ∷ Sign 59 ∷ []) ts mid
+    (λ below. passes_full r (Sign 93 ∷ Sign 61 ∷ FullExpression ∷ Sign 59 ∷ below)) f
     (fault_before (Sign 61 ∷ []) (FullExpression ∷ Sign 59 ∷ []) mid f x)
 
 -- a fault of the value that an element is assigned
-pub fault_assigned : (index : Expression) (ts mid inside : List Symbol) → ReadsFull 256 ts index (symbols.Sign 93 ∷ mid) → mid ≡ symbols.Sign 61 ∷ inside
+pub fault_assigned : (index : Expression) (ts mid inside : List Symbol) → ReadsFull 256 ts index (symbols.Sign 93 ∷ mid)
+    → mid ≡ symbols.Sign 61 ∷ inside
     → (f : SyntaxFault) → SyntaxStops (FullExpression ∷ Sign 59 ∷ []) inside f
     → SyntaxStops element ts f
 fault_assigned index ts mid inside r h =
@@ -98,7 +106,8 @@ fault_number ts inside h n f x =
     (fault_before (FullExpression ∷ Sign 41 ∷ []) (Sign 59 ∷ []) inside f x)
 
 -- a fault of the sign after a stage number
-pub fault_after_number : (e : Expression) (ts inside mid : List Symbol) → ts ≡ symbols.Sign 40 ∷ inside → ReadsFull 256 inside e (symbols.Sign 41 ∷ mid)
+pub fault_after_number : (e : Expression) (ts inside mid : List Symbol) → ts ≡ symbols.Sign 40 ∷ inside
+    → ReadsFull 256 inside e (symbols.Sign 41 ∷ mid)
     → (f : SyntaxFault) → SyntaxStops (Sign 59 ∷ []) mid f
     → SyntaxStops stage ts f
 fault_after_number e ts inside mid h r =
@@ -112,15 +121,18 @@ passes_test e ts mid t below =
     ap (λ x. judge 256 x (Outside (Sign 40 ∷ FullExpression ∷ Sign 41 ∷ below))) t.opens ∙ passes_full t.reads (Sign 41 ∷ below)
 
 -- a fault of the body of a `while`
-pub fault_body : (e : Expression) (ts mid : List Symbol) → ReadsTest ts e mid → (f : SyntaxFault) → SyntaxStops block mid f → SyntaxStops repetition ts f
+pub fault_body : (e : Expression) (ts mid : List Symbol) → ReadsTest ts e mid → (f : SyntaxFault) → SyntaxStops block mid f
+    → SyntaxStops repetition ts f
 fault_body e ts mid t = fault_after repetition block ts mid (λ below. passes_test e ts mid t (block ++ below))
 
 -- a fault of the first block of an `if`
-pub fault_then : (e : Expression) (ts mid : List Symbol) → ReadsTest ts e mid → (f : SyntaxFault) → SyntaxStops block mid f → SyntaxStops choice ts f
+pub fault_then : (e : Expression) (ts mid : List Symbol) → ReadsTest ts e mid → (f : SyntaxFault) → SyntaxStops block mid f
+    → SyntaxStops choice ts f
 fault_then e ts mid t f x = fault_before repetition (Part 14 ∷ []) ts f (fault_body e ts mid t f x)
 
 -- a fault of the `else` of an `if`
-pub fault_else : (e : Expression) (a : Statements) (ts mid following : List Symbol) → ReadsTest ts e mid → ReadsBlock 256 mid a following → (f : SyntaxFault)
+pub fault_else : (e : Expression) (a : Statements) (ts mid following : List Symbol) → ReadsTest ts e mid → ReadsBlock 256 mid a following
+    → (f : SyntaxFault)
     → SyntaxStops (Part 14 ∷ []) following f
     → SyntaxStops choice ts f
 fault_else e a ts mid following t b =
@@ -142,7 +154,8 @@ pub assign_read : (name : List ℕ) (e : Expression) (ts inside rest : List Symb
 assign_read name e ts inside rest h r = rw h (ReadsAssign name r)
 
 -- an assignment to an element
-pub element_read : (name : List ℕ) (index e : Expression) (ts mid inside rest : List Symbol) → ReadsFull 256 ts index (symbols.Sign 93 ∷ mid)
+pub element_read : (name : List ℕ) (index e : Expression) (ts mid inside rest : List Symbol)
+    → ReadsFull 256 ts index (symbols.Sign 93 ∷ mid)
     → mid ≡ symbols.Sign 61 ∷ inside → ReadsFull 256 inside e (symbols.Sign 59 ∷ rest)
     → ReadsStatement 256 (symbols.Name name ∷ symbols.Sign 91 ∷ ts) (AssignElement name index e) rest
 element_read name index e ts mid inside rest r h r' =
@@ -171,13 +184,15 @@ pub while_read : (e : Expression) (a : Statements) (ts mid rest : List Symbol) �
 while_read e a ts mid rest t b = rw t.opens (ReadsWhile t.reads b)
 
 -- an `if`, by its parts
-pub if_read : (e : Expression) (a b : Statements) (ts mid following rest : List Symbol) → ReadsTest ts e mid → ReadsBlock 256 mid a following
+pub if_read : (e : Expression) (a b : Statements) (ts mid following rest : List Symbol) → ReadsTest ts e mid
+    → ReadsBlock 256 mid a following
     → ReadsPart 256 14 following b rest
     → ReadsStatement 256 (symbols.Word 13 ∷ ts) (If e a b) rest
 if_read e a b ts mid following rest t c p = rw t.opens (ReadsIf t.reads c p)
 
 -- a part that is present
-pub part_read : (word : ℕ) (ss : Statements) (ts following rest : List Symbol) → ts ≡ symbols.Word word ∷ following → ReadsBlock 256 following ss rest
+pub part_read : (word : ℕ) (ss : Statements) (ts following rest : List Symbol) → ts ≡ symbols.Word word ∷ following
+    → ReadsBlock 256 following ss rest
     → ReadsPart 256 word ts ss rest
 part_read word ss ts following rest h b = rw h (ReadsPartIs b)
 

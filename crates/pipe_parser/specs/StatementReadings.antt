@@ -32,11 +32,13 @@ block = Sign signs.OPEN_BRACE ∷ Statements ∷ Sign signs.CLOSE_BRACE ∷ []
 
 -- a `while`, after its word
 abbrev pub repetition : List Want
-repetition = Sign signs.OPEN_ROUND ∷ FullExpression ∷ Sign signs.CLOSE_ROUND ∷ Sign signs.OPEN_BRACE ∷ Statements ∷ Sign signs.CLOSE_BRACE ∷ []
+repetition = Sign signs.OPEN_ROUND ∷ FullExpression ∷ Sign signs.CLOSE_ROUND ∷ Sign signs.OPEN_BRACE ∷ Statements ∷ Sign
+    signs.CLOSE_BRACE ∷ []
 
 -- an `if`, after its word
 abbrev pub choice : List Want
-choice = Sign signs.OPEN_ROUND ∷ FullExpression ∷ Sign signs.CLOSE_ROUND ∷ Sign signs.OPEN_BRACE ∷ Statements ∷ Sign signs.CLOSE_BRACE ∷ Part words.ELSE ∷ []
+choice = Sign signs.OPEN_ROUND ∷ FullExpression ∷ Sign signs.CLOSE_ROUND ∷ Sign signs.OPEN_BRACE ∷ Statements ∷ Sign
+    signs.CLOSE_BRACE ∷ Part words.ELSE ∷ []
 
 -- the symbols begin with a test in round brackets
 pub record ReadsTest (ts : List Symbol) (e : Expression) (rest : List Symbol) : Type 0 where

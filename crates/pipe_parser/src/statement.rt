@@ -75,7 +75,8 @@ fn read_element<'a>(alloc: Global, name: &[u8], symbols: &Symbols<'a>) -> Read<'
 
 // Reads an assignment, after its name.
 fn read_assignment<'a>(alloc: Global, name: &[u8], symbols: &Symbols<'a>) -> Read<'a, Stmt>
-    ensures ok { IfOk result (λ r. ReadsStatement bounds.LONGEST_EXPRESSION (terminals.Name name.now ∷ symbols.now) (statement_of r.0) r.1) }
+    ensures ok { IfOk result (λ r. ReadsStatement bounds.LONGEST_EXPRESSION (terminals.Name name.now ∷ symbols.now)
+        (statement_of r.0) r.1) }
     ensures err { IfErr result (λ fault. SyntaxStops (Target ∷ []) symbols.now fault) }
     ensures shorter { IfOk result (λ r. length r.1 < length symbols.now) }
 {

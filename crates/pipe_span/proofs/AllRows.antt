@@ -1,5 +1,6 @@
 -- The rows of the columns so far.
-use Rattle.std.proofs.Common.{◌≡◌, ◌∙◌, ℕ, zero, suc, ◌+◌, ◌*◌, ◌-◌, ◌<◌, ◌≤◌, ◌⊎◌, List, [], ◌∷◌, ◌++◌, length, refl, sym, ap, subst, arith, inl, inr, length-append}
+use Rattle.std.proofs.Common.{◌≡◌, ◌∙◌, ℕ, zero, suc, ◌+◌, ◌*◌, ◌-◌, ◌<◌, ◌≤◌, ◌⊎◌, List, [], ◌∷◌, ◌++◌, length, refl, sym, ap, subst}
+use Rattle.std.proofs.Common.{arith, inl, inr, length-append}
 use Rattle.std.proofs.Math.Numerals.{add-one}
 use Rattle.std.proofs.lemmas.Bool.{cases_lt}
 use Rattle.std.proofs.lemmas.List.{get_or_append_left, get_or_past, get_or_push}
@@ -10,7 +11,8 @@ use Rattle.pipe_span.specs.Entries.{AreEntries, IsBounded, weight_in, most_entri
 use Rattle.pipe_span.specs.HeaviestPaths.{instances_before}
 use Rattle.pipe_span.specs.Tables.{AreFew, AreRows, left_nodes, left_row, row_at}
 
-pub first_more : (columns : List (List Node)) (i : ℕ) → instances_before columns (i + 1) ≡ instances_before columns i + length (nodes_at columns i)
+pub first_more : (columns : List (List Node)) (i : ℕ) → instances_before columns (i + 1) ≡ instances_before columns i + length
+    (nodes_at columns i)
 first_more columns i = ap (instances_before columns) (add-one i)
 
 -- later columns begin later
@@ -28,7 +30,8 @@ first_by columns i (suc d) =
     next i d = omega arith
 
 pub first_rises : (columns : List (List Node)) (i n : ℕ) → i ≤ n → instances_before columns i ≤ instances_before columns n
-first_rises columns i n l = subst (λ m. instances_before columns i ≤ instances_before columns m) (omega (arith, l)) (first_by columns i (n - i))
+first_rises columns i n l = subst (λ m. instances_before columns i ≤ instances_before columns m) (omega (arith, l))
+    (first_by columns i (n - i))
 
 -- a column is within all instances
 pub column_within : (columns : List (List Node)) (i : ℕ) → i < length columns
@@ -50,7 +53,8 @@ at_least columns (suc i) h l =
 pub record HasRows (columns : List (List Node)) (weights : List ℕ) (rows : List (List Entry)) (n : ℕ) : Type 0 where
   pub whole : length rows ≡ n
   pub lengths : (i : ℕ) → i < n → length (row_at rows i) ≡ length (nodes_at columns i)
-  pub each : (i : ℕ) → i < n → AreEntries (left_nodes columns i) (nodes_at columns i) (left_row rows i) (row_at rows i) weights (instances_before columns i)
+  pub each : (i : ℕ) → i < n → AreEntries (left_nodes columns i) (nodes_at columns i) (left_row rows i) (row_at rows i) weights
+      (instances_before columns i)
   pub below : (i : ℕ) → i < n → IsBounded (instances_before columns i + length (nodes_at columns i)) (row_at rows i)
 
 pub no_rows : (columns : List (List Node)) (weights : List ℕ) (rows : List (List Entry)) → rows ≡ [] → HasRows columns weights rows 0
@@ -84,12 +88,17 @@ one_more_row columns weights rows more row n h len entries below e =
       lengths = case (λ i. length (row_at (rows ++ row ∷ []) i) ≡ length (nodes_at columns i))
           (λ i l. subst (λ r. length r ≡ length (nodes_at columns i)) (old i l) (h.lengths i l))
           (subst (λ r. length r ≡ length (nodes_at columns n)) new len);
-      each = case (λ i. AreEntries (left_nodes columns i) (nodes_at columns i) (left_row (rows ++ row ∷ []) i) (row_at (rows ++ row ∷ []) i) weights (instances_before columns i))
-          (λ i l. subst (λ r. AreEntries (left_nodes columns i) (nodes_at columns i) (left_row (rows ++ row ∷ []) i) r weights (instances_before columns i)) (old i l)
-          (subst (λ s. AreEntries (left_nodes columns i) (nodes_at columns i) s (row_at rows i) weights (instances_before columns i)) (left i (omega (arith, l)))
+      each = case (λ i. AreEntries (left_nodes columns i) (nodes_at columns i) (left_row (rows ++ row ∷ []) i)
+          (row_at (rows ++ row ∷ []) i) weights (instances_before columns i))
+          (λ i l. subst (λ r. AreEntries (left_nodes columns i) (nodes_at columns i) (left_row (rows ++ row ∷ []) i) r weights
+          (instances_before columns i)) (old i l)
+          (subst (λ s. AreEntries (left_nodes columns i) (nodes_at columns i) s (row_at rows i) weights (instances_before columns i))
+          (left i (omega (arith, l)))
           (h.each i l)))
-          (subst (λ r. AreEntries (left_nodes columns n) (nodes_at columns n) (left_row (rows ++ row ∷ []) n) r weights (instances_before columns n)) new
-          (subst (λ s. AreEntries (left_nodes columns n) (nodes_at columns n) s row weights (instances_before columns n)) (left n (omega arith)) entries));
+          (subst (λ r. AreEntries (left_nodes columns n) (nodes_at columns n) (left_row (rows ++ row ∷ []) n) r weights
+          (instances_before columns n)) new
+          (subst (λ s. AreEntries (left_nodes columns n) (nodes_at columns n) s row weights (instances_before columns n))
+          (left n (omega arith)) entries));
       below = case (λ i. IsBounded (instances_before columns i + length (nodes_at columns i)) (row_at (rows ++ row ∷ []) i))
           (λ i l. subst (IsBounded (instances_before columns i + length (nodes_at columns i))) (old i l) (h.below i l))
           (subst (IsBounded (instances_before columns n + length (nodes_at columns n))) new below);
@@ -114,7 +123,8 @@ all_rows columns weights rows n e few h = record {
     | inl less ↦ h.lengths i less
     | inr past ↦ (
         let whole = h.whole in
-        ap length (get_or_past rows i [] (omega (arith, past, whole))) ∙ sym (ap length (get_or_past columns i [] (omega (arith, past, e)))))
+        ap length (get_or_past rows i [] (omega (arith, past, whole)))
+        ∙ sym (ap length (get_or_past columns i [] (omega (arith, past, e)))))
   ];
   each = λ i l. h.each i (omega (arith, l, e));
   below = λ i. record { each = λ k. bound i k (cases_lt i n) };
@@ -130,7 +140,8 @@ all_rows columns weights rows n e few h = record {
         subst (λ r. weight_in r k ≤ most_weight * most_entries) (sym (get_or_past rows i [] (omega (arith, past, whole)))) (omega arith)
 
 -- what the limits allow
-pub few_rows : (columns : List (List Node)) (weights : List ℕ) (rows : List (List Entry)) → AreColumns columns → AreRows columns weights rows
+pub few_rows : (columns : List (List Node)) (weights : List ℕ) (rows : List (List Entry)) → AreColumns columns
+    → AreRows columns weights rows
     → instances_before columns (length columns) ≤ most_entries → AreFew rows
 few_rows columns weights rows full h few =
     let whole = h.whole in

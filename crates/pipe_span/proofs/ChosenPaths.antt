@@ -24,7 +24,8 @@ last_same i j f g = elim (cases_order i j) [
 ]
 
 -- at most one edge leads from the left column into an instance
-cross_same : {left right : List Node} (i j k : ℕ) → (node_at right 0).kind ≡ Zero → CrossEdge left right i k → CrossEdge left right j k → i ≡ j
+cross_same : {left right : List Node} (i j k : ℕ) → (node_at right 0).kind ≡ Zero → CrossEdge left right i k → CrossEdge left right j k
+    → i ≡ j
 cross_same i j k first f g = elim (cases_lt 0 k) [
   | inl less ↦ last_same i j (later_edge f less).1 (later_edge g less).1
   | inr past ↦ (let e : k ≡ 0 = omega (arith, past) in sym (head_edge f e first).0 ∙ (head_edge g e first).0)

@@ -1,5 +1,6 @@
 -- Rows of the heaviest paths to the instances of a column.
-use Rattle.std.proofs.Common.{◌≡◌, ℕ, ◌+◌, ◌*◌, ◌<◌, ◌≤◌, List, [], ◌∷◌, ◌++◌, Option, Some, None, length, get_or, refl, sym, ap, subst, arith, inl, inr, length-append, ◌∙◌, ◌⊎◌}
+use Rattle.std.proofs.Common.{◌≡◌, ℕ, ◌+◌, ◌*◌, ◌<◌, ◌≤◌, List, [], ◌∷◌, ◌++◌, Option, Some, None, length, get_or, refl, sym, ap, subst}
+use Rattle.std.proofs.Common.{arith, inl, inr, length-append, ◌∙◌, ◌⊎◌}
 use Rattle.std.proofs.lemmas.Bool.{cases_lt, cases_order}
 use Rattle.std.proofs.lemmas.List.{get_or_append_left, get_or_past, get_or_push}
 use Rattle.pipe_model.specs.declared.node.Node.{Node}
@@ -107,11 +108,13 @@ one_more_entry left right left_row row more b weights first k j h parent step be
     })
   where
     bound : (n : ℕ) → (n ≡ k) ⊎ ((n < k) ⊎ (k < n)) → weight_in (row ++ b ∷ []) n ≤ most_weight * (first + (k + 1))
-    bound n (inl same) = subst (λ (x : Entry). x.weight ≤ most_weight * (first + (k + 1))) (sym (get_or_push row b no_entry n (h.whole ∙ sym same))) (omega (arith, below))
+    bound n (inl same) = subst (λ (x : Entry). x.weight ≤ most_weight * (first + (k + 1)))
+        (sym (get_or_push row b no_entry n (h.whole ∙ sym same))) (omega (arith, below))
     bound n (inr (inl less)) =
         let whole = h.whole in
         let a = h.below.each n in
-        subst (λ (x : Entry). x.weight ≤ most_weight * (first + (k + 1))) (sym (get_or_append_left row (b ∷ []) no_entry n (omega (arith, less, whole)))) (omega (arith, a))
+        subst (λ (x : Entry). x.weight ≤ most_weight * (first + (k + 1)))
+        (sym (get_or_append_left row (b ∷ []) no_entry n (omega (arith, less, whole)))) (omega (arith, a))
     bound n (inr (inr more)) =
         let whole = h.whole in
         subst (λ (x : Entry). x.weight ≤ most_weight * (first + (k + 1)))

@@ -1,5 +1,6 @@
 -- The columns of a serial elision, and the steps of their instances.
-use Rattle.std.proofs.Common.{◌≡◌, ◌∙◌, refl, sym, ap, subst, ℕ, ℤ, zero, suc, pos, negsuc, ◌<◌, ◌≤◌, ◌≤ℤ◌, ◌+◌, ◌*◌, List, [], ◌∷◌, ◌++◌, Bool, true, false, length, map, get_or, length-append, le_trans, arith}
+use Rattle.std.proofs.Common.{◌≡◌, ◌∙◌, refl, sym, ap, subst, ℕ, ℤ, zero, suc, pos, negsuc, ◌<◌, ◌≤◌, ◌≤ℤ◌, ◌+◌, ◌*◌, List, [], ◌∷◌, ◌++◌}
+use Rattle.std.proofs.Common.{Bool, true, false, length, map, get_or, length-append, le_trans, arith}
 use Rattle.std.proofs.lemmas.Int.{ints}
 use Rattle.std.proofs.Math.ListN.{get_or-map}
 use Rattle.std.proofs.Math.Nat.{mul-le-mul_left, mul-le-mul_right}
@@ -21,7 +22,8 @@ use Rattle.pipe_model.specs.Pipelines.ElisionResults.{ended_column}
 use Rattle.pipe_model.specs.Pipelines.Pipeline.{Pipeline}
 use Rattle.pipe_model.specs.Pipelines.SerialElision.{serial_trace, serial_traces_from, unless}
 use Rattle.pipe_model.specs.Pipelines.Store.{InitialStore, value_after}
-use Rattle.pipe_model.specs.Pipelines.WholePrograms.{WholeProgram, init_accesses, init_trap, loop_after_init, loop_traces, program_columns, program_log}
+use Rattle.pipe_model.specs.Pipelines.WholePrograms.{WholeProgram, init_accesses, init_trap, loop_after_init, loop_traces, program_columns}
+use Rattle.pipe_model.specs.Pipelines.WholePrograms.{program_log}
 use Rattle.pipe_model.specs.Races.Columns.{AreColumns, IsRising, node_at, nodes_at}
 use Rattle.pipe_model.specs.Runs.Run.{EmptyRun}
 use Rattle.pipe_model.specs.Runs.RunLogs.{column_of_frame, state_after}
@@ -80,7 +82,8 @@ steps_length tree input (suc n) i before =
     let t : List Action = serial_trace p.store (p.behaviour i) before in
     let more = before ++ accesses_in t in
     let rest : List (List Action) = unless (closes_loop t) (serial_traces_from p n (i + 1) more) in
-    let first : length (iteration_steps tree input i before) ≡ length (nodes_in t) + 1 = counts_length (store_of tree) before b b (interaction_in tree input parts.Pipe i) in
+    let first : length (iteration_steps tree input i before) ≡ length (nodes_in t) + 1 = counts_length (store_of tree) before b b
+    (interaction_in tree input parts.Pipe i) in
     let others = unless_length tree input (i + 1) more _ (closes_loop t) (steps_length tree input n (i + 1) more) in
     length-append (iteration_steps tree input i before) (steps_from tree input (i + 1) more rest)
     ∙ ap (λ x. x + length (steps_from tree input (i + 1) more rest)) (first ∙ sym (column_length t))
@@ -119,7 +122,8 @@ steps_most tree input i before [] = tt
 steps_most tree input i before (t ∷ traces) =
     let b = natural tree.limits.steps in
     at_most-append b (iteration_steps tree input i before) (steps_from tree input (i + 1) (before ++ accesses_in t) traces)
-    (counts_most (store_of tree) before b b (interaction_in tree input parts.Pipe i)) (steps_most tree input (i + 1) (before ++ accesses_in t) traces)
+    (counts_most (store_of tree) before b b (interaction_in tree input parts.Pipe i))
+    (steps_most tree input (i + 1) (before ++ accesses_in t) traces)
 
 -- ---- the instances of columns
 
@@ -183,7 +187,8 @@ instances_have_steps tree input =
       whole = steps_whole tree input ∙ sym (before_all columns) ∙ ap (instances_before columns) (columns_length (program_columns w));
       least = λ k. subst (λ z. pos 0 ≤ℤ z) (sym (get_or-map pos steps k 0)) (omega (arith, ints));
       most = λ k. subst (λ z. z ≤ℤ pos (natural tree.limits.steps)) (sym (get_or-map pos steps k 0))
-          (let h = at_most_each (natural tree.limits.steps) steps k (steps_most tree input 0 (init_accesses w) (loop_traces w)) in omega (arith, ints, h));
+          (let h = at_most_each (natural tree.limits.steps) steps k (steps_most tree input 0 (init_accesses w) (loop_traces w)) in
+          omega (arith, ints, h));
     }
 
 -- what the columns and the steps of an elision meet
@@ -207,7 +212,8 @@ elision_meets tree input form =
     let w : WholeProgram = whole_of tree input in
     let h : HasElisionLog w 1 = program_elision_is_a_run w 1 (accepted_is_well_formed tree input form) (omega arith) in
     let end : State = state_after (program_log w).events in
-    let same : own_columns end ≡ node_columns (program_columns w) = sym (nodes_of_frames end.frames) ∙ ap node_columns (sym h.run.columns) in
+    let same : own_columns end ≡ node_columns (program_columns w) = sym (nodes_of_frames end.frames)
+    ∙ ap node_columns (sym h.run.columns) in
     let traces = ended_nodes (loop_traces w) in
     let small = run_is_small tree input _ end form h.run.run in
     record {

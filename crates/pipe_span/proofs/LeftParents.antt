@@ -13,7 +13,8 @@ not_wait : {k : Kind} → k ≡ Zero → k ≡ Wait → ⊥
 not_wait e f = grind (arith, e, f)
 
 -- the edges into the head of a column
-pub head_edge : {left right : List Node} {i k : ℕ} → CrossEdge left right i k → k ≡ 0 → (node_at right 0).kind ≡ Zero → (0 ≡ i) × (0 < length left)
+pub head_edge : {left right : List Node} {i k : ℕ} → CrossEdge left right i k → k ≡ 0 → (node_at right 0).kind ≡ Zero
+    → (0 ≡ i) × (0 < length left)
 head_edge (HeadCross h w) e zero_kind = (refl, h)
 head_edge {left} {right} (WaitCross j k w kind h) e zero_kind =
     absurd (not_wait zero_kind (subst (λ n. (node_at right n).kind ≡ Wait) e kind))

@@ -14,7 +14,8 @@ step_weight (negsuc n) l = omega arith
 
 pub steps_weigh : (steps : List ℤ) → AreSteps steps → AreWeights (weights_of steps)
 steps_weigh steps h = record {
-  each = λ k. subst (λ w. w ≤ most_weight) (sym (get_or-map weight_of_steps steps k (pos 0))) (step_weight (get_or steps k (pos 0)) (h.most k));
+  each = λ k. subst (λ w. w ≤ most_weight) (sym (get_or-map weight_of_steps steps k (pos 0)))
+      (step_weight (get_or steps k (pos 0)) (h.most k));
 }
 
 pub weights_are : (steps : List ℤ) (some : List ℤ) (weights all : List ℕ) → AreSteps steps → some ≡ steps → weights ≡ weights_of some

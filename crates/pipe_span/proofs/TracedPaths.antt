@@ -1,5 +1,6 @@
 -- The rows have the weights of the heaviest paths, and the predecessors trace these paths.
-use Rattle.std.proofs.Common.{◌≡◌, ◌∙◌, ℕ, ◌+◌, ◌*◌, ◌-◌, ◌<◌, ◌≤◌, List, [], ◌∷◌, ◌++◌, Option, Some, None, length, refl, sym, ap, subst, arith, inl, inr, append_assoc, append-nil, reverse}
+use Rattle.std.proofs.Common.{◌≡◌, ◌∙◌, ℕ, ◌+◌, ◌*◌, ◌-◌, ◌<◌, ◌≤◌, List, [], ◌∷◌, ◌++◌, Option, Some, None, length, refl, sym, ap, subst}
+use Rattle.std.proofs.Common.{arith, inl, inr, append_assoc, append-nil, reverse}
 use Rattle.std.proofs.Math.Numerals.{add-one}
 use Rattle.std.proofs.lemmas.Bool.{cases_lt}
 use Rattle.std.proofs.lemmas.List.{get_or_past, reverse-append}
@@ -14,7 +15,8 @@ use Rattle.pipe_span.specs.declared.entry.Predecessor.TheVariants.{Absent, Above
 use Rattle.pipe_span.specs.Entries.{IsEntry, weight_in}
 use Rattle.pipe_span.specs.HeaviestPaths.{Begins, GoesOn, IsTraced, Longer, PathTo, Single, path_weight, weight_at, weight_of}
 use Rattle.pipe_span.specs.WorkAndSpan.{IsHeaviest}
-use Rattle.pipe_span.specs.Tables.{AreRows, HasPredecessor, IsHeaviestLast, IsIn, predecessor_of, entry_to, left_nodes, left_row, row_at, weight_to}
+use Rattle.pipe_span.specs.Tables.{AreRows, HasPredecessor, IsHeaviestLast, IsIn, predecessor_of, entry_to, left_nodes, left_row, row_at}
+use Rattle.pipe_span.specs.Tables.{weight_to}
 
 -- the instance of a column that has the index
 pub within_columns : (columns : List (List Node)) (i k : ℕ) → k < length (nodes_at columns i) → i < length columns
@@ -42,7 +44,8 @@ edge_ends {columns} (AcrossEdge i j k c) = (within_columns columns (i + 1) k (cr
 -- what the rows say of an instance
 entry_here : (columns : List (List Node)) (weights : List ℕ) (rows : List (List Entry)) (x : NodeId) → AreRows columns weights rows
     → IsNodeOf columns x
-    → IsEntry (left_nodes columns x.iteration) (nodes_at columns x.iteration) (left_row rows x.iteration) (row_at rows x.iteration) (weight_of columns weights x) x.index
+    → IsEntry (left_nodes columns x.iteration) (nodes_at columns x.iteration) (left_row rows x.iteration) (row_at rows x.iteration)
+    (weight_of columns weights x) x.index
 entry_here columns weights rows x h w =
     let same = h.lengths x.iteration in
     (h.each x.iteration w.0).each x.index (omega (arith, w.1, same))
@@ -113,7 +116,8 @@ step_above columns weights rows y h w s =
     }
 
 step_left : (columns : List (List Node)) (weights : List ℕ) (rows : List (List Entry)) (i k j : ℕ) → AreRows columns weights rows
-    → IsNodeOf columns (at (i + 1) k) → (entry_to rows (at (i + 1) k)).predecessor ≡ Left j → IsStepBack columns weights rows (at i j) (at (i + 1) k)
+    → IsNodeOf columns (at (i + 1) k) → (entry_to rows (at (i + 1) k)).predecessor ≡ Left j
+    → IsStepBack columns weights rows (at i j) (at (i + 1) k)
 step_left columns weights rows i k j h w s =
     let r = (entry_here columns weights rows (at (i + 1) k) h w).from_left j s in
     record {
@@ -128,7 +132,8 @@ step_left columns weights rows i k j h w s =
     }
 
 -- column 0 has no left parents
-no_left_of_first : (columns : List (List Node)) (weights : List ℕ) (rows : List (List Entry)) (y : NodeId) (j : ℕ) → AreRows columns weights rows
+no_left_of_first : (columns : List (List Node)) (weights : List ℕ) (rows : List (List Entry)) (y : NodeId) (j : ℕ)
+    → AreRows columns weights rows
     → IsNodeOf columns y → (entry_to rows y).predecessor ≡ Left j → y.iteration ≡ 0 → ⊥
 no_left_of_first columns weights rows y j h w s e =
     let r = (entry_here columns weights rows y h w).from_left j s in
@@ -142,7 +147,8 @@ positive columns weights rows y j h w s = elim (cases_lt 0 y.iteration) [
   | inr past ↦ absurd (no_left_of_first columns weights rows y j h w s (omega (arith, past)))
 ]
 
-step_left_back : (columns : List (List Node)) (weights : List ℕ) (rows : List (List Entry)) (y : NodeId) (j : ℕ) → AreRows columns weights rows
+step_left_back : (columns : List (List Node)) (weights : List ℕ) (rows : List (List Entry)) (y : NodeId) (j : ℕ)
+    → AreRows columns weights rows
     → IsNodeOf columns y → (entry_to rows y).predecessor ≡ Left j → IsStepBack columns weights rows (at (y.iteration - 1) j) y
 step_left_back columns weights rows y j h w s =
     let p = positive columns weights rows y j h w s in
@@ -174,17 +180,22 @@ pub no_step_back : (columns : List (List Node)) (weights : List ℕ) (rows : Lis
     → ((z : NodeId) → Edge columns z y → ⊥) × (weight_to rows y ≡ weight_of columns weights y)
 no_step_back columns weights rows y h w e = by_predecessor (entry_to rows y).predecessor refl
   where
-    none_into : {z y : NodeId} → y.index ≡ 0 → ((j : ℕ) → CrossEdge (left_nodes columns y.iteration) (nodes_at columns y.iteration) j y.index → ⊥)
+    none_into : {z y : NodeId} → y.index ≡ 0 → ((j : ℕ) → CrossEdge (left_nodes columns y.iteration)
+        (nodes_at columns y.iteration) j y.index → ⊥)
         → Edge columns z y → ⊥
     none_into first none (DownEdge i k l) = omega (arith, first)
-    none_into first none (AcrossEdge i j k c) = none j (subst (λ l. CrossEdge l (nodes_at columns (i + 1)) j k) (sym (nodes_left_of_next columns i)) c)
+    none_into first none (AcrossEdge i j k c) = none j
+        (subst (λ l. CrossEdge l (nodes_at columns (i + 1)) j k) (sym (nodes_left_of_next columns i)) c)
 
-    by_predecessor : (s : Predecessor) → (entry_to rows y).predecessor ≡ s → ((z : NodeId) → Edge columns z y → ⊥) × (weight_to rows y ≡ weight_of columns weights y)
+    by_predecessor : (s : Predecessor) → (entry_to rows y).predecessor ≡ s → ((z : NodeId) → Edge columns z y → ⊥)
+        × (weight_to rows y ≡ weight_of columns weights y)
     by_predecessor Absent s =
         let r = (entry_here columns weights rows y h w).absent s in
         (λ z edge. none_into r.0 r.2 edge, r.1)
-    by_predecessor Above s = absurd (let f : Some (at y.iteration (y.index - 1)) ≡ None = subst (λ t. predecessor_of y t ≡ None) s e in grind (arith, f))
-    by_predecessor (Left j) s = absurd (let f : Some (at (y.iteration - 1) j) ≡ None = subst (λ t. predecessor_of y t ≡ None) s e in grind (arith, f))
+    by_predecessor Above s = absurd (let f : Some (at y.iteration (y.index - 1)) ≡ None = subst (λ t. predecessor_of y t ≡ None) s e in
+        grind (arith, f))
+    by_predecessor (Left j) s = absurd (let f : Some (at (y.iteration - 1) j) ≡ None = subst (λ t. predecessor_of y t ≡ None) s e in
+        grind (arith, f))
 
 -- the predecessors of the rows name instances
 pub has_predecessor : (columns : List (List Node)) (weights : List ℕ) (rows : List (List Entry)) (y : NodeId) → AreRows columns weights rows
@@ -215,7 +226,8 @@ is_node columns weights rows y h w =
     (omega (arith, a, whole), omega (arith, b, same))
 
 -- a traced path, with the weight that the row says
-pub record IsTracedTo (columns : List (List Node)) (weights : List ℕ) (rows : List (List Entry)) (x : NodeId) (path : List NodeId) : Type 0 where
+pub record IsTracedTo (columns : List (List Node)) (weights : List ℕ) (rows : List (List Entry)) (x : NodeId)
+    (path : List NodeId) : Type 0 where
   pub traced : IsTraced columns weights x path
   pub weight : path_weight columns weights path ≡ weight_to rows x
 
@@ -247,7 +259,8 @@ traced_further columns weights rows x y path h step t =
     }
 
 -- a traced path is a path
-pub traced_is_path : {columns : List (List Node)} {weights : List ℕ} {x : NodeId} {path : List NodeId} → IsTraced columns weights x path → PathTo columns x path
+pub traced_is_path : {columns : List (List Node)} {weights : List ℕ} {x : NodeId} {path : List NodeId} → IsTraced columns weights x path
+    → PathTo columns x path
 traced_is_path (Begins x w none) = Single x w
 traced_is_path (GoesOn x y path t chosen) = Longer x y path (traced_is_path t) chosen.edge
 
@@ -262,7 +275,8 @@ abbrev pub IsPathFrom : List (List Node) → List ℕ → List (List Entry) → 
 IsPathFrom columns weights rows x last path =
     (start : List NodeId) → IsTracedTo columns weights rows x start → IsTracedTo columns weights rows last (start ++ reverse path)
 
-pub no_path_yet : (columns : List (List Node)) (weights : List ℕ) (rows : List (List Entry)) (last : NodeId) (path : List NodeId) → path ≡ []
+pub no_path_yet : (columns : List (List Node)) (weights : List ℕ) (rows : List (List Entry)) (last : NodeId) (path : List NodeId)
+    → path ≡ []
     → IsPathFrom columns weights rows last last path
 no_path_yet columns weights rows last path e = λ start t.
     subst (IsTracedTo columns weights rows last) (sym (ap (λ p. start ++ reverse p) e ∙ append-nil start)) t
@@ -275,7 +289,8 @@ one_step_back columns weights rows x y last path more h step from e = λ start t
     (from (start ++ y ∷ []) (traced_further columns weights rows x y start h step t))
   where
     same : (start : List NodeId) → (start ++ y ∷ []) ++ reverse path ≡ start ++ reverse more
-    same start = append_assoc start (y ∷ []) (reverse path) ∙ ap (λ p. start ++ p) (sym (reverse-append path (y ∷ []))) ∙ ap (λ p. start ++ reverse p) (sym e)
+    same start = append_assoc start (y ∷ []) (reverse path) ∙ ap (λ p. start ++ p) (sym (reverse-append path (y ∷ [])))
+        ∙ ap (λ p. start ++ reverse p) (sym e)
 
 pub whole_path : (columns : List (List Node)) (weights : List ℕ) (rows : List (List Entry)) (x last : NodeId) (path more : List NodeId)
     → AreRows columns weights rows → IsNodeOf columns x → ((y : NodeId) → predecessor_of x (entry_to rows x).predecessor ≡ Some y → ⊥)
@@ -284,12 +299,14 @@ whole_path columns weights rows x last path more h w none from e =
     subst (IsTracedTo columns weights rows last) (sym (reverse-append path (x ∷ [])) ∙ ap reverse (sym e))
     (from (x ∷ []) (traced_at_first columns weights rows x h w (is_none (predecessor_of x (entry_to rows x).predecessor) refl)))
   where
-    is_none : (o : Option NodeId) → predecessor_of x (entry_to rows x).predecessor ≡ o → predecessor_of x (entry_to rows x).predecessor ≡ None
+    is_none : (o : Option NodeId) → predecessor_of x (entry_to rows x).predecessor ≡ o → predecessor_of x
+        (entry_to rows x).predecessor ≡ None
     is_none None f = f
     is_none (Some y) f = absurd (none y f)
 
 -- the path to the first instance with the greatest weight is the heaviest
-pub heaviest_to : (columns : List (List Node)) (weights : List ℕ) (rows : List (List Entry)) (last : NodeId) (path : List NodeId) (weight : ℕ)
+pub heaviest_to : (columns : List (List Node)) (weights : List ℕ) (rows : List (List Entry)) (last : NodeId) (path : List NodeId)
+    (weight : ℕ)
     → AreRows columns weights rows → IsHeaviestLast rows last → IsTraced columns weights last path
     → path_weight columns weights path ≡ weight_to rows last → weight ≡ weight_to rows last → IsHeaviest columns weights path weight
 heaviest_to columns weights rows last path weight h first t same e = record {

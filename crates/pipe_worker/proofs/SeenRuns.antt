@@ -26,8 +26,10 @@ state_from-append s (x ∷ xs) ys = state_from-append (next_state s x) xs ys
 
 stop_stays : (whole part : List Event) → BeginsWith whole part → IsStopSeen part → IsStopSeen whole
 stop_stays whole part h stop =
-    subst IsStopSeen (sym h.1) (subst (λ (s : State). s.stopped ≡ true) (sym (state_from-append initial_state part h.0)) (stays (state_after part) h.0 stop))
+    subst IsStopSeen (sym h.1) (subst (λ (s : State). s.stopped ≡ true) (sym (state_from-append initial_state part h.0))
+    (stays (state_after part) h.0 stop))
 
 -- a call that makes no event keeps what was seen
-pub keeps_stop : (before after : List Event) (Returns : State → Type 0) → Sees before after [] Returns → IsStopSeen before → IsStopSeen after
+pub keeps_stop : (before after : List Event) (Returns : State → Type 0) → Sees before after [] Returns → IsStopSeen before
+    → IsStopSeen after
 keeps_stop before after Returns s stop = subst IsStopSeen (sym (s.adds ∙ append-nil s.base)) (stop_stays s.base before s.later stop)

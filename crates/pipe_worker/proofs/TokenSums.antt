@@ -1,5 +1,6 @@
 -- Tokens of the tasks in tallies, and calls that move tokens one after the other.
-use Rattle.std.proofs.Common.{◌≡◌, ◌<◌, ◌+◌, ◌∙◌, ℕ, zero, suc, List, [], ◌∷◌, Option, Some, None, MatchOption, add-zero, arith, ap, ap₂, get_or, length, refl, subst, sum_by, sym}
+use Rattle.std.proofs.Common.{◌≡◌, ◌<◌, ◌+◌, ◌∙◌, ℕ, zero, suc, List, [], ◌∷◌, Option, Some, None, MatchOption, add-zero, arith, ap, ap₂}
+use Rattle.std.proofs.Common.{get_or, length, refl, subst, sum_by, sym}
 use Rattle.std.proofs.lemmas.List.{length-map}
 use Rattle.std.proofs.lemmas.List.Sums.{sum_by-cons, sum_by_push}
 use Rattle.pipe_frame.specs.TokenCounts.{tokens_in}
@@ -22,7 +23,8 @@ module _ {X : Type 0} (f : X → ℕ) (d : X) where
       let h = e 0 in
       sum_by-cons f y ys ∙ (ap₂ (λ a b. a + b) (ap f h) (sum_same xs ys w (λ j. e (suc j))) ∙ sym (sum_by-cons f x xs))
 
-  pub sum_but_one : (xs ys : List X) (k more : ℕ) → length ys ≡ length xs → k < length xs → ((j : ℕ) → (j ≡ k → ⊥) → get_or ys j d ≡ get_or xs j d)
+  pub sum_but_one : (xs ys : List X) (k more : ℕ) → length ys ≡ length xs → k < length xs →
+      ((j : ℕ) → (j ≡ k → ⊥) → get_or ys j d ≡ get_or xs j d)
       → f (get_or ys k d) ≡ f (get_or xs k d) + more → sum_by f ys ≡ sum_by f xs + more
   sum_but_one [] ys k more l b e h = omega (arith, b)
   sum_but_one (x ∷ xs) [] k more l b e h = absurd (let w : zero ≡ suc (length xs) = l in cc)
@@ -42,7 +44,8 @@ module _ {X : Type 0} (f : X → ℕ) (d : X) where
 
 -- ---- thefts and pops
 
-module _ {M Q : Type 0} (weight : ℕ → ℕ) (tag : Task M → ℕ) (weighs : (t : Task M) → weight (tag t) ≡ tokens_in t) (e f : Ends (Task M) Q) (victim : ℕ) where
+module _ {M Q : Type 0} (weight : ℕ → ℕ) (tag : Task M → ℕ) (weighs : (t : Task M) → weight (tag t) ≡ tokens_in t) (e f : Ends (Task M) Q)
+    (victim : ℕ) where
   abbrev taken : Tally → ℕ
   taken v = sum_by weight v.taken
 
@@ -50,31 +53,39 @@ module _ {M Q : Type 0} (weight : ℕ → ℕ) (tag : Task M → ℕ) (weighs : 
   put v = sum_by weight v.put
 
   -- a theft pushes nothing
-  put_as_before : (r : Option (Task M)) → MatchOption r (front_tally f victim ≡ front_tally e victim) (λ t. front_tally f victim ≡ with_taken (front_tally e victim) (tag t ∷ []))
+  put_as_before : (r : Option (Task M)) → MatchOption r (front_tally f victim ≡ front_tally e victim)
+      (λ t. front_tally f victim ≡ with_taken (front_tally e victim) (tag t ∷ []))
       → put (front_tally f victim) ≡ put (front_tally e victim) + 0
   put_as_before None h = ap put h ∙ sym (add-zero (put (front_tally e victim)))
   put_as_before (Some t) h = ap put h ∙ sym (add-zero (put (front_tally e victim)))
 
   -- what was taken from the victim's deque
-  taken_more : (r : Option (Task M)) → MatchOption r (front_tally f victim ≡ front_tally e victim) (λ t. front_tally f victim ≡ with_taken (front_tally e victim) (tag t ∷ []))
+  taken_more : (r : Option (Task M)) → MatchOption r (front_tally f victim ≡ front_tally e victim)
+      (λ t. front_tally f victim ≡ with_taken (front_tally e victim) (tag t ∷ []))
       → taken (front_tally f victim) ≡ taken (front_tally e victim) + tokens_taken r
   taken_more None h = ap taken h ∙ sym (add-zero (taken (front_tally e victim)))
-  taken_more (Some t) h = ap taken h ∙ (sum_by_push weight (front_tally e victim).taken (tag t) ∙ ap (λ n. taken (front_tally e victim) + n) (weighs t))
+  taken_more (Some t) h = ap taken h ∙ (sum_by_push weight (front_tally e victim).taken (tag t)
+      ∙ ap (λ n. taken (front_tally e victim) + n) (weighs t))
 
   pub theft_takes : (r : Option (Task M)) → victim < front_count e → own_tally f ≡ own_tally e
-      → MatchOption r (front_tally f victim ≡ front_tally e victim) (λ t. front_tally f victim ≡ with_taken (front_tally e victim) (tag t ∷ []))
-      → ((k : ℕ) → (k ≡ victim → ⊥) → front_tally f k ≡ front_tally e k) → front_count f ≡ front_count e → TakesTokens weight (tokens_taken r) e f
+      → MatchOption r (front_tally f victim ≡ front_tally e victim)
+      (λ t. front_tally f victim ≡ with_taken (front_tally e victim) (tag t ∷ []))
+      → ((k : ℕ) → (k ≡ victim → ⊥) → front_tally f k ≡ front_tally e k) → front_count f ≡ front_count e
+      → TakesTokens weight (tokens_taken r) e f
   theft_takes r there own front others count =
-      let l : length (front_tallies f) ≡ length (front_tallies e) = length-map f.fronts.items tally_of_front ∙ (count ∙ sym (length-map e.fronts.items tally_of_front)) in
+      let l : length (front_tallies f) ≡ length (front_tallies e) = length-map f.fronts.items tally_of_front
+      ∙ (count ∙ sym (length-map e.fronts.items tally_of_front)) in
       let b : victim < length (front_tallies e) = subst (λ n. victim < n) (sym (length-map e.fronts.items tally_of_front)) there in
-      let s = sum_but_one taken (tally 0 [] []) (front_tallies e) (front_tallies f) victim (tokens_taken r) l b others (taken_more r front) in
+      let s = sum_but_one taken (tally 0 [] []) (front_tallies e) (front_tallies f) victim (tokens_taken r) l b others
+      (taken_more r front) in
       let z = sum_but_one put (tally 0 [] []) (front_tallies e) (front_tallies f) victim 0 l b others (put_as_before r front) in
       let p = ap taken own in
       let q = ap put own in
       omega (arith, s, z, p, q)
 
   -- a pop takes what it returns
-  pub pop_takes : (r : Option (Task M)) → MatchOption r (own_tally f ≡ own_tally e) (λ t. own_tally f ≡ with_taken (own_tally e) (tag t ∷ [])) → front_tallies f ≡ front_tallies e
+  pub pop_takes : (r : Option (Task M)) → MatchOption r (own_tally f ≡ own_tally e)
+      (λ t. own_tally f ≡ with_taken (own_tally e) (tag t ∷ [])) → front_tallies f ≡ front_tallies e
       → TakesTokens weight (tokens_taken r) e f
   pop_takes None own fronts =
       let p = ap taken own in
@@ -96,5 +107,6 @@ module _ {M Q : Type 0} (weight : ℕ → ℕ) (tag : Task M → ℕ) (weighs : 
   no_theft (Some t) none = absurd (none t refl)
 
 -- the one after the other
-pub then_takes : {T Q : Type 0} (weight : ℕ → ℕ) (e f g : Ends T Q) (more : ℕ) → TakesTokens weight 0 e f → TakesTokens weight more f g → TakesTokens weight more e g
+pub then_takes : {T Q : Type 0} (weight : ℕ → ℕ) (e f g : Ends T Q) (more : ℕ) → TakesTokens weight 0 e f → TakesTokens weight more f g
+    → TakesTokens weight more e g
 then_takes weight e f g more h k = omega (arith, h, k)

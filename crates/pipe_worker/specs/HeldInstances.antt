@@ -15,7 +15,8 @@ use Rattle.pipe_model.specs.Language.Programs.{pipeline_of}
 use Rattle.pipe_model.specs.Language.SyntaxTree.{SyntaxTree, More, Empty}
 use Rattle.pipe_model.specs.Runs.RunLogs.{state_after}
 
--- a token with these fields, whose payload has this tie, is out; its instance is one of this iteration, which had these replies before, and has
+-- a token with these fields, whose payload has this tie, is out; its instance is one of this iteration, which had these replies before, and
+-- has
 -- made these accesses
 pub record IsHeld (h : HallName) (i : ℕ) (replies : List (List ℤ)) (f : TokenFields) (tie : Tie) (trace : List Entry) : Type 0 where
   pub out : IsSeated h f tie
@@ -39,7 +40,8 @@ pub record MayAdvance {M : Type 0} (Whole : SyntaxTree → M → Type 0) (ReadyA
   pub entries : trace ≡ seated_entries (tie token.payload)
   pub whole : Whole h.tree token.payload
   pub performs : IsPerformed (pipeline_of h.tree h.input) token.iteration (seated_replies (tie token.payload)) trace end
-  pub ready : NamesNextStage end → ReadyAt h.tree h.input token.payload token.iteration (seated_replies (tie token.payload) ++ replies_of trace ∷ [])
+  pub ready : NamesNextStage end → ReadyAt h.tree h.input token.payload token.iteration
+      (seated_replies (tie token.payload) ++ replies_of trace ∷ [])
   pub stopped : end ≡ Stopped → (state_after seen).stopped ≡ true
 
 -- no hall

@@ -26,4 +26,5 @@ module _ {T Q : Type 0} (weight : ℕ → ℕ) where
 
   -- a worker that holds `before` tokens at one moment holds `after` tokens at a later one: no token is lost, and none is made
   abbrev pub KeepsTokens : ℕ → ℕ → TokenCounts → Ends T Q → TokenCounts → Ends T Q → Type 0
-  KeepsTokens before after c e d f = before + (d.given + taken_by f) + (c.returned + put_by e) ≡ after + (c.given + taken_by e) + (d.returned + put_by f)
+  KeepsTokens before after c e d f = before + (d.given + taken_by f) + (c.returned + put_by e) ≡ after + (c.given + taken_by e)
+      + (d.returned + put_by f)

@@ -18,7 +18,8 @@ pub record CanRun (code : FlatCode) (tree : SyntaxTree) (m : MachineState) : Typ
   pub made : IsMadeFor code m
 
 -- it is at the beginning of an instance of iteration i, after instances with these replies
-pub record IsAtInstance (code : FlatCode) (tree : SyntaxTree) (input : List ℤ) (m : MachineState) (i : ℕ) (replies : List (List ℤ)) : Type 0 where
+pub record IsAtInstance (code : FlatCode) (tree : SyntaxTree) (input : List ℤ) (m : MachineState) (i : ℕ)
+    (replies : List (List ℤ)) : Type 0 where
   pub can : CanRun code tree m
   pub stands : StandsFor code (cells_of tree) input m.run (after_instances ((pipeline_of tree input).behaviour i) replies)
 

@@ -31,10 +31,12 @@ pub trait Runs: Stands {
         ensures tie { Self.tie self.new ≡ Self.tie self.old };
 
     /// A payload at the start of an instance has a machine that is there.
-    ghost machine_ready: { (tree : SyntaxTree) (input : List ℤ) (x : Self) (i : ℕ) (replies : List (List ℤ)) → Self.ready_at tree input x i replies → HasMachine (held x) (λ m. IsAtInstance code tree input m i replies) };
+    ghost machine_ready: { (tree : SyntaxTree) (input : List ℤ) (x : Self) (i : ℕ) (replies : List (List ℤ))
+        → Self.ready_at tree input x i replies → HasMachine (held x) (λ m. IsAtInstance code tree input m i replies) };
 
     /// A payload is at the start of the instance at which its machine is.
-    ghost ready_by_machine: { (tree : SyntaxTree) (input : List ℤ) (x : Self) (i : ℕ) (replies : List (List ℤ)) → HasMachine (held x) (λ m. IsAtInstance code tree input m i replies) → Self.ready_at tree input x i replies };
+    ghost ready_by_machine: { (tree : SyntaxTree) (input : List ℤ) (x : Self) (i : ℕ) (replies : List (List ℤ))
+        → HasMachine (held x) (λ m. IsAtInstance code tree input m i replies) → Self.ready_at tree input x i replies };
 
     /// A payload can run the program that its machine can run.
     ghost by_machine: { (tree : SyntaxTree) (x : Self) → HasMachine (held x) (CanRun code tree) → Self.whole tree x };

@@ -233,7 +233,8 @@ impl<M: Runs + Drop, Q: WorkTest<M>> Worker<M, Q> {
         requires drives { CanDrive M.code Q.named code.now input.now }
         requires task { Q.meets task }
         ensures named { H.named hall.new ≡ Q.named }
-        ensures tokens { KeepsTokens Q.weight (tokens_in task) 0 (H.tokens hall.old) (ends_of self.old) (H.tokens hall.new) (ends_of self.new) }
+        ensures tokens { KeepsTokens Q.weight (tokens_in task) 0 (H.tokens hall.old) (ends_of self.old) (H.tokens hall.new)
+            (ends_of self.new) }
         ensures worker { IsSameWorker self.old self.new }
     {
         match task {

@@ -21,6 +21,7 @@ finished_runs_agree_with_elisions tree input limit log reports r accepted run ri
     record {
       silent = headline.silent;
       columns = λ none. meets.columns (free none);
-      output = λ none. results.output ∙ ap (λ b. played_output w b s) (ran none) ∙ (played_where_final_ran w s).0 ∙ meets.output (free none);
+      output = λ none. results.output ∙ ap (λ b. played_output w b s) (ran none) ∙ (played_where_final_ran w s).0
+          ∙ meets.output (free none);
       trap = λ none. results.trap ∙ ap (λ b. played_trap w b s) (ran none) ∙ (played_where_final_ran w s).1 ∙ meets.trap (free none);
     }

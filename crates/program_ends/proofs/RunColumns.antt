@@ -46,7 +46,8 @@ small (f ∷ frames) bound filled within =
     some rest zero d w = filled 0 f refl
     some rest (suc k) d w = rest.some k d (omega (arith, w))
 
-    few : AreSmall (bound - 1) (map column_of_frame frames) → All (λ (c : Column). length c.nodes ≤ bound) (map column_of_frame (f ∷ frames))
+    few : AreSmall (bound - 1) (map column_of_frame frames) → All (λ (c : Column). length c.nodes ≤ bound)
+        (map column_of_frame (f ∷ frames))
     few rest zero d w = omega (arith, within)
     few rest (suc k) d w = let h = rest.few k d (omega (arith, w)) in omega (arith, h)
 

@@ -29,7 +29,8 @@ results output trap = record { output = output; trap = trap }
 
 -- `final` did not run
 not_run : (w : WholeProgram) (ran : Bool) (s : State) (output : List ℤ) (trap : Option TrapAt) → played_final_trace w ran s ≡ []
-    → trap ≡ trap_before_final w (run_traces s) → output ≡ output_of w.loop.store (init_accesses w ++ accesses_of s.accesses) → HasResults w ran s (results output trap)
+    → trap ≡ trap_before_final w (run_traces s) → output ≡ output_of w.loop.store (init_accesses w ++ accesses_of s.accesses)
+    → HasResults w ran s (results output trap)
 not_run w ran s output trap none first all = record {
   output = all ∙ sym (ap (λ t. output_of w.loop.store (init_accesses w ++ (accesses_of s.accesses ++ accesses_in t))) none
       ∙ ap (λ l. output_of w.loop.store (init_accesses w ++ l)) (append-nil (accesses_of s.accesses)));
@@ -44,7 +45,8 @@ stopped_before w s output trap first all = not_run w false s output trap refl fi
 
 -- a trap before `final`
 pub trapped_before : (w : WholeProgram) (ran : Bool) (s : State) (output : List ℤ) (trap : Option TrapAt) → is_some trap ≡ true
-    → trap ≡ trap_before_final w (run_traces s) → output ≡ output_of w.loop.store (init_accesses w ++ accesses_of s.accesses) → HasResults w ran s (results output trap)
+    → trap ≡ trap_before_final w (run_traces s) → output ≡ output_of w.loop.store (init_accesses w ++ accesses_of s.accesses)
+    → HasResults w ran s (results output trap)
 trapped_before w false s output trap some first all = stopped_before w s output trap first all
 trapped_before w true s output trap some first all =
     not_run w true s output trap (ap (λ b. unless b (last_trace w (accesses_of s.accesses))) (ap is_some (sym first) ∙ some)) first all
@@ -54,8 +56,10 @@ is_true true e = refl
 is_true false e = absurd (false≢true (sym e))
 
 -- `final` did not run after the loop
-pub without_final : (w : WholeProgram) (ran : Bool) (s : State) (output : List ℤ) (trap : Option TrapAt) → (ran && not (is_some trap)) ≡ false
-    → trap ≡ trap_before_final w (run_traces s) → output ≡ output_of w.loop.store (init_accesses w ++ accesses_of s.accesses) → HasResults w ran s (results output trap)
+pub without_final : (w : WholeProgram) (ran : Bool) (s : State) (output : List ℤ) (trap : Option TrapAt)
+    → (ran && not (is_some trap)) ≡ false
+    → trap ≡ trap_before_final w (run_traces s) → output ≡ output_of w.loop.store (init_accesses w ++ accesses_of s.accesses)
+    → HasResults w ran s (results output trap)
 without_final w false s output trap e first all = stopped_before w s output trap first all
 without_final w true s output trap e first all = trapped_before w true s output trap (is_true (is_some trap) e) first all
 
@@ -64,7 +68,8 @@ is_false true e = absurd (false≢true e)
 is_false false e = refl
 
 -- `final` ran after the loop
-pub after_final : (w : WholeProgram) (ran : Bool) (s : State) (output : List ℤ) (before trap : Option TrapAt) → (ran && not (is_some before)) ≡ true
+pub after_final : (w : WholeProgram) (ran : Bool) (s : State) (output : List ℤ) (before trap : Option TrapAt)
+    → (ran && not (is_some before)) ≡ true
     → before ≡ trap_before_final w (run_traces s) → trap ≡ part_trap Last (trace_end (last_trace w (accesses_of s.accesses)))
     → output ≡ output_of w.loop.store ((init_accesses w ++ accesses_of s.accesses) ++ accesses_in (last_trace w (accesses_of s.accesses)))
     → HasResults w ran s (results output trap)

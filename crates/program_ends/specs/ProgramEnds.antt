@@ -22,7 +22,8 @@ pub record HasResults (w : WholeProgram) (ran : Bool) (s : State) (r : ProgramRe
   pub output : r.output ≡ played_output w ran s
   pub trap : r.trap ≡ played_trap w ran s
 
--- a finished run with these reports and results has a report exactly if the program's serial elision has a race, and otherwise the elision's
+-- a finished run with these reports and results has a report exactly if the program's serial elision has a race, and otherwise the
+-- elision's
 -- columns, output and trap
 pub record AgreesWithElision (w : WholeProgram) (log : RunLog) (reports : List Report) (r : ProgramResults) : Type 0 where
   pub silent : (reports ≡ []) ↔ HasNoProgramRace w
@@ -35,4 +36,5 @@ abbrev pub FinishedRunsAgreeWithElisions : Type 0
 FinishedRunsAgreeWithElisions =
     (tree : SyntaxTree) (input : List ℤ) (limit : ℕ) (log : RunLog) (reports : List Report) (r : ProgramResults) → BreaksNoRule tree
     → IsFinishedProgramRun (whole_of tree input) limit log → AreRight (columns_after log.events) (accesses_after log.events) reports
-    → HasResults (whole_of tree input) (reaches_final true reports) (state_after log.events) r → AgreesWithElision (whole_of tree input) log reports r
+    → HasResults (whole_of tree input) (reaches_final true reports) (state_after log.events) r
+    → AgreesWithElision (whole_of tree input) log reports r

@@ -78,11 +78,13 @@ pub fn end_after_loop(
     requires made { IsMadeFor prepared.now.code.now machine.old }
     requires accepted { BreaksNoRule (tree_of prepared.now.checked.now) }
     requires no_trap { is_some (whole_programs.init_trap (whole_of (tree_of prepared.now.checked.now) prepared.now.input.now)) ≡ false }
-    requires run { (limit : ℕ) × Run (pipeline_after_init (tree_of prepared.now.checked.now) prepared.now.input.now) limit run_log.now.events (state_after run_log.now.events) }
+    requires run { (limit : ℕ) × Run (pipeline_after_init (tree_of prepared.now.checked.now) prepared.now.input.now) limit
+        run_log.now.events (state_after run_log.now.events) }
     requires columns { run_log.now.columns ≡ ended_columns_after run_log.now.events }
     requires serves { Serves (tree_of prepared.now.checked.now) cells }
     requires state { IsStateAfter (store_of (tree_of prepared.now.checked.now))
-        (init_accesses (whole_of (tree_of prepared.now.checked.now) prepared.now.input.now) ++ accesses_of (accesses_after run_log.now.events)) cells }
+        (init_accesses (whole_of (tree_of prepared.now.checked.now) prepared.now.input.now) ++ accesses_of
+        (accesses_after run_log.now.events)) cells }
     ensures { IfOk result (HasResults (whole_of (tree_of prepared.now.checked.now) prepared.now.input.now)
         (reaches_final finished reports.now) (state_after run_log.now.events)) }
 {

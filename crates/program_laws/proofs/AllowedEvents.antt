@@ -1,10 +1,12 @@
 -- An event is allowed exactly if it is the next event of an iteration or the beginning of the next iteration.
-use Rattle.std.proofs.Common.{◌≡◌, ◌≢◌, ◌∙◌, sym, ap, subst, refl, ℕ, ℤ, zero, suc, List, [], ◌∷◌, ◌++◌, Bool, true, false, not, inl, inr, ◌<ℤ◌, ◌-◌, length, nat_lt, Option, Some, None, arith, ◌&&◌, ◌||◌}
+use Rattle.std.proofs.Common.{◌≡◌, ◌≢◌, ◌∙◌, sym, ap, subst, refl, ℕ, ℤ, zero, suc, List, [], ◌∷◌, ◌++◌, Bool, true, false, not, inl, inr}
+use Rattle.std.proofs.Common.{◌<ℤ◌, ◌-◌, length, nat_lt, Option, Some, None, arith, ◌&&◌, ◌||◌}
 use Rattle.std.specs.Prelude.{int_lt}
 use Rattle.std.proofs.lemmas.Bool.{cases_Bool, lt-ltb, ltb-true}
 use Rattle.std.proofs.lemmas.Int.{ints}
 use Rattle.pipe_model.specs.Runs.Allowed.{Allowed, HasPassed, ContinuesLoop, MayBegin, IsRunning, LeftHasPassed, OffersAt}
-use Rattle.pipe_model.specs.Pipelines.Behaviour.{Behaviour, Reading, Writing, Staging, Ending, Action, Accessed, Staged, Ended, Offers, behaviour_after_all, read_access, write_access, closes_at_once}
+use Rattle.pipe_model.specs.Pipelines.Behaviour.{Behaviour, Reading, Writing, Staging, Ending, Action, Accessed, Staged, Ended, Offers}
+use Rattle.pipe_model.specs.Pipelines.Behaviour.{behaviour_after_all, read_access, write_access, closes_at_once}
 use Rattle.pipe_model.specs.Races.Columns.{node_at}
 use Rattle.pipe_model.specs.Pipelines.Pipeline.{Pipeline, HasLegalStages}
 use Rattle.pipe_model.specs.Runs.State.{Frame, State, frame_at, alive, accesses_of, trace_in}
@@ -20,7 +22,8 @@ use Rattle.pipe_model.specs.declared.node.Node.{Node}
 use Rattle.run_laws.proofs.RunStates.FrameMoves.{last_node}
 use Rattle.run_laws.proofs.RunStates.FrameTraces.{action_offered}
 use Rattle.run_laws.proofs.RunStates.Progress.{LegalNow, AllLegal, run_legal}
-use Rattle.pipe_model.specs.Runs.NextEvents.{has_passed, frame_has_passed, left_has_passed, may_enter, continues_loop, frame_continues_loop, event_of_behaviour, event_if, event_of_status, event_of_frame, next_event, next_begin}
+use Rattle.pipe_model.specs.Runs.NextEvents.{has_passed, frame_has_passed, left_has_passed, may_enter, continues_loop, frame_continues_loop}
+use Rattle.pipe_model.specs.Runs.NextEvents.{event_of_behaviour, event_if, event_of_status, event_of_frame, next_event, next_begin}
 use Rattle.program_laws.specs.ScheduleLaws.{AllowedEventsAreNext, IsNext}
 
 -- ---- the tests of `NextEvents` and the propositions of `Allowed`
@@ -89,17 +92,20 @@ continues_to_test (Completed d) nodes g = or_to_test (closes_at_once d) (nat_lt 
 -- ---- the running instance
 
 pub event_at_running : (p : Pipeline) (s : State) (i : ℕ) (r : IsRunning s i)
-    → next_event p s i ≡ Some (event_of_behaviour p (p.preamble ++ accesses_of s.accesses) i (behaviour_after_all (p.behaviour i) r.frame.trace))
+    → next_event p s i ≡ Some (event_of_behaviour p (p.preamble ++ accesses_of s.accesses) i
+    (behaviour_after_all (p.behaviour i) r.frame.trace))
 event_at_running p s i r = ap (event_of_frame p s i) r.is ∙ ap (λ w. event_of_status p s i w r.frame.trace) r.runs
 
 -- the only read that the behaviour offers has the value of its cell as reply
-offered_read : (p : Pipeline) (before : List Cell_access) (i c : ℕ) (v : ℤ) (a : Cell_access) → a ≡ read_access c v → HasReply p.store before a
+offered_read : (p : Pipeline) (before : List Cell_access) (i c : ℕ) (v : ℤ) (a : Cell_access) → a ≡ read_access c v
+    → HasReply p.store before a
     → Access i (read_access c (value_after p.store before c)) ≡ Access i a
 offered_read p before i c v a e h =
     subst (λ x. HasReply p.store before x → Access i (read_access c (value_after p.store before c)) ≡ Access i x) (sym e)
     (λ k. ap (λ y. Access i (read_access c y)) (sym (k refl))) h
 
-offered_access : (p : Pipeline) (before : List Cell_access) (i : ℕ) (d : Behaviour) (a : Cell_access) → Offers d (Accessed a) → HasReply p.store before a
+offered_access : (p : Pipeline) (before : List Cell_access) (i : ℕ) (d : Behaviour) (a : Cell_access) → Offers d (Accessed a)
+    → HasReply p.store before a
     → event_of_behaviour p before i d ≡ Access i a
 offered_access p before i (Reading c go) a o h = let e = o.1 in offered_read p before i c o.0 a (cc) h
 offered_access p before i (Writing c v d) a o h = cc
@@ -131,7 +137,8 @@ begin_is_next limit s i m =
     by_frame (Some f) e = by_length s.frames refl
       where
         by_length : (fs : List Frame) → s.frames ≡ fs → continues_loop f.status f.nodes ≡ true
-        by_length [] q = absurd (let h : frame_at [] (length s.frames - 1) ≡ Some f = subst (λ l. frame_at l (length s.frames - 1) ≡ Some f) q e in cc)
+        by_length [] q = absurd (let h : frame_at [] (length s.frames - 1) ≡ Some f =
+            subst (λ l. frame_at l (length s.frames - 1) ≡ Some f) q e in cc)
         by_length (g ∷ fs) q =
             let long : length s.frames ≡ suc (length fs) = ap (λ (l : List Frame). length l) q in
             let number = m.number in
@@ -188,11 +195,29 @@ offered_is_allowed p limit s i (Reading c go) going r e first one l =
     let v = value_after p.store (p.preamble ++ accesses_of s.accesses) c in
     record { going = going; control = r; program = (offered_at p s i r (Accessed (read_access c v)) (Reading c go) e (v, refl), λ q. refl) }
 offered_is_allowed p limit s i (Writing c v d) going r e first one l =
-    record { going = going; control = r; program = (offered_at p s i r (Accessed (write_access c v)) (Writing c v d) e refl, λ q. absurd (cc)) }
+    record {
+      going = going;
+      control = r;
+      program = (
+        offered_at p s i r (Accessed (write_access c v))
+            (Writing c v d) e refl,
+        λ q. absurd (cc),
+      );
+    }
 offered_is_allowed p limit s i (Staging k n d) going r e first one l =
-    record { going = going; control = record { running = r; kind = l.0; above = l.1.0 }; program = offered_at p s i r (Staged k n) (Staging k n d) e refl }
+    record {
+      going = going;
+      control = record { running = r; kind = l.0; above = l.1.0 };
+      program =
+          offered_at p s i r (Staged k n) (Staging k n d) e refl;
+    }
 offered_is_allowed p limit s i (Ending f) going r e first one l =
-    record { going = going; control = record { running = r; first = λ q. one (l q) }; program = offered_at p s i r (Ended f) (Ending f) e refl }
+    record {
+      going = going;
+      control = record { running = r; first = λ q. one (l q) };
+      program =
+          offered_at p s i r (Ended f) (Ending f) e refl;
+    }
 
 pub event_is_allowed : (p : Pipeline) (limit : ℕ) (s : State) (i : ℕ) (f : Frame) (e : Event) → s.stopped ≡ false → AllLegal p s.frames
     → frame_at s.frames i ≡ Some f → (w : Status) → f.status ≡ w → event_of_status p s i w f.trace ≡ Some e → Allowed p limit s e
@@ -202,7 +227,8 @@ event_is_allowed p limit s i f e going legal is Running runs q =
     let event = event_of_behaviour p (p.preamble ++ accesses_of s.accesses) i (behaviour_after_all (p.behaviour i) f.trace) in
     let same : event ≡ e = cc in
     subst (λ x. Allowed p limit s x) same
-    (offered_is_allowed p limit s i (behaviour_after_all (p.behaviour i) f.trace) going (record { frame = f; is = is; runs = runs }) refl l.0 l.1 l.2)
+    (offered_is_allowed p limit s i (behaviour_after_all (p.behaviour i) f.trace) going (record { frame = f; is = is; runs = runs }) refl
+    l.0 l.1 l.2)
 event_is_allowed p limit s i f e going legal is (Pending k n) runs q = by_test (may_enter s.frames i k n) refl q
   where
     by_test : (b : Bool) → may_enter s.frames i k n ≡ b → event_if b (Enter i) ≡ Some e → Allowed p limit s e
@@ -225,7 +251,8 @@ event_is_allowed p limit s i f e going legal is (Pending k n) runs q = by_test (
     by_test false t q = absurd (cc)
 event_is_allowed p limit s i f e going legal is (Completed d) runs q = absurd (cc)
 
-pub begin_is_allowed : (p : Pipeline) (limit : ℕ) (s : State) (e : Event) → s.stopped ≡ false → next_begin limit s ≡ Some e → Allowed p limit s e
+pub begin_is_allowed : (p : Pipeline) (limit : ℕ) (s : State) (e : Event) → s.stopped ≡ false → next_begin limit s ≡ Some e
+    → Allowed p limit s e
 begin_is_allowed p limit s e going q =
     by_test (nat_lt (alive s) limit && frame_continues_loop (frame_at s.frames (length s.frames - 1))) refl q
   where
@@ -242,13 +269,15 @@ begin_is_allowed p limit s e going q =
             follows = λ j f long is. (
                 let place : length s.frames - 1 ≡ j = omega (arith, long) in
                 continues_from_test f.status f.nodes
-                (subst (λ o. frame_continues_loop o ≡ true) is (subst (λ n. frame_continues_loop (frame_at s.frames n) ≡ true) place both.1)));
+                (subst (λ o. frame_continues_loop o ≡ true) is (subst (λ n. frame_continues_loop (frame_at s.frames n) ≡ true) place
+                both.1)));
           };
           program = tt;
         })
     by_test false t q = absurd (cc)
 
-pub next_is_allowed : (p : Pipeline) (limit : ℕ) (s : State) (e : Event) → s.stopped ≡ false → AllLegal p s.frames → IsNext p limit s e → Allowed p limit s e
+pub next_is_allowed : (p : Pipeline) (limit : ℕ) (s : State) (e : Event) → s.stopped ≡ false → AllLegal p s.frames → IsNext p limit s e
+    → Allowed p limit s e
 next_is_allowed p limit s e going legal (inl n) = by_frame (frame_at s.frames n.0) refl n.1
   where
     by_frame : (o : Option Frame) → frame_at s.frames n.0 ≡ o → event_of_frame p s n.0 o ≡ Some e → Allowed p limit s e

@@ -1,5 +1,6 @@
 -- If the tickets of a book rise, its instances are ordered along their parents.
-use Rattle.std.proofs.Common.{◌≢◌, ◌≡◌, ◌∙◌, sym, ap, subst, refl, ℕ, ℤ, zero, suc, List, [], ◌∷◌, ◌++◌, Bool, true, false, inl, inr, ◌⊎◌, ◌<◌, ◌+◌, ◌-◌, ◌==◌, length, map, Option, Some, None, arith, slice_index_or, append-nil}
+use Rattle.std.proofs.Common.{◌≢◌, ◌≡◌, ◌∙◌, sym, ap, subst, refl, ℕ, ℤ, zero, suc, List, [], ◌∷◌, ◌++◌, Bool, true, false, inl, inr, ◌⊎◌}
+use Rattle.std.proofs.Common.{◌<◌, ◌+◌, ◌-◌, ◌==◌, length, map, Option, Some, None, arith, slice_index_or, append-nil}
 use Rattle.std.specs.Prelude.{AllPairs}
 use Rattle.std.proofs.lemmas.Bool.{cases_lt, eqb-true}
 use Rattle.std.proofs.lemmas.Int.{ints}
@@ -27,9 +28,11 @@ use Rattle.pipe_model.specs.declared.ticket.BookEntry.{BookEntry}
 use Rattle.run_laws.proofs.ListOrders.JoinedPlaces.{last_up_to_found}
 use Rattle.run_laws.proofs.ListOrders.LeftParents.{left_is}
 use Rattle.run_laws.proofs.ListOrders.StartsOfRuns.{IsStartSound, grew_begin, grew_enter, sound_step}
-use Rattle.run_laws.proofs.LogMerge.InstanceCounts.{IsCountedAt, control_counts, end_tickets_counted, ended_in, ended_by_status, start_tickets_counted, started_in}
+use Rattle.run_laws.proofs.LogMerge.InstanceCounts.{IsCountedAt, control_counts, end_tickets_counted, ended_in, ended_by_status}
+use Rattle.run_laws.proofs.LogMerge.InstanceCounts.{start_tickets_counted, started_in}
 use Rattle.run_laws.proofs.LogMerge.LastElements.{LastOf, IsEmpty, HasLast, last_of_list}
-use Rattle.run_laws.proofs.LogMerge.InstanceTickets.{start_tickets-append, end_tickets-append, ticket_left, start_has, end_has, ticket_within}
+use Rattle.run_laws.proofs.LogMerge.InstanceTickets.{start_tickets-append, end_tickets-append, ticket_left, start_has, end_has}
+use Rattle.run_laws.proofs.LogMerge.InstanceTickets.{ticket_within}
 use Rattle.run_laws.proofs.RunStates.FrameMoves.{enter_pending_is}
 use Rattle.run_laws.proofs.RunStates.Frames.{frame_at_exists, frame_at_past, frame_at_within, nodes_at_frame}
 use Rattle.run_laws.proofs.RunStates.GrowingColumns.{columns-action, nodes_at_moved, nodes_at_other}
@@ -97,18 +100,21 @@ ticket_same xs n t e = subst (λ l. ticket_at l n ≡ Some t) (append-nil xs) e
 module _ (bs : List BookEntry) (b : BookEntry) where
   start_stays : (i k t : ℕ) → start_ticket_of bs i k ≡ Some t → start_ticket_of (bs ++ b ∷ []) i k ≡ Some t
   start_stays i k t e =
-      subst (λ l. ticket_at l k ≡ Some t) (sym (start_tickets-append i bs (b ∷ []))) (ticket_stays (start_tickets i bs) (start_tickets i (b ∷ [])) k t e)
+      subst (λ l. ticket_at l k ≡ Some t) (sym (start_tickets-append i bs (b ∷ [])))
+      (ticket_stays (start_tickets i bs) (start_tickets i (b ∷ [])) k t e)
 
   end_stays : (i k t : ℕ) → end_ticket_of bs i k ≡ Some t → end_ticket_of (bs ++ b ∷ []) i k ≡ Some t
   end_stays i k t e =
-      subst (λ l. ticket_at l k ≡ Some t) (sym (end_tickets-append i bs (b ∷ []))) (ticket_stays (end_tickets i bs) (end_tickets i (b ∷ [])) k t e)
+      subst (λ l. ticket_at l k ≡ Some t) (sym (end_tickets-append i bs (b ∷ [])))
+      (ticket_stays (end_tickets i bs) (end_tickets i (b ∷ [])) k t e)
 
   after_stays : (h j i k : ℕ) → StartsAfterEnd bs h j i k → StartsAfterEnd (bs ++ b ∷ []) h j i k
   after_stays h j i k u =
       record { start = u.start; end = u.end; starts = start_stays i k u.start u.starts; ends = end_stays h j u.end u.ends; later = u.later }
 
   -- the tickets of the longer book
-  start_is : (i k t : ℕ) → start_ticket_of (bs ++ b ∷ []) i k ≡ Some t → ticket_at (start_tickets i bs ++ start_tickets i (b ∷ [])) k ≡ Some t
+  start_is : (i k t : ℕ) → start_ticket_of (bs ++ b ∷ []) i k ≡ Some t → ticket_at (start_tickets i bs ++ start_tickets i (b ∷ [])) k
+      ≡ Some t
   start_is i k t e = subst (λ l. ticket_at l k ≡ Some t) (start_tickets-append i bs (b ∷ [])) e
 
   end_is : (i k t : ℕ) → end_ticket_of (bs ++ b ∷ []) i k ≡ Some t → ticket_at (end_tickets i bs ++ end_tickets i (b ∷ [])) k ≡ Some t
@@ -159,7 +165,8 @@ continues_ended (Pending k n) nodes l g = l
 continues_ended (Completed e) nodes l g = l
 
 -- if the number was passed, the instances up to it have ended
-passed_ended : (w : Status) (nodes : List Node) (n : ℤ) (j : ℕ) → HasPassed w nodes n → IsLastUpTo nodes j n → j < ended_by_status w (length nodes)
+passed_ended : (w : Status) (nodes : List Node) (n : ℤ) (j : ℕ) → HasPassed w nodes n → IsLastUpTo nodes j n
+    → j < ended_by_status w (length nodes)
 passed_ended Running nodes n j h last =
     let within = last.within in
     elim (cases_lt j (length nodes - 1)) [
@@ -210,7 +217,8 @@ module _ (limit : ℕ) (bs : List BookEntry) (ticket : ℕ) (d : State) (starts 
 
   -- an event that ends an instance
   ends_one : (e : Event) (j : ℕ) (f : Frame) → frame_at d.frames j ≡ Some f → f.status ≡ Running
-      → ((i t : ℕ) → end_ticket i e t ≡ if_ticket (j == i) t) → ((i t : ℕ) → start_ticket i e t ≡ []) → own_columns (next_state d e) ≡ own_columns d
+      → ((i t : ℕ) → end_ticket i e t ≡ if_ticket (j == i) t) → ((i t : ℕ) → start_ticket i e t ≡ [])
+      → own_columns (next_state d e) ≡ own_columns d
       → OrdersInstances (bs ++ entry e ∷ []) (next_state d e)
   ends_one e j f is runs ends no_start columns = record {
     from_start_to_end = λ i k end q. (
@@ -231,7 +239,8 @@ module _ (limit : ℕ) (bs : List BookEntry) (ticket : ℕ) (d : State) (starts 
               (h.0, h.1, omega (arith, w, t)))
         ]);
     up = λ i k start q. after_stays bs (entry e) i k i (k + 1) (before.up i k start (old_start i (k + 1) start q));
-    left = λ i h k start parent q. old_left e (λ c m l. ap (λ cs. left_parent cs c m) columns) i h k start parent (old_start (suc i) k start q);
+    left = λ i h k start parent q. old_left e (λ c m l. ap (λ cs. left_parent cs c m) columns) i h k start parent
+        (old_start (suc i) k start q);
   }
     where
       old_start : (i k start : ℕ) → start_ticket_of (bs ++ entry e ∷ []) i k ≡ Some start → start_ticket_of bs i k ≡ Some start
@@ -241,7 +250,8 @@ module _ (limit : ℕ) (bs : List BookEntry) (ticket : ℕ) (d : State) (starts 
 
   -- an event that starts an instance of iteration j
   starts_one : (e : Event) (j : ℕ) → ((i t : ℕ) → start_ticket i e t ≡ if_ticket (j == i) t) → ((i t : ℕ) → end_ticket i e t ≡ [])
-      → ((c k : ℕ) → k < length (nodes_at (own_columns d) c) → left_parent (own_columns (next_state d e)) c k ≡ left_parent (own_columns d) c k)
+      → ((c k : ℕ) → k < length (nodes_at (own_columns d) c) → left_parent (own_columns (next_state d e)) c k ≡ left_parent
+      (own_columns d) c k)
       → ((k : ℕ) → k + 1 ≡ started_in (frame_at d.frames j) → k < ended_in (frame_at d.frames j))
       → ((i h : ℕ) → j ≡ suc i → left_parent (own_columns (next_state d e)) (suc i) (started_in (frame_at d.frames (suc i))) ≡ Some h
       → h < ended_in (frame_at d.frames i))
@@ -296,11 +306,13 @@ module _ (limit : ℕ) (bs : List BookEntry) (ticket : ℕ) (d : State) (starts 
 
   -- the beginning of iteration i + 1
   begin_left : (j : ℕ) → MayBegin limit d j → (i h : ℕ) → j ≡ suc i
-      → left_parent (own_columns (next_state d (Begin j))) (suc i) (started_in (frame_at d.frames (suc i))) ≡ Some h → h < ended_in (frame_at d.frames i)
+      → left_parent (own_columns (next_state d (Begin j))) (suc i) (started_in (frame_at d.frames (suc i))) ≡ Some h
+      → h < ended_in (frame_at d.frames i)
   begin_left j may i h here parent =
       let number = may.number in
       let past : frame_at d.frames (suc i) ≡ None = frame_at_past d.frames (suc i) (omega (arith, number, here)) in
-      let zero_parent : Some 0 ≡ Some h = subst (λ n. left_parent (own_columns (next_state d (Begin j))) (suc i) n ≡ Some h) (ap started_in past) parent in
+      let zero_parent : Some 0 ≡ Some h = subst (λ n. left_parent (own_columns (next_state d (Begin j))) (suc i) n ≡ Some h)
+      (ap started_in past) parent in
       let z : 0 ≡ h = cc in
       let f = frame_at_exists d.frames i (omega (arith, number, here)) in
       let filled = (sound.sound.well i f.0 f.1).filled in
@@ -309,7 +321,8 @@ module _ (limit : ℕ) (bs : List BookEntry) (ticket : ℕ) (d : State) (starts 
 
   -- iteration i + 1 enters a stage
   enter_left : (j : ℕ) → MayEnter d j → (i h : ℕ) → j ≡ suc i
-      → left_parent (own_columns (next_state d (Enter j))) (suc i) (started_in (frame_at d.frames (suc i))) ≡ Some h → h < ended_in (frame_at d.frames i)
+      → left_parent (own_columns (next_state d (Enter j))) (suc i) (started_in (frame_at d.frames (suc i))) ≡ Some h
+      → h < ended_in (frame_at d.frames i)
   enter_left j may i h here parent =
       let f : Frame = may.frame in
       let u : Frame → Frame = λ g. enter_pending g.status g in
@@ -319,7 +332,8 @@ module _ (limit : ℕ) (bs : List BookEntry) (ticket : ℕ) (d : State) (starts 
       let filled = (sound.sound.well j f may.is).filled in
       let m : ℕ = length f.nodes - 1 in
       let long : length f.nodes ≡ suc m = omega (arith, filled) in
-      let parent' : left_parent columns (suc i) (suc m) ≡ Some h = subst (λ n. left_parent columns (suc i) n ≡ Some h) (ap started_in there ∙ long) parent in
+      let parent' : left_parent columns (suc i) (suc m) ≡ Some h = subst (λ n. left_parent columns (suc i) n ≡ Some h)
+      (ap started_in there ∙ long) parent in
       let at_left = left_is columns i (suc m) h parent' in
       let next : j ≡ i + 1 = omega (arith, here) in
       let right : nodes_at columns (i + 1) ≡ f.nodes ++ z ∷ [] =
@@ -328,7 +342,8 @@ module _ (limit : ℕ) (bs : List BookEntry) (ticket : ℕ) (d : State) (starts 
       let new : node_at (nodes_at columns (i + 1)) (suc m) ≡ z =
       ap (λ ns. node_at ns (suc m)) right ∙ get_or_push f.nodes z no_node (suc m) long in
       let w = joined_first (node_at (nodes_at columns (i + 1)) (suc m)).kind (joined_at columns i m) h
-      (last_up_to (nodes_at columns i) (node_at (nodes_at columns (i + 1)) (suc m)).number) at_left.joins (at_left.nearest m (omega arith)) in
+      (last_up_to (nodes_at columns i) (node_at (nodes_at columns (i + 1)) (suc m)).number) at_left.joins
+      (at_left.nearest m (omega arith)) in
       let kind : may.kind ≡ Wait = ap (λ (x : Node). x.kind) (sym new) ∙ w.0 in
       let within = frame_at_within d.frames j f may.is in
       let g = frame_at_exists d.frames i (omega (arith, within, here)) in
@@ -362,7 +377,8 @@ module _ (limit : ℕ) (bs : List BookEntry) (ticket : ℕ) (d : State) (starts 
       omega (arith, full, ended, all)))
       (enter_left j may)
   step (Finish j e) free may =
-      ends_one (Finish j e) j may.running.frame may.running.is may.running.runs (λ i t. refl) (λ i t. refl) (columns-action d.frames j (Ended e) (Completed e))
+      ends_one (Finish j e) j may.running.frame may.running.is may.running.runs (λ i t. refl) (λ i t. refl)
+      (columns-action d.frames j (Ended e) (Completed e))
   step Stop free may = stops
 
 -- ---- the book
@@ -401,7 +417,8 @@ ordered_book {limit} (ControlRunThen {events = es} {c = d} r e free going h) boo
         no_last [] x q = cc
         no_last (y ∷ xs) x q = cc
     go bk (HasLast bs b) q w again =
-        let both = same_from_push es (map (λ (x : BookEntry). x.event) bs) e b.event (sym q ∙ map-append (λ (x : BookEntry). x.event) bs (b ∷ [])) in
+        let both = same_from_push es (map (λ (x : BookEntry). x.event) bs) e b.event
+        (sym q ∙ map-append (λ (x : BookEntry). x.event) bs (b ∷ [])) in
         let k = again bs (sym both.0) (rise_prefix bs b w) in
         let counts = λ (i : ℕ). subst (λ l. IsCountedAt l d i) both.0 (control_counts r i) in
         let ordered : OrdersInstances (bs ++ (let x : BookEntry = record { ticket = b.ticket; event = e } in x) ∷ []) (next_state d e) =
@@ -409,7 +426,8 @@ ordered_book {limit} (ControlRunThen {events = es} {c = d} r e free going h) boo
         record {
           starts = k.starts ++ started_by d e;
           sound = sound_step limit d e k.starts h k.sound;
-          ordered = subst (λ x. OrdersInstances (bs ++ (let y : BookEntry = record { ticket = b.ticket; event = x } in y) ∷ []) (next_state d e))
+          ordered = subst (λ x. OrdersInstances (bs ++ (let y : BookEntry = record { ticket = b.ticket; event = x } in y) ∷ [])
+              (next_state d e))
               both.1 ordered;
         }
 

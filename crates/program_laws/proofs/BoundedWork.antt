@@ -1,5 +1,6 @@
 -- The work of programs: at most two accesses a step, and at most as many instances as the limit allows.
-use Rattle.std.proofs.Common.{◌≡◌, sym, subst, ℕ, zero, suc, ℤ, pos, negsuc, Bool, true, false, List, [], Option, Some, None, if◌then◌else◌, nat_lt, ◌<◌, ◌≤◌, ◌+◌, ◌*◌, ◌-◌, refl, arith, length, ◌==◌, inl, inr, not, mul-le-mul_right}
+use Rattle.std.proofs.Common.{◌≡◌, sym, subst, ℕ, zero, suc, ℤ, pos, negsuc, Bool, true, false, List, [], Option, Some, None, if◌then◌else◌}
+use Rattle.std.proofs.Common.{nat_lt, ◌<◌, ◌≤◌, ◌+◌, ◌*◌, ◌-◌, refl, arith, length, ◌==◌, inl, inr, not, mul-le-mul_right}
 use Rattle.std.proofs.Math.Nat.{mul_assoc}
 use Rattle.pipe_model.specs.Language.CheckingRules.{Fault, fault_of, is_between, limit_fault_or, first_limit_out}
 use Rattle.language_laws.proofs.WellFormed.{accepted_is_well_formed}
@@ -17,12 +18,17 @@ use Rattle.pipe_model.specs.declared.column.ColumnEnd.{ColumnEnd}
 use Rattle.pipe_model.specs.declared.trap.Trap.{Trap}
 use Rattle.pipe_model.specs.declared.trap.Trap.TheVariants as traps
 use Rattle.pipe_model.specs.Pipelines.Behaviour.{Behaviour, Reading, Writing, Staging, Ending}
-use Rattle.pipe_model.specs.Language.Evaluation.{CellRange, Local, Setting, StagePosition, Environment, evaluate, execute, execute_all, assign, emit, go_to_stage, if_zero, leave_block, loop_turns, local_value, run_iteration, first_environment, operate, operate_one, fitting, divided, named_value, element_of, take_at, is_i64}
+use Rattle.pipe_model.specs.Language.Evaluation.{CellRange, Local, Setting, StagePosition, Environment, evaluate, execute, execute_all}
+use Rattle.pipe_model.specs.Language.Evaluation.{assign, emit, go_to_stage, if_zero, leave_block, loop_turns, local_value, run_iteration}
+use Rattle.pipe_model.specs.Language.Evaluation.{first_environment, operate, operate_one, fitting, divided, named_value, element_of}
+use Rattle.pipe_model.specs.Language.Evaluation.{take_at, is_i64}
 use Rattle.pipe_model.specs.Language.Interaction.{Interaction, Return, Raise, Step, Get, Set, Stage, bind, with_budget}
 use Rattle.pipe_model.specs.Pipelines.Pipeline.{AlwaysClosesLoop, HasBoundedWork}
 use Rattle.pipe_model.specs.Language.Programs.{natural, pipeline_of, setting_of}
 use Rattle.pipe_model.specs.Language.SyntaxTree as syntax
-use Rattle.pipe_model.specs.Language.SyntaxTree.{SyntaxTree, Expression, Number, Name, Element, And, Or, Binary, Unary, More, Take, Iter, Statement, Let, Assign, AssignElement, Emit, If, While, NextStage, Statements, Empty, Then, kind_of_stage}
+use Rattle.pipe_model.specs.Language.SyntaxTree.{SyntaxTree, Expression, Number, Name, Element, And, Or, Binary, Unary, More, Take, Iter}
+use Rattle.pipe_model.specs.Language.SyntaxTree.{Statement, Let, Assign, AssignElement, Emit, If, While, NextStage, Statements, Empty, Then}
+use Rattle.pipe_model.specs.Language.SyntaxTree.{kind_of_stage}
 use Rattle.program_laws.specs.WorkBounds.{ProgramsHaveBoundedWork, ProgramRunsAreBounded}
 
 -- ---- trees without stages
@@ -54,11 +60,13 @@ frugal-bind (FrugalStep s) h = FrugalStep (frugal-bind s h)
 frugal-bind (FrugalGet c s) h = FrugalGet c (λ v. frugal-bind (s v) h)
 frugal-bind (FrugalSet c v s) h = FrugalSet c v (frugal-bind s h)
 
-frugal_if : {A : Type 0} {credit : ℕ} (b : Bool) (x y : Interaction A) → IsFrugal credit x → IsFrugal credit y → IsFrugal credit (if b then x else y)
+frugal_if : {A : Type 0} {credit : ℕ} (b : Bool) (x y : Interaction A) → IsFrugal credit x → IsFrugal credit y
+    → IsFrugal credit (if b then x else y)
 frugal_if true x y s t = s
 frugal_if false x y s t = t
 
-frugal_by_zero : {A : Type 0} {credit : ℕ} (v : ℤ) (x y : Interaction A) → IsFrugal credit x → IsFrugal credit y → IsFrugal credit (if_zero v x y)
+frugal_by_zero : {A : Type 0} {credit : ℕ} (v : ℤ) (x y : Interaction A) → IsFrugal credit x → IsFrugal credit y
+    → IsFrugal credit (if_zero v x y)
 frugal_by_zero (pos zero) x y s t = s
 frugal_by_zero (pos (suc n)) x y s t = t
 frugal_by_zero (negsuc n) x y s t = t
@@ -109,13 +117,17 @@ frugal-evaluate setting locals (Element x i) =
     (frugal-element_of 2 (setting.cells x) v (λ c. Get c Return) (λ c. FrugalGet c (λ r. FrugalReturn r))))
 frugal-evaluate setting locals (And a b) =
     frugal-bind (frugal-evaluate setting locals a) (λ x. FrugalStep
-    (frugal_by_zero x _ _ (FrugalReturn _) (frugal_more (frugal-bind (frugal-evaluate setting locals b) (λ y. FrugalReturn _)) 2 (omega arith))))
+    (frugal_by_zero x _ _ (FrugalReturn _) (frugal_more (frugal-bind (frugal-evaluate setting locals b) (λ y. FrugalReturn _)) 2
+    (omega arith))))
 frugal-evaluate setting locals (Or a b) =
     frugal-bind (frugal-evaluate setting locals a) (λ x. FrugalStep
-    (frugal_by_zero x _ _ (frugal_more (frugal-bind (frugal-evaluate setting locals b) (λ y. FrugalReturn _)) 2 (omega arith)) (FrugalReturn _)))
+    (frugal_by_zero x _ _ (frugal_more (frugal-bind (frugal-evaluate setting locals b) (λ y. FrugalReturn _)) 2 (omega arith))
+    (FrugalReturn _)))
 frugal-evaluate setting locals (Binary code a b) =
-    frugal-bind (frugal-evaluate setting locals a) (λ x. frugal-bind (frugal-evaluate setting locals b) (λ y. FrugalStep (frugal-operate 2 code x y)))
-frugal-evaluate setting locals (Unary code a) = frugal-bind (frugal-evaluate setting locals a) (λ x. FrugalStep (frugal-operate_one 2 code x))
+    frugal-bind (frugal-evaluate setting locals a) (λ x. frugal-bind (frugal-evaluate setting locals b)
+    (λ y. FrugalStep (frugal-operate 2 code x y)))
+frugal-evaluate setting locals (Unary code a) = frugal-bind (frugal-evaluate setting locals a)
+    (λ x. FrugalStep (frugal-operate_one 2 code x))
 frugal-evaluate setting locals More = FrugalStep (FrugalGet 0 (λ v. FrugalReturn _))
 frugal-evaluate setting locals Take = FrugalStep (FrugalGet 0 (λ v. frugal-take_at setting.world.input v))
 frugal-evaluate setting locals Iter = FrugalStep (FrugalReturn _)
@@ -127,11 +139,13 @@ pub data IsBounded {A : Type 0} (P : ℕ → A → Type 0) : ℕ → ℕ → Int
   BoundReturn : {credit room : ℕ} {a : A} → P room a → IsBounded P credit room (Return a)
   BoundRaise : {credit room : ℕ} (t : Trap) → IsBounded P credit room (Raise t)
   BoundStep : {credit room : ℕ} {d : Interaction A} → IsBounded P 2 room d → IsBounded P credit room (Step d)
-  BoundGet : {credit room : ℕ} {go : ℤ → Interaction A} (c : ℕ) → ((v : ℤ) → IsBounded P credit room (go v)) → IsBounded P (suc credit) room (Get c go)
+  BoundGet : {credit room : ℕ} {go : ℤ → Interaction A} (c : ℕ) → ((v : ℤ) → IsBounded P credit room (go v))
+      → IsBounded P (suc credit) room (Get c go)
   BoundSet : {credit room : ℕ} {d : Interaction A} (c : ℕ) (v : ℤ) → IsBounded P credit room d → IsBounded P (suc credit) room (Set c v d)
   BoundStage : {credit room : ℕ} {d : Interaction A} (k : Kind) (n : ℤ) → IsBounded P 0 room d → IsBounded P credit (suc room) (Stage k n d)
 
-bounded_more : {A : Type 0} {P : ℕ → A → Type 0} {credit room : ℕ} {d : Interaction A} → IsBounded P credit room d → (more : ℕ) → credit ≤ more
+bounded_more : {A : Type 0} {P : ℕ → A → Type 0} {credit room : ℕ} {d : Interaction A} → IsBounded P credit room d → (more : ℕ)
+    → credit ≤ more
     → IsBounded P more room d
 bounded_more (BoundReturn p) more le = BoundReturn p
 bounded_more (BoundRaise t) more le = BoundRaise t
@@ -188,7 +202,8 @@ bounded-go_to_stage stages room kind here n has =
     bounded_if (int_lt here.number n) _ _ (λ above. bounded_if (nat_lt here.count stages) _ _
     (λ free. bounded-stage stages room (kind_of_stage kind) here n has (ltb-true here.count stages free)) (BoundRaise _)) (BoundRaise _)
 
-bounded-assign : (stages room : ℕ) (env : Environment) (o : Option ℤ) (range : Option CellRange) (x : List ℕ) (v : ℤ) → stages ≤ env.stage.count + room
+bounded-assign : (stages room : ℕ) (env : Environment) (o : Option ℤ) (range : Option CellRange) (x : List ℕ) (v : ℤ)
+    → stages ≤ env.stage.count + room
     → IsBounded (FitsIn stages) 2 room (assign env o range x v)
 bounded-assign stages room env (Some old) range x v has = BoundReturn has
 bounded-assign stages room env None (Some range) x v has = BoundSet _ _ (BoundReturn has)
@@ -203,24 +218,28 @@ bounded-write stages room env None i v has = BoundRaise _
 bounded-write stages room env (Some range) (negsuc i) v has = BoundRaise _
 bounded-write stages room env (Some range) (pos i) v has = by_test (nat_lt i range.size)
   where
-    by_test : (b : Bool) → IsBounded (FitsIn stages) 2 room (bind (if b then Return (range.first + i) else Raise traps.Index) (λ cell. Set cell v (Return env)))
+    by_test : (b : Bool) → IsBounded (FitsIn stages) 2 room
+        (bind (if b then Return (range.first + i) else Raise traps.Index) (λ cell. Set cell v (Return env)))
     by_test true = BoundSet _ _ (BoundReturn has)
     by_test false = BoundRaise _
 
-bounded-turns : (stages turns : ℕ) (test : Environment → Interaction ℤ) (body : Environment → Interaction Environment) (env : Environment) (room : ℕ)
+bounded-turns : (stages turns : ℕ) (test : Environment → Interaction ℤ) (body : Environment → Interaction Environment) (env : Environment)
+    (room : ℕ)
     → ((now : Environment) → IsFrugal 0 (test now))
     → ((now : Environment) (r : ℕ) → stages ≤ now.stage.count + r → IsBounded (FitsIn stages) 0 r (body now))
     → stages ≤ env.stage.count + room → IsBounded (FitsIn stages) 0 room (loop_turns turns test body env)
 bounded-turns stages zero test body env room frugal bounded has = BoundRaise _
 bounded-turns stages (suc turns) test body env room frugal bounded has =
     frugal-then room (frugal env) (λ v. BoundStep (bounded_by_zero v (BoundReturn has)
-    (bounded_more (bounded-bind (bounded env room has) (λ r after has2. bounded-turns stages turns test body (leave_block env after) r frugal
+    (bounded_more (bounded-bind (bounded env room has)
+    (λ r after has2. bounded-turns stages turns test body (leave_block env after) r frugal
     bounded has2)) 2 (omega arith))))
 
 mutual
   pub bounded-execute : (setting : Setting) (s : Statement) (env : Environment) (room : ℕ) → setting.world.stages ≤ env.stage.count + room
       → IsBounded (FitsIn setting.world.stages) 0 room (execute setting s env)
-  bounded-execute setting (Let x e) env room has = frugal-then room (frugal-evaluate setting env.locals e) (λ v. BoundStep (BoundReturn has))
+  bounded-execute setting (Let x e) env room has = frugal-then room (frugal-evaluate setting env.locals e)
+      (λ v. BoundStep (BoundReturn has))
   bounded-execute setting (Assign x e) env room has =
       frugal-then room (frugal-evaluate setting env.locals e) (λ v. BoundStep
       (bounded-assign setting.world.stages room env (local_value env.locals x) (setting.cells x) x v has))
@@ -228,7 +247,8 @@ mutual
       frugal-then room (frugal-evaluate setting env.locals i) (λ j. frugal-then room (frugal-evaluate setting env.locals e)
       (λ v. BoundStep (bounded-write setting.world.stages room env (setting.cells x) j v has)))
   bounded-execute setting (Emit e) env room has =
-      frugal-then room (frugal-evaluate setting env.locals e) (λ v. BoundStep (frugal-then room (frugal-emit setting.world.emits v) (λ done. BoundReturn has)))
+      frugal-then room (frugal-evaluate setting env.locals e)
+      (λ v. BoundStep (frugal-then room (frugal-emit setting.world.emits v) (λ done. BoundReturn has)))
   bounded-execute setting (If e a b) env room has =
       frugal-then room (frugal-evaluate setting env.locals e) (λ v. BoundStep (bounded-bind
       (bounded_by_zero v (bounded_more (bounded-execute_all setting b env room has) 2 (omega arith))
@@ -240,13 +260,15 @@ mutual
       (λ now r has2. bounded-execute_all setting a now r has2) has
   bounded-execute setting (syntax.Stage kind e) env room has =
       frugal-then room (frugal-evaluate setting env.locals e) (λ n. BoundStep (bounded-bind
-      (bounded_more (bounded-go_to_stage setting.world.stages room kind env.stage n has) 2 (omega arith)) (λ r stage has2. BoundReturn has2)))
+      (bounded_more (bounded-go_to_stage setting.world.stages room kind env.stage n has) 2 (omega arith))
+      (λ r stage has2. BoundReturn has2)))
   bounded-execute setting (NextStage kind) env room has =
       BoundStep (bounded-bind (frugal-then room (frugal-fitting 2 (env.stage.number +ℤ pos 1))
       (λ n. bounded-go_to_stage setting.world.stages room kind env.stage n has))
       (λ r stage has2. BoundReturn has2))
 
-  pub bounded-execute_all : (setting : Setting) (ss : Statements) (env : Environment) (room : ℕ) → setting.world.stages ≤ env.stage.count + room
+  pub bounded-execute_all : (setting : Setting) (ss : Statements) (env : Environment) (room : ℕ)
+      → setting.world.stages ≤ env.stage.count + room
       → IsBounded (FitsIn setting.world.stages) 0 room (execute_all setting ss env)
   bounded-execute_all setting Empty env room has = BoundReturn has
   bounded-execute_all setting (Then s ss) env room has =
@@ -260,7 +282,8 @@ bounded-run_iteration : (setting : Setting) (test : Expression) (body : Statemen
 bounded-run_iteration setting test body room has =
     frugal-then room (frugal-evaluate setting [] test) (λ v. BoundStep (bounded_by_zero v (BoundReturn tt)
     (bounded_if (int_eq (pos setting.world.iteration) setting.world.iterations) _ _ (λ last. BoundRaise traps.IterLimit)
-    (bounded_more (bounded-bind (bounded-execute_all setting body first_environment room has) (λ r env has2. BoundReturn tt)) 2 (omega arith)))))
+    (bounded_more (bounded-bind (bounded-execute_all setting body first_environment room has) (λ r env has2. BoundReturn tt)) 2
+    (omega arith)))))
 
 -- ---- the behaviour
 
@@ -271,16 +294,19 @@ work-with_budget (BoundRaise t) budget left allowed le = tt
 work-with_budget (BoundStep s) budget zero allowed le = tt
 work-with_budget (BoundStep s) budget (suc left) allowed le = work-with_budget s budget left allowed (omega (arith, le))
 work-with_budget (BoundGet c s) budget left zero le = absurd (omega (arith, le))
-work-with_budget (BoundGet c s) budget left (suc allowed) le = (allowed, refl, (λ v. work-with_budget (s v) budget left allowed (omega (arith, le))))
+work-with_budget (BoundGet c s) budget left (suc allowed) le =
+    (allowed, refl, (λ v. work-with_budget (s v) budget left allowed (omega (arith, le))))
 work-with_budget (BoundSet c v s) budget left zero le = absurd (omega (arith, le))
 work-with_budget (BoundSet c v s) budget left (suc allowed) le = (allowed, refl, work-with_budget s budget left allowed (omega (arith, le)))
-work-with_budget (BoundStage {credit} {room} k n s) budget left allowed le = (room, refl, work-with_budget s budget budget (2 * budget) (omega arith))
+work-with_budget (BoundStage {credit} {room} k n s) budget left allowed le =
+    (room, refl, work-with_budget s budget budget (2 * budget) (omega arith))
 
 pub programs_have_bounded_work : ProgramsHaveBoundedWork
 programs_have_bounded_work tree input i =
     let budget = natural tree.limits.steps in
     let stages = natural tree.limits.stages in
-    work-with_budget (bounded-run_iteration (setting_of tree input i) tree.test tree.body (stages - 1) (omega arith)) budget budget (2 * budget) (omega arith)
+    work-with_budget (bounded-run_iteration (setting_of tree input i) tree.test tree.body (stages - 1) (omega arith)) budget budget
+    (2 * budget) (omega arith)
 
 -- an iteration that always closes the loop has one instance
 closes_alone : (d : Behaviour) (each left more : ℕ) → AlwaysClosesLoop d → HasBoundedWork each left more d → HasBoundedWork each left 0 d
@@ -315,7 +341,8 @@ sum_before : (last stages each n : ℕ) → 1 ≤ stages → sum_below (λ i. (f
 sum_before last stages each zero one = omega arith
 sum_before last stages each (suc n) one =
     let rest = sum_before last stages each n one in
-    let this : (further last stages n + 1) * (each + 2) ≤ stages * (each + 2) = mul-le-mul_right (each + 2) (further_within last stages n one) in
+    let this : (further last stages n + 1) * (each + 2) ≤ stages * (each + 2) = mul-le-mul_right (each + 2)
+    (further_within last stages n one) in
     let m = suc-mul n (stages * (each + 2)) in
     omega (arith, rest, this, m)
 
@@ -332,7 +359,8 @@ sum_all last stages each n one le = elim (cases_lt last n) [
       rw all (omega (arith, rest, this, m, q)))
   | inr under ↦ (
       let rest = sum_before last stages each n one in
-      let small : n * (stages * (each + 2)) ≤ last * (stages * (each + 2)) = mul-le-mul_right {m = n} {n = last} (stages * (each + 2)) under in
+      let small : n * (stages * (each + 2)) ≤ last * (stages * (each + 2)) = mul-le-mul_right {m = n} {n = last}
+      (stages * (each + 2)) under in
       let m : last * (stages * (each + 2)) ≡ last * stages * (each + 2) = sym (mul_assoc last stages (each + 2)) in
       let q : (last * stages + 1) * (each + 2) ≡ last * stages * (each + 2) + (each + 2) = grind arith in
       omega (arith, rest, small, m, q))

@@ -1,5 +1,6 @@
 -- Candidates are allowed, an unfinished run has one, and at most `workers` instances run.
-use Rattle.std.proofs.Common.{◌≡◌, ◌≢◌, ◌∙◌, sym, ap, subst, refl, ℕ, zero, suc, List, [], ◌∷◌, ◌++◌, Bool, true, false, not, inl, inr, ◌⊎◌, ◌<◌, ◌≤◌, ◌+◌, length, nat_lt, Option, Some, None, arith, ◌||◌, if◌then◌else◌, append-nil, append_assoc}
+use Rattle.std.proofs.Common.{◌≡◌, ◌≢◌, ◌∙◌, sym, ap, subst, refl, ℕ, zero, suc, List, [], ◌∷◌, ◌++◌, Bool, true, false, not, inl, inr, ◌⊎◌}
+use Rattle.std.proofs.Common.{◌<◌, ◌≤◌, ◌+◌, length, nat_lt, Option, Some, None, arith, ◌||◌, if◌then◌else◌, append-nil, append_assoc}
 use Rattle.std.proofs.lemmas.Bool.{cases_lt, lt-ltb, ltb-true}
 use Rattle.std.proofs.lemmas.List.{same_from_push}
 use Rattle.pipe_model.proofs.Members.{none_among, only_one, among_left, among_right, among_either}
@@ -7,11 +8,13 @@ use Rattle.pipe_model.specs.declared.access.Access.{Access as Cell_access}
 use Rattle.pipe_model.specs.declared.event.Event.{Event}
 use Rattle.pipe_model.specs.declared.event.Event.TheVariants.{Begin, Access, Advance, Enter, Finish, Stop}
 use Rattle.pipe_model.specs.Runs.Allowed.{Allowed}
-use Rattle.pipe_model.specs.Pipelines.Behaviour.{Behaviour, Reading, Writing, Staging, Ending, Action, Accessed, Staged, Ended, behaviour_after_all}
+use Rattle.pipe_model.specs.Pipelines.Behaviour.{Behaviour, Reading, Writing, Staging, Ending, Action, Accessed, Staged, Ended}
+use Rattle.pipe_model.specs.Pipelines.Behaviour.{behaviour_after_all}
 use Rattle.pipe_model.specs.Pipelines.Pipeline.{Pipeline, IsWellFormed}
 use Rattle.pipe_model.specs.Races.DeterminacyRaces.{Among, Here}
 use Rattle.pipe_model.specs.Runs.Run.{Run, EmptyRun, RunThen, state_from}
-use Rattle.pipe_model.specs.Runs.State.{Frame, State, frame_at, update_frame, with_action, enter_pending, fresh_frame, initial_state, next_state, accesses_of}
+use Rattle.pipe_model.specs.Runs.State.{Frame, State, frame_at, update_frame, with_action, enter_pending, fresh_frame, initial_state}
+use Rattle.pipe_model.specs.Runs.State.{next_state, accesses_of}
 use Rattle.pipe_model.specs.declared.status.Status.{Status}
 use Rattle.pipe_model.specs.declared.status.Status.TheVariants.{Running, Pending, Completed}
 use Rattle.run_laws.proofs.LogMerge.LastElements.{LastOf, IsEmpty, HasLast, last_of_list}
@@ -19,7 +22,8 @@ use Rattle.run_laws.proofs.RunStates.FrameMoves.{enter_pending_is}
 use Rattle.run_laws.proofs.RunStates.FrontAndBack.{run_state_is}
 use Rattle.run_laws.proofs.RunStates.Progress.{run_legal, runs_never_stick}
 use Rattle.pipe_model.specs.Runs.NextEvents.{event_of_behaviour, event_if, event_of_status, event_of_frame, next_begin, may_enter}
-use Rattle.pipe_model.specs.Runs.Schedules.{running_of_status, running_in_frames, running_instances, starts_instance, if_room, candidates_from, candidates, PlayedRun, NoTurn, OneTurn}
+use Rattle.pipe_model.specs.Runs.Schedules.{running_of_status, running_in_frames, running_instances, starts_instance, if_room}
+use Rattle.pipe_model.specs.Runs.Schedules.{candidates_from, candidates, PlayedRun, NoTurn, OneTurn}
 use Rattle.program_laws.specs.ScheduleLaws.{CandidatesAreAllowed, RunsHaveCandidates, PlayedRunsAreRuns, IsNext}
 use Rattle.program_laws.proofs.AllowedEvents.{allowed_is_next, begin_is_allowed, event_is_allowed}
 
@@ -43,7 +47,8 @@ if_room_gives : (room : Bool) (o : Option Event) (e : Event) → Among e (if_roo
 if_room_gives room None e m = absurd (none_among e m)
 if_room_gives room (Some x) e m = by_test (room || not (starts_instance x)) refl m
   where
-    by_test : (b : Bool) → (room || not (starts_instance x)) ≡ b → Among e (if b then x ∷ [] else []) → (Some x ≡ Some e) × HasRoomFor room e
+    by_test : (b : Bool) → (room || not (starts_instance x)) ≡ b → Among e (if b then x ∷ [] else [])
+        → (Some x ≡ Some e) × HasRoomFor room e
     by_test true t m =
         let same : e ≡ x = only_one e x m in
         (ap (λ y. Some y) (sym same), subst (λ y. HasRoomFor room y) (sym same) (room_test room (starts_instance x) t))
@@ -65,26 +70,27 @@ record IsOfFrame (p : Pipeline) (s : State) (room : Bool) (i : ℕ) (fs : List F
 of_frame : (p : Pipeline) (s : State) (room : Bool) (i : ℕ) (fs : List Frame) (e : Event) → Among e (candidates_from p s room i fs)
     → IsOfFrame p s room i fs e
 of_frame p s room i [] e m = absurd (none_among e m)
-of_frame p s room i (f ∷ fs) e m = elim (among_either e (if_room room (event_of_status p s i f.status f.trace)) (candidates_from p s room (i + 1) fs) m) [
-  | inl here ↦ (
-      let h = if_room_gives room (event_of_status p s i f.status f.trace) e here in
-      record {
-        place = 0;
-        frame = f;
-        is = refl;
-        event = (let z : i + 0 ≡ i = omega arith in rw z h.0);
-        room_for = h.1;
-      })
-  | inr later ↦ (
-      let h = of_frame p s room (i + 1) fs e later in
-      record {
-        place = suc h.place;
-        frame = h.frame;
-        is = h.is;
-        event = (let z : i + suc h.place ≡ i + 1 + h.place = omega arith in rw z h.event);
-        room_for = h.room_for;
-      })
-]
+of_frame p s room i (f ∷ fs) e m = elim (among_either e (if_room room (event_of_status p s i f.status f.trace))
+    (candidates_from p s room (i + 1) fs) m) [
+      | inl here ↦ (
+          let h = if_room_gives room (event_of_status p s i f.status f.trace) e here in
+          record {
+            place = 0;
+            frame = f;
+            is = refl;
+            event = (let z : i + 0 ≡ i = omega arith in rw z h.0);
+            room_for = h.1;
+          })
+      | inr later ↦ (
+          let h = of_frame p s room (i + 1) fs e later in
+          record {
+            place = suc h.place;
+            frame = h.frame;
+            is = h.is;
+            event = (let z : i + suc h.place ≡ i + 1 + h.place = omega arith in rw z h.event);
+            room_for = h.room_for;
+          })
+    ]
 
 -- the next event of an iteration is a candidate if there is room for it
 among_frames : (p : Pipeline) (s : State) (room : Bool) (i : ℕ) (fs : List Frame) (k : ℕ) (f : Frame) (e : Event) → frame_at fs k ≡ Some f
@@ -127,7 +133,8 @@ pub record IsGood (p : Pipeline) (limit workers : ℕ) (s : State) (e : Event) :
   pub no_stop : e ≢ Stop
   pub room_for : HasRoomFor (nat_lt (running_instances s) workers) e
 
-pub candidate_is_good : (p : Pipeline) (limit workers : ℕ) (events : List Event) (s : State) (e : Event) → Run p limit events s → IsWellFormed p
+pub candidate_is_good : (p : Pipeline) (limit workers : ℕ) (events : List Event) (s : State) (e : Event) → Run p limit events s
+    → IsWellFormed p
     → s.stopped ≡ false → Among e (candidates p limit workers s) → IsGood p limit workers s e
 candidate_is_good p limit workers events s e r well going m =
     let room = nat_lt (running_instances s) workers in
@@ -170,20 +177,23 @@ running_place (f ∷ fs) l = by_status f.status refl (λ m. running_place fs m)
     later : running_of_status f.status ≡ 0 → 0 < running_in_frames fs
     later z = omega (arith, l, z)
 
-    by_status : (w : Status) → f.status ≡ w → (0 < running_in_frames fs → (k : ℕ) × (g : Frame) × (frame_at fs k ≡ Some g) × (g.status ≡ Running))
+    by_status : (w : Status) → f.status ≡ w → (0 < running_in_frames fs → (k : ℕ) × (g : Frame) × (frame_at fs k ≡ Some g)
+        × (g.status ≡ Running))
         → (k : ℕ) × (g : Frame) × (frame_at (f ∷ fs) k ≡ Some g) × (g.status ≡ Running)
     by_status Running e again = (0, f, refl, e)
     by_status (Pending k n) e again = let h = again (later (ap running_of_status e)) in (suc h.0, h.1, h.2, h.3)
     by_status (Completed d) e again = let h = again (later (ap running_of_status e)) in (suc h.0, h.1, h.2, h.3)
 
-offered_starts_none : (p : Pipeline) (before : List Cell_access) (i : ℕ) (d : Behaviour) → starts_instance (event_of_behaviour p before i d) ≡ false
+offered_starts_none : (p : Pipeline) (before : List Cell_access) (i : ℕ) (d : Behaviour) → starts_instance
+    (event_of_behaviour p before i d) ≡ false
 offered_starts_none p before i (Reading c go) = refl
 offered_starts_none p before i (Writing c v d) = refl
 offered_starts_none p before i (Staging k n d) = refl
 offered_starts_none p before i (Ending f) = refl
 
 -- the next event is a candidate if there is room
-next_is_candidate : (p : Pipeline) (limit workers : ℕ) (s : State) (e : Event) → nat_lt (running_instances s) workers ≡ true → IsNext p limit s e
+next_is_candidate : (p : Pipeline) (limit workers : ℕ) (s : State) (e : Event) → nat_lt (running_instances s) workers ≡ true
+    → IsNext p limit s e
     → Among e (candidates p limit workers s)
 next_is_candidate p limit workers s e room (inl n) = by_frame (frame_at s.frames n.0) refl n.1
   where
@@ -195,7 +205,8 @@ next_is_candidate p limit workers s e room (inl n) = by_frame (frame_at s.frames
         (if_room (nat_lt (running_instances s) workers) (next_begin limit s))
         (among_frames p s (nat_lt (running_instances s) workers) 0 s.frames n.0 f e is (rw z q) (inl room))
 next_is_candidate p limit workers s e room (inr b) =
-    among_right e (candidates_from p s (nat_lt (running_instances s) workers) 0 s.frames) (if_room (nat_lt (running_instances s) workers) (next_begin limit s))
+    among_right e (candidates_from p s (nat_lt (running_instances s) workers) 0 s.frames)
+    (if_room (nat_lt (running_instances s) workers) (next_begin limit s))
     (in_room (nat_lt (running_instances s) workers) (next_begin limit s) e b (inl room))
 
 pub runs_have_candidates : RunsHaveCandidates
@@ -209,7 +220,8 @@ runs_have_candidates p limit workers events s r well one busy going = elim (runs
         let d = behaviour_after_all (p.behaviour h.0) h.1.trace in
         let e = event_of_behaviour p (p.preamble ++ accesses_of s.accesses) h.0 d in
         let z : 0 + h.0 ≡ h.0 = omega arith in
-        let event : event_of_status p s (0 + h.0) h.1.status h.1.trace ≡ Some e = rw z (ap (λ w. event_of_status p s h.0 w h.1.trace) h.3) in
+        let event : event_of_status p s (0 + h.0) h.1.status h.1.trace ≡ Some e = rw z (ap (λ w. event_of_status p s h.0 w h.1.trace) h.3)
+        in
         among_length e (candidates p limit workers s)
         (among_left e (candidates_from p s (nat_lt (running_instances s) workers) 0 s.frames)
         (if_room (nat_lt (running_instances s) workers) (next_begin limit s))

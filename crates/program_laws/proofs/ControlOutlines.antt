@@ -1,5 +1,6 @@
 -- The control part depends on the outlines of the frames alone; stage counters.
-use Rattle.std.proofs.Common.{◌≡◌, ◌∙◌, sym, ap, subst, refl, ℕ, ℤ, List, [], ◌∷◌, ◌++◌, Bool, true, false, inl, inr, map, Some, arith, if◌then◌else◌, append-nil}
+use Rattle.std.proofs.Common.{◌≡◌, ◌∙◌, sym, ap, subst, refl, ℕ, ℤ, List, [], ◌∷◌, ◌++◌, Bool, true, false, inl, inr, map, Some, arith}
+use Rattle.std.proofs.Common.{if◌then◌else◌, append-nil}
 use Rattle.pipe_model.specs.declared.event.Event.{Event}
 use Rattle.pipe_model.specs.declared.event.Event.TheVariants.{Begin, Access, Advance, Enter, Finish, Stop}
 use Rattle.pipe_model.specs.declared.node.Node.{Node}
@@ -8,7 +9,8 @@ use Rattle.pipe_model.specs.Pipelines.Behaviour.{Accessed}
 use Rattle.pipe_model.specs.Runs.ControlRun.{EmptyControlRun, ControlRunThen, is_access}
 use Rattle.pipe_model.specs.Pipelines.Pipeline.{Pipeline}
 use Rattle.pipe_model.specs.Runs.Run.{EmptyRun, RunThen, IsFinished, state_from}
-use Rattle.pipe_model.specs.Runs.State.{Frame, State, frame_at, next_state, own_columns, initial_state, is_completed, update_frame, with_action}
+use Rattle.pipe_model.specs.Runs.State.{Frame, State, frame_at, next_state, own_columns, initial_state, is_completed, update_frame}
+use Rattle.pipe_model.specs.Runs.State.{with_action}
 use Rattle.pipe_model.specs.declared.status.Status.{Status}
 use Rattle.pipe_model.specs.declared.status.Status.TheVariants.{Running, Pending, Completed}
 use Rattle.run_laws.proofs.LogMerge.ControlPart.{SameControl, same_frame, control_same, after_same, access_same}
@@ -17,7 +19,8 @@ use Rattle.run_laws.proofs.RunStates.Frames.{frame_at_within}
 use Rattle.run_laws.proofs.RunStates.QuietEvents.{IsQuiet, advance_is_quiet, enter_is_quiet, finish_is_quiet}
 use Rattle.pipe_model.specs.Runs.ControlParts.{HaveSameControl, control_after, control_from, next_control, outlines_of, without_accesses}
 use Rattle.pipe_model.specs.Runs.StageCounters.{Passes, counter_of}
-use Rattle.program_laws.specs.ControlLaws.{ControlGoesByOutlines, AccessesChangeNoOutline, ControlSkipsAccesses, HasControlRun, RunsHaveControlRuns, GreaterLimitsAllow, CountersDecidePassing, CountersGrow}
+use Rattle.program_laws.specs.ControlLaws.{ControlGoesByOutlines, AccessesChangeNoOutline, ControlSkipsAccesses, HasControlRun}
+use Rattle.program_laws.specs.ControlLaws.{RunsHaveControlRuns, GreaterLimitsAllow, CountersDecidePassing, CountersGrow}
 
 to_same : (s t : State) → HaveSameControl s t → SameControl s t
 to_same s t h = record { frames = h.frames; stopped = h.stopped }
@@ -62,7 +65,8 @@ control_goes_by_outlines limit s t h = record {
 }
 
 pub accesses_change_no_outline : AccessesChangeNoOutline
-accesses_change_no_outline s i a r = of_same (next_state s (Access i a)) s (access_same s s i a (record { frames = refl; stopped = refl }) r)
+accesses_change_no_outline s i a r = of_same (next_state s (Access i a)) s
+    (access_same s s i a (record { frames = refl; stopped = refl }) r)
 
 -- ---- the fold
 
@@ -72,7 +76,8 @@ control_skips_accesses c (e ∷ es) = by_test (is_access e) refl (control_skips_
   where
     by_test : (b : Bool) → is_access e ≡ b → control_from c es ≡ state_from c (without_accesses es)
         → control_from (next_state c e) es ≡ state_from (next_state c e) (without_accesses es)
-        → control_from (if is_access e then c else next_state c e) es ≡ state_from c (if is_access e then without_accesses es else e ∷ without_accesses es)
+        → control_from (if is_access e then c else next_state c e) es ≡ state_from c
+        (if is_access e then without_accesses es else e ∷ without_accesses es)
     by_test true t skip keep = rw t skip
     by_test false t skip keep = rw t keep
 
@@ -80,7 +85,8 @@ control_from-push : (c : State) (es : List Event) (e : Event) → control_from c
 control_from-push c [] e = refl
 control_from-push c (x ∷ es) e = control_from-push (next_control c x) es e
 
-without_accesses-push : (es : List Event) (e : Event) → without_accesses (es ++ e ∷ []) ≡ without_accesses es ++ (if is_access e then [] else e ∷ [])
+without_accesses-push : (es : List Event) (e : Event) → without_accesses (es ++ e ∷ []) ≡ without_accesses es
+    ++ (if is_access e then [] else e ∷ [])
 without_accesses-push [] e = refl
 without_accesses-push (x ∷ es) e = by_test (is_access x) refl (without_accesses-push es e)
   where
@@ -91,7 +97,8 @@ without_accesses-push (x ∷ es) e = by_test (is_access x) refl (without_accesse
     by_test false t h = rw t (ap (λ l. x ∷ l) h)
 
 -- one more event, which may be an access
-control_after_one : (p : Pipeline) (limit : ℕ) (events : List Event) (s : State) (e : Event) → Allowed p limit s e → HasControlRun limit events s
+control_after_one : (p : Pipeline) (limit : ℕ) (events : List Event) (s : State) (e : Event) → Allowed p limit s e
+    → HasControlRun limit events s
     → (b : Bool) → is_access e ≡ b → HasControlRun limit (events ++ e ∷ []) (next_state s e)
 control_after_one p limit events s (Access i a) h k true t =
     let log : without_accesses (events ++ Access i a ∷ []) ≡ without_accesses events = without_accesses-push events (Access i a)
@@ -161,7 +168,8 @@ grows_moved fs i j f u g v is m before after n h = elim (frame_at_moved fs i j u
   | inl here ↦ (
       let was : frame_at fs i ≡ Some f = subst (λ k. frame_at fs k ≡ Some f) here.0 before in
       let same : u ≡ f = cc in
-      let old : HasPassed u.status u.nodes n = subst (λ (x : Frame). HasPassed x.status x.nodes n) (sym same) (counter_passes f.status f.nodes n h) in
+      let old : HasPassed u.status u.nodes n = subst (λ (x : Frame). HasPassed x.status x.nodes n) (sym same)
+      (counter_passes f.status f.nodes n h) in
       passes_counter g.status g.nodes n (subst (λ (x : Frame). HasPassed x.status x.nodes n) (sym here.1) (m.passes n old)))
   | inr there ↦ (
       let is2 = there.1 in
@@ -183,7 +191,8 @@ counters_grow limit s (Begin i) j f g a before after n h = elim (frame_at_begun 
       subst (λ (x : Frame). Passes (counter_of x.status x.nodes) n) same h)
 ]
 counters_grow limit s (Access i x) j f g a before after n h =
-    grows_moved s.frames i j f a.frame g (with_action (Accessed x) Running) a.is (moves_running s.frames i a.frame (Accessed x) a.runs) before after n h
+    grows_moved s.frames i j f a.frame g (with_action (Accessed x) Running) a.is (moves_running s.frames i a.frame (Accessed x) a.runs)
+    before after n h
 counters_grow limit s (Advance i k m) j f g a before after n h =
     grows_quiet s (next_state s (Advance i k m)).frames (advance_is_quiet s i k m a) j f g before after n h
 counters_grow limit s (Enter i) j f g a before after n h =

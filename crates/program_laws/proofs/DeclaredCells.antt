@@ -1,5 +1,6 @@
 -- Programs access their own cells only: tree by tree, and then event by event.
-use Rattle.std.proofs.Common.{◌≡◌, ap, refl, subst, sym, ℕ, zero, suc, ℤ, pos, negsuc, Bool, true, false, All, List, [], ◌∷◌, ◌++◌, Option, Some, None, if◌then◌else◌, nat_lt, ◌<◌, ◌≤◌, ◌+◌, ◌==◌, arith, length}
+use Rattle.std.proofs.Common.{◌≡◌, ap, refl, subst, sym, ℕ, zero, suc, ℤ, pos, negsuc, Bool, true, false, All, List, [], ◌∷◌, ◌++◌, Option}
+use Rattle.std.proofs.Common.{Some, None, if◌then◌else◌, nat_lt, ◌<◌, ◌≤◌, ◌+◌, ◌==◌, arith, length}
 use Rattle.std.proofs.lemmas.Bool.{ltb-true}
 use Rattle.std.proofs.lemmas.List.Elements.{All-cons, All-nil, All-push}
 use Rattle.std.proofs.Math.IntN.{◌-ℤ◌, ◌*ℤ◌, neg_ℤ}
@@ -15,16 +16,24 @@ use Rattle.pipe_model.specs.declared.trap.Trap.{Trap}
 use Rattle.pipe_model.specs.declared.trap.Trap.TheVariants as traps
 use Rattle.pipe_model.specs.declared.tree.Declaration.{Declaration}
 use Rattle.pipe_model.specs.declared.tree.StageKind.{StageKind}
-use Rattle.pipe_model.specs.Language.CheckingRules.{BreaksNoRule, CheckingRule, breaks, broken_at, cell_total, first_broken, first_fault, first_limit_out, rules_in_order}
-use Rattle.pipe_model.specs.Language.Evaluation.{CellRange, Environment, Local, Setting, StagePosition, assign, divided, element_of, emit, evaluate, execute, execute_all, first_environment, fitting, go_to_next_stage, go_to_stage, if_zero, is_i64, leave_block, local_value, loop_turns, named_value, operate, operate_one, run_iteration, take_at}
+use Rattle.pipe_model.specs.Language.CheckingRules.{BreaksNoRule, CheckingRule, breaks, broken_at, cell_total, first_broken, first_fault}
+use Rattle.pipe_model.specs.Language.CheckingRules.{first_limit_out, rules_in_order}
+use Rattle.pipe_model.specs.Language.Evaluation.{CellRange, Environment, Local, Setting, StagePosition, assign, divided, element_of, emit}
+use Rattle.pipe_model.specs.Language.Evaluation.{evaluate, execute, execute_all, first_environment, fitting, go_to_next_stage, go_to_stage}
+use Rattle.pipe_model.specs.Language.Evaluation.{if_zero, is_i64, leave_block, local_value, loop_turns, named_value, operate, operate_one}
+use Rattle.pipe_model.specs.Language.Evaluation.{run_iteration, take_at}
 use Rattle.pipe_model.specs.Language.Interaction.{Get, Interaction, Raise, Return, Set, Stage, Step, bind, with_budget}
-use Rattle.pipe_model.specs.Language.Marks.{DeclaredCell, Mark, mark_at, marks_of, marks_of_cells, marks_of_expression, marks_of_statements, opening}
+use Rattle.pipe_model.specs.Language.Marks.{DeclaredCell, Mark, mark_at, marks_of, marks_of_cells, marks_of_expression, marks_of_statements}
+use Rattle.pipe_model.specs.Language.Marks.{opening}
 use Rattle.pipe_model.specs.declared.region.Region.TheVariants as regions
 use Rattle.pipe_model.specs.Language.Programs.{declared_size, natural, pipeline_of, range_of, setting_of}
 use Rattle.pipe_model.specs.Language.ProgramsOfTrees.{pipeline_after_init, whole_of}
 use Rattle.pipe_model.specs.Language.SyntaxTree as syntax
-use Rattle.pipe_model.specs.Language.SyntaxTree.{And, Assign, AssignElement, Binary, Element, Emit, Empty, Expression, If, Iter, Let, More, Name, NextStage, Number, Or, Statement, Statements, SyntaxTree, Take, Then, Unary, While, kind_of_stage}
-use Rattle.pipe_model.specs.Pipelines.Behaviour.{Accessed, Action, Behaviour, Ended, Ending, Offers, Performs, Reading, Staged, Staging, Writing, accesses_in, behaviour_after, behaviour_after_all, read_access, write_access}
+use Rattle.pipe_model.specs.Language.SyntaxTree.{And, Assign, AssignElement, Binary, Element, Emit, Empty, Expression, If, Iter, Let, More}
+use Rattle.pipe_model.specs.Language.SyntaxTree.{Name, NextStage, Number, Or, Statement, Statements, SyntaxTree, Take, Then, Unary, While}
+use Rattle.pipe_model.specs.Language.SyntaxTree.{kind_of_stage}
+use Rattle.pipe_model.specs.Pipelines.Behaviour.{Accessed, Action, Behaviour, Ended, Ending, Offers, Performs, Reading, Staged, Staging}
+use Rattle.pipe_model.specs.Pipelines.Behaviour.{Writing, accesses_in, behaviour_after, behaviour_after_all, read_access, write_access}
 use Rattle.pipe_model.specs.Pipelines.Pipeline.{Pipeline}
 use Rattle.pipe_model.specs.Pipelines.SerialElision.{serial_trace}
 use Rattle.pipe_model.specs.Pipelines.Store.{InitialStore, value_after}
@@ -32,7 +41,8 @@ use Rattle.pipe_model.specs.Runs.Allowed.{ProgramAllows}
 use Rattle.pipe_model.specs.Runs.Run.{EmptyRun, Run, RunThen}
 use Rattle.pipe_model.specs.Runs.State.{State, frame_at, trace_in}
 use Rattle.program_laws.proofs.OneInstance.{AreUnbroken, rest_is_none, unbroken, unbroken_left}
-use Rattle.program_laws.specs.DeclaredCells.{AccessesBelow, ActionsAccessBelow, InitAccessesItsCells, IsBelow, IsInside, PartsAccessBelow, ProgramRunsAccessTheirCells, ProgramsAccessTheirCells, RunsAccessBelow, cell_count}
+use Rattle.program_laws.specs.DeclaredCells.{AccessesBelow, ActionsAccessBelow, InitAccessesItsCells, IsBelow, IsInside, PartsAccessBelow}
+use Rattle.program_laws.specs.DeclaredCells.{ProgramRunsAccessTheirCells, ProgramsAccessTheirCells, RunsAccessBelow, cell_count}
 
 -- ---- trees
 
@@ -45,7 +55,8 @@ data IsTreeBelow {A : Type 0} (cells : ℕ) : Interaction A → Type 0 where
   Sets : {d : Interaction A} (c : ℕ) (v : ℤ) → c < cells → IsTreeBelow cells d → IsTreeBelow cells (Set c v d)
   Names : {d : Interaction A} (k : Kind) (n : ℤ) → IsTreeBelow cells d → IsTreeBelow cells (Stage k n d)
 
-below-bind : {A B : Type 0} {cells : ℕ} {d : Interaction A} {f : A → Interaction B} → IsTreeBelow cells d → ((a : A) → IsTreeBelow cells (f a))
+below-bind : {A B : Type 0} {cells : ℕ} {d : Interaction A} {f : A → Interaction B} → IsTreeBelow cells d
+    → ((a : A) → IsTreeBelow cells (f a))
     → IsTreeBelow cells (bind d f)
 below-bind (Returns a) h = h a
 below-bind (Raises t) h = Raises t
@@ -54,11 +65,13 @@ below-bind (Gets c l s) h = Gets c l (λ v. below-bind (s v) h)
 below-bind (Sets c v l s) h = Sets c v l (below-bind s h)
 below-bind (Names k n s) h = Names k n (below-bind s h)
 
-below_if : {A : Type 0} {cells : ℕ} (b : Bool) (x y : Interaction A) → IsTreeBelow cells x → IsTreeBelow cells y → IsTreeBelow cells (if b then x else y)
+below_if : {A : Type 0} {cells : ℕ} (b : Bool) (x y : Interaction A) → IsTreeBelow cells x → IsTreeBelow cells y
+    → IsTreeBelow cells (if b then x else y)
 below_if true x y s t = s
 below_if false x y s t = t
 
-below_by_zero : {A : Type 0} {cells : ℕ} (v : ℤ) (x y : Interaction A) → IsTreeBelow cells x → IsTreeBelow cells y → IsTreeBelow cells (if_zero v x y)
+below_by_zero : {A : Type 0} {cells : ℕ} (v : ℤ) (x y : Interaction A) → IsTreeBelow cells x → IsTreeBelow cells y
+    → IsTreeBelow cells (if_zero v x y)
 below_by_zero (pos zero) x y s t = s
 below_by_zero (pos (suc n)) x y s t = t
 below_by_zero (negsuc n) x y s t = t
@@ -78,7 +91,8 @@ below-operate code a b =
     (below_if (code == 13) _ _ (below-divided a b (int_rem a b)) (Returns _)))))))))))
 
 below-operate_one : {cells : ℕ} (code : ℕ) (a : ℤ) → IsTreeBelow cells (operate_one code a)
-below-operate_one code a = below_if (code == 1) _ _ (below-fitting (neg_ℤ a)) (below_if (code == 2) _ _ (Returns (if_zero a (pos 1) (pos 0))) (Returns _))
+below-operate_one code a = below_if (code == 1) _ _ (below-fitting (neg_ℤ a))
+    (below_if (code == 2) _ _ (Returns (if_zero a (pos 1) (pos 0))) (Returns _))
 
 -- ---- the cells of a name
 
@@ -95,7 +109,8 @@ record HasCells (cells : ℕ) (setting : Setting) : Type 0 where
 below-named_value : {cells : ℕ} (o : Option ℤ) (range : Option CellRange) → ((r : CellRange) → range ≡ Some r → IsRangeBelow cells r)
     → IsTreeBelow cells (named_value o range)
 below-named_value (Some v) range h = Returns v
-below-named_value None (Some range) h = let r = h range refl in let s = r.some in let i = r.inside in Gets _ (omega (arith, s, i)) (λ v. Returns v)
+below-named_value None (Some range) h = let r = h range refl in let s = r.some in let i = r.inside in
+    Gets _ (omega (arith, s, i)) (λ v. Returns v)
 below-named_value None None h = Raises _
 
 below_in : {B : Type 0} {cells : ℕ} (b : Bool) (c : ℕ) (t : Trap) (f : ℕ → Interaction B) → (b ≡ true → c < cells)
@@ -117,7 +132,8 @@ below-take_at : {cells : ℕ} (input : List ℤ) (cursor : ℤ) → 2 ≤ cells 
 below-take_at input (pos n) two = below_if (nat_lt n (length input)) _ _ (Sets 0 _ (omega (arith, two)) (Returns _)) (Raises _)
 below-take_at input (negsuc n) two = Raises _
 
-below-evaluate : {cells : ℕ} (setting : Setting) (locals : List Local) (e : Expression) → HasCells cells setting → IsTreeBelow cells (evaluate setting locals e)
+below-evaluate : {cells : ℕ} (setting : Setting) (locals : List Local) (e : Expression) → HasCells cells setting
+    → IsTreeBelow cells (evaluate setting locals e)
 below-evaluate setting locals (Number n) h = Steps (Returns n)
 below-evaluate setting locals (Name x) h = Steps (below-named_value (local_value locals x) (setting.cells x) (h.ranges x))
 below-evaluate setting locals (Element x i) h =
@@ -130,7 +146,8 @@ below-evaluate setting locals (Or a b) h =
     below-bind (below-evaluate setting locals a h) (λ x. Steps
     (below_by_zero x _ _ (below-bind (below-evaluate setting locals b h) (λ y. Returns _)) (Returns _)))
 below-evaluate setting locals (Binary code a b) h =
-    below-bind (below-evaluate setting locals a h) (λ x. below-bind (below-evaluate setting locals b h) (λ y. Steps (below-operate code x y)))
+    below-bind (below-evaluate setting locals a h) (λ x. below-bind (below-evaluate setting locals b h)
+    (λ y. Steps (below-operate code x y)))
 below-evaluate setting locals (Unary code a) h = below-bind (below-evaluate setting locals a h) (λ x. Steps (below-operate_one code x))
 below-evaluate setting locals More h = let two = h.two in Steps (Gets 0 (omega (arith, two)) (λ v. Returns _))
 below-evaluate setting locals Take h = let two = h.two in Steps (Gets 0 (omega (arith, two)) (λ v. below-take_at setting.world.input v two))
@@ -141,18 +158,21 @@ below-evaluate setting locals Iter h = Steps (Returns _)
 below-assign : {cells : ℕ} (env : Environment) (o : Option ℤ) (range : Option CellRange) (x : List ℕ) (v : ℤ)
     → ((r : CellRange) → range ≡ Some r → IsRangeBelow cells r) → IsTreeBelow cells (assign env o range x v)
 below-assign env (Some old) range x v h = Returns _
-below-assign env None (Some range) x v h = let r = h range refl in let s = r.some in let i = r.inside in Sets _ _ (omega (arith, s, i)) (Returns _)
+below-assign env None (Some range) x v h = let r = h range refl in let s = r.some in let i = r.inside in
+    Sets _ _ (omega (arith, s, i)) (Returns _)
 below-assign env None None x v h = Raises _
 
 below-emit : {cells : ℕ} (limit : ℕ) (v : ℤ) → 2 ≤ cells → IsTreeBelow cells (emit limit v)
 below-emit limit v two =
     Gets 1 (omega (arith, two)) (λ count. below_if (int_eq count (pos limit)) _ _ (Raises _) (Sets 1 v (omega (arith, two)) (Returns tt)))
 
-below-go_to_stage : {cells : ℕ} (stages : ℕ) (kind : StageKind) (here : StagePosition) (n : ℤ) → IsTreeBelow cells (go_to_stage stages kind here n)
+below-go_to_stage : {cells : ℕ} (stages : ℕ) (kind : StageKind) (here : StagePosition) (n : ℤ)
+    → IsTreeBelow cells (go_to_stage stages kind here n)
 below-go_to_stage stages kind here n =
     below_if (int_lt here.number n) _ _ (below_if (nat_lt here.count stages) _ _ (Names _ n (Returns _)) (Raises _)) (Raises _)
 
-below-turns : {cells : ℕ} (turns : ℕ) (test : Environment → Interaction ℤ) (body : Environment → Interaction Environment) (env : Environment)
+below-turns : {cells : ℕ} (turns : ℕ) (test : Environment → Interaction ℤ) (body : Environment → Interaction Environment)
+    (env : Environment)
     → ((now : Environment) → IsTreeBelow cells (test now)) → ((now : Environment) → IsTreeBelow cells (body now))
     → IsTreeBelow cells (loop_turns turns test body env)
 below-turns zero test body env tests bodies = Raises _
@@ -161,7 +181,8 @@ below-turns (suc turns) test body env tests bodies =
     (below-bind (bodies env) (λ after. below-turns turns test body (leave_block env after) tests bodies))))
 
 mutual
-  below-execute : {cells : ℕ} (setting : Setting) (s : Statement) (env : Environment) → HasCells cells setting → IsTreeBelow cells (execute setting s env)
+  below-execute : {cells : ℕ} (setting : Setting) (s : Statement) (env : Environment) → HasCells cells setting
+      → IsTreeBelow cells (execute setting s env)
   below-execute setting (Let x e) env h = below-bind (below-evaluate setting env.locals e h) (λ v. Steps (Returns _))
   below-execute setting (Assign x e) env h =
       below-bind (below-evaluate setting env.locals e h) (λ v. Steps
@@ -170,7 +191,8 @@ mutual
       below-bind (below-evaluate setting env.locals i h) (λ j. below-bind (below-evaluate setting env.locals e h) (λ v. Steps
       (below-element_of (setting.cells x) j (λ cell. Set cell v (Return env)) (h.ranges x) (λ c l. Sets c v l (Returns env)))))
   below-execute setting (Emit e) env h =
-      below-bind (below-evaluate setting env.locals e h) (λ v. Steps (below-bind (below-emit setting.world.emits v h.two) (λ done. Returns env)))
+      below-bind (below-evaluate setting env.locals e h)
+      (λ v. Steps (below-bind (below-emit setting.world.emits v h.two) (λ done. Returns env)))
   below-execute setting (If e a b) env h =
       below-bind (below-evaluate setting env.locals e h) (λ v. Steps (below-bind
       (below_by_zero v _ _ (below-execute_all setting b env h) (below-execute_all setting a env h)) (λ after. Returns _)))
@@ -181,7 +203,8 @@ mutual
       below-bind (below-evaluate setting env.locals e h) (λ n. Steps
       (below-bind (below-go_to_stage setting.world.stages kind env.stage n) (λ stage. Returns _)))
   below-execute setting (NextStage kind) env h =
-      Steps (below-bind (below-bind (below-fitting (env.stage.number +ℤ pos 1)) (below-go_to_stage setting.world.stages kind env.stage)) (λ stage. Returns _))
+      Steps (below-bind (below-bind (below-fitting (env.stage.number +ℤ pos 1)) (below-go_to_stage setting.world.stages kind env.stage))
+      (λ stage. Returns _))
 
   below-execute_all : {cells : ℕ} (setting : Setting) (ss : Statements) (env : Environment) → HasCells cells setting
       → IsTreeBelow cells (execute_all setting ss env)
@@ -195,7 +218,8 @@ below-run_iteration setting test body h =
     (below_if (int_eq (pos setting.world.iteration) setting.world.iterations) _ _ (Raises _)
     (below-bind (below-execute_all setting body first_environment h) (λ env. Returns _)))))
 
-below-with_budget : {cells : ℕ} {d : Interaction ColumnEnd} (budget left : ℕ) → IsTreeBelow cells d → AccessesBelow cells (with_budget budget left d)
+below-with_budget : {cells : ℕ} {d : Interaction ColumnEnd} (budget left : ℕ) → IsTreeBelow cells d
+    → AccessesBelow cells (with_budget budget left d)
 below-with_budget budget left (Returns a) = tt
 below-with_budget budget left (Raises t) = tt
 below-with_budget budget zero (Steps s) = tt
@@ -216,7 +240,8 @@ abbrev BreaksNone : Mark → List CheckingRule → Type 0
 BreaksNone mark [] = Unit {0}
 BreaksNone mark (rule ∷ rules) = (breaks rule mark.scope mark.occurrence ≡ false) × BreaksNone mark rules
 
-not_first : (b : Bool) (rule : CheckingRule) (rest : Option CheckingRule) → (if b then Some rule else rest) ≡ None → (b ≡ false) × (rest ≡ None)
+not_first : (b : Bool) (rule : CheckingRule) (rest : Option CheckingRule) → (if b then Some rule else rest) ≡ None
+    → (b ≡ false) × (rest ≡ None)
 not_first true rule rest h = absurd (cc)
 not_first false rule rest h = (refl, h)
 
@@ -231,7 +256,8 @@ from_one zero h = absurd (let d : true ≡ false = h in cc (d))
 from_one (suc n) h = omega arith
 
 -- a declaration without cells breaks the last rule
-size_from_one : (before : List Declaration) (d : Declaration) → broken_at (mark_at (opening regions.Cells before) (DeclaredCell d.name d.size)) ≡ None
+size_from_one : (before : List Declaration) (d : Declaration)
+    → broken_at (mark_at (opening regions.Cells before) (DeclaredCell d.name d.size)) ≡ None
     → 1 ≤ declared_size d.size
 size_from_one before d h =
     let none = breaks_none (mark_at (opening regions.Cells before) (DeclaredCell d.name d.size)) rules_in_order h in
@@ -247,7 +273,8 @@ range_below : (next : ℕ) (ds : List Declaration) (x : List ℕ) (range : CellR
 range_below next [] x range h e = absurd (cc)
 range_below next (d ∷ ds) x range h e = by (bytes_eq d.name x) e (range_below (next + declared_size d.size) ds x range h.1)
   where
-    by : (b : Bool) → (if b then Some (record { first = next; size = declared_size d.size }) else range_of (next + declared_size d.size) ds x) ≡ Some range
+    by : (b : Bool) → (if b then Some (record { first = next; size = declared_size d.size }) else range_of
+        (next + declared_size d.size) ds x) ≡ Some range
         → (range_of (next + declared_size d.size) ds x ≡ Some range → IsRangeBelow (next + declared_size d.size + cell_total ds) range)
         → IsRangeBelow (next + (declared_size d.size + cell_total ds)) range
     by true e later =
@@ -265,7 +292,8 @@ has_cells tree input i a =
     let test = marks_of_expression (opening regions.Test tree.cells) tree.test in
     let body = marks_of_statements (opening regions.Body tree.cells) tree.body in
     let last = marks_of_statements (opening regions.Last tree.cells) tree.last in
-    let all : AreUnbroken (marks_of tree) = unbroken 0 (marks_of tree) (rest_is_none (first_limit_out tree.limits) (first_fault 0 (marks_of tree)) a.obeys) in
+    let all : AreUnbroken (marks_of tree) = unbroken 0 (marks_of tree)
+    (rest_is_none (first_limit_out tree.limits) (first_fault 0 (marks_of tree)) a.obeys) in
     let cells = unbroken_left (marks_of_cells [] tree.cells) (init ++ (test ++ (body ++ last))) all in
     record {
       two = omega arith;
@@ -278,9 +306,12 @@ has_cells tree input i a =
 pub programs_access_their_cells : ProgramsAccessTheirCells
 programs_access_their_cells tree input a =
     let budget = natural tree.limits.steps in record {
-      init = below-with_budget budget budget (below-bind (below-execute_all (setting_of tree input 0) tree.init first_environment (has_cells tree input 0 a)) (λ env. Returns _));
-      loop = λ i. below-with_budget budget budget (below-run_iteration (setting_of tree input i) tree.test tree.body (has_cells tree input i a));
-      last = below-with_budget budget budget (below-bind (below-execute_all (setting_of tree input 0) tree.last first_environment (has_cells tree input 0 a)) (λ env. Returns _));
+      init = below-with_budget budget budget (below-bind
+          (below-execute_all (setting_of tree input 0) tree.init first_environment (has_cells tree input 0 a)) (λ env. Returns _));
+      loop = λ i. below-with_budget budget budget (below-run_iteration (setting_of tree input i) tree.test tree.body
+          (has_cells tree input i a));
+      last = below-with_budget budget budget (below-bind
+          (below-execute_all (setting_of tree input 0) tree.last first_environment (has_cells tree input 0 a)) (λ env. Returns _));
     }
 
 -- ---- actions
@@ -293,7 +324,8 @@ below_after cells (Writing c v d) item h = h.1
 below_after cells (Staging k n d) item h = h
 below_after cells (Ending e) item h = h
 
-below_after_all : (cells : ℕ) (d : Behaviour) (items : List Action) → AccessesBelow cells d → AccessesBelow cells (behaviour_after_all d items)
+below_after_all : (cells : ℕ) (d : Behaviour) (items : List Action) → AccessesBelow cells d
+    → AccessesBelow cells (behaviour_after_all d items)
 below_after_all cells d [] h = h
 below_after_all cells d (item ∷ items) h = below_after_all cells (behaviour_after d item) items (below_after cells d item h)
 
@@ -331,7 +363,8 @@ serial_below store cells (Ending e) before h = All-nil (IsBelow cells)
 
 pub init_accesses_its_cells : InitAccessesItsCells
 init_accesses_its_cells tree input a =
-    serial_below (whole_of tree input).loop.store (cell_count tree) (whole_of tree input).init [] (programs_access_their_cells tree input a).init
+    serial_below (whole_of tree input).loop.store (cell_count tree) (whole_of tree input).init []
+    (programs_access_their_cells tree input a).init
 
 -- ---- runs
 

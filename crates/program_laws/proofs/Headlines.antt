@@ -43,9 +43,11 @@ some_report columns accesses r rs right free =
 headline_of : (w : WholeProgram) (limit : ℕ) (log : RunLog) (reports : List Report) (races : List ℕ) → IsFinishedProgramRun w limit log
     → AreRight (columns_after log.events) (accesses_after log.events) reports → MeetsElision w limit log
     → (trap : Option TrapAt) → run_trap w (state_after log.events) ≡ trap
-    → MeetsProgramHeadline w limit log reports races (exit_status reports trap) (printed_text reports races (run_output w (state_after log.events)) trap)
+    → MeetsProgramHeadline w limit log reports races (exit_status reports trap)
+    (printed_text reports races (run_output w (state_after log.events)) trap)
 headline_of w limit log (r ∷ rs) races run right m trap is =
-    let racy : HasNoProgramRace w → ⊥ = λ free. some_report (columns_after log.events) (accesses_after log.events) r rs right (m.races.1 free) in
+    let racy : HasNoProgramRace w → ⊥ = λ free. some_report (columns_after log.events) (accesses_after log.events) r rs right
+    (m.races.1 free) in
     record {
       run = run;
       reported = right;
@@ -61,7 +63,8 @@ headline_of w limit log [] races run right m None is =
     let own = no_report (columns_after log.events) (accesses_after log.events) right in
     let free = m.races.0 own in
     let none : program_trap w ≡ None = sym (m.trap own) ∙ is in
-    let text : output_lines (run_output w (state_after log.events)) ++ trap_lines None ≡ output_lines (program_output w) ++ trap_lines (program_trap w) =
+    let text : output_lines (run_output w (state_after log.events)) ++ trap_lines None ≡ output_lines (program_output w) ++ trap_lines
+    (program_trap w) =
     ap (λ o. output_lines o ++ trap_lines None) (m.output own) ∙ ap (λ t. output_lines (program_output w) ++ trap_lines t) (sym none) in
     record {
       run = run;
@@ -78,7 +81,8 @@ headline_of w limit log [] races run right m (Some t) is =
     let own = no_report (columns_after log.events) (accesses_after log.events) right in
     let free = m.races.0 own in
     let some : program_trap w ≡ Some t = sym (m.trap own) ∙ is in
-    let text : output_lines (run_output w (state_after log.events)) ++ trap_lines (Some t) ≡ output_lines (program_output w) ++ trap_lines (program_trap w) =
+    let text : output_lines (run_output w (state_after log.events)) ++ trap_lines (Some t) ≡ output_lines (program_output w) ++ trap_lines
+    (program_trap w) =
     ap (λ o. output_lines o ++ trap_lines (Some t)) (m.output own) ∙ ap (λ x. output_lines (program_output w) ++ trap_lines x) (sym some) in
     record {
       run = run;

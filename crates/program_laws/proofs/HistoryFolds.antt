@@ -33,7 +33,8 @@ found_from down right h (x ∷ xs) =
     ∙ either_of_found h.found h.count (check_access down right h.kept x.who x.kind)
     (found_race_from down right (suc h.count) (updated_history down right h.kept x.who x.kind) xs)
 
-count_from : (down right : NodeId → ℕ) (h : HistoryState) (xs : List NotedAccess) → (history_from down right h xs).count ≡ h.count + length xs
+count_from : (down right : NodeId → ℕ) (h : HistoryState) (xs : List NotedAccess) → (history_from down right h xs).count ≡ h.count + length
+    xs
 count_from down right h [] = omega arith
 count_from down right h (x ∷ xs) = let e = count_from down right (noted down right h x) xs in omega (arith, e)
 

@@ -1,5 +1,6 @@
 -- The number of instances of a run, stopped or not.
-use Rattle.std.proofs.Common.{◌≡◌, ◌∙◌, sym, ap, subst, refl, ℕ, zero, suc, List, [], ◌∷◌, ◌++◌, inl, inr, ◌≤◌, ◌+◌, ◌*◌, length, map, Some, arith, mul-le-mul_right}
+use Rattle.std.proofs.Common.{◌≡◌, ◌∙◌, sym, ap, subst, refl, ℕ, zero, suc, List, [], ◌∷◌, ◌++◌, inl, inr, ◌≤◌, ◌+◌, ◌*◌, length, map, Some}
+use Rattle.std.proofs.Common.{arith, mul-le-mul_right}
 use Rattle.std.proofs.Math.Nat.{suc-mul}
 use Rattle.std.proofs.lemmas.Bool.{cases_lt, eq-eqb}
 use Rattle.std.proofs.lemmas.List.{length-append, length_push}
@@ -7,12 +8,14 @@ use Rattle.pipe_model.specs.declared.event.Event.{Event}
 use Rattle.pipe_model.specs.declared.event.Event.TheVariants.{Begin, Access, Advance, Enter, Finish, Stop}
 use Rattle.pipe_model.specs.declared.node.Node.{Node}
 use Rattle.pipe_model.specs.Runs.Allowed.{Allowed}
-use Rattle.pipe_model.specs.Pipelines.Behaviour.{Behaviour, Reading, Writing, Staging, Ending, Action, Accessed, Staged, Ended, Performs, nodes_in, node_of}
+use Rattle.pipe_model.specs.Pipelines.Behaviour.{Behaviour, Reading, Writing, Staging, Ending, Action, Accessed, Staged, Ended, Performs}
+use Rattle.pipe_model.specs.Pipelines.Behaviour.{nodes_in, node_of}
 use Rattle.pipe_model.specs.Pipelines.Pipeline.{AlwaysClosesLoop, HasBoundedWork, Pipeline}
 use Rattle.pipe_model.specs.Language.Programs.{natural, pipeline_of}
 use Rattle.pipe_model.specs.Runs.Run.{Run, EmptyRun, RunThen}
 use Rattle.pipe_model.specs.Orders.Starts.{started_by, starts_of}
-use Rattle.pipe_model.specs.Runs.State.{Frame, State, enter_pending, frame_at, fresh_frame, next_state, own_columns, update_frame, with_action}
+use Rattle.pipe_model.specs.Runs.State.{Frame, State, enter_pending, frame_at, fresh_frame, next_state, own_columns, update_frame}
+use Rattle.pipe_model.specs.Runs.State.{with_action}
 use Rattle.pipe_model.specs.declared.status.Status.TheVariants.{Running, Pending, Completed}
 use Rattle.language_laws.proofs.WellFormed.{accepted_is_well_formed}
 use Rattle.run_laws.specs.RunLaws.{sum_below}
@@ -61,7 +64,8 @@ counted_after p limit s (Enter i) h =
     let c = h.control in
     let m = instances_updated s.frames i c.frame (λ f. enter_pending f.status f) c.is in
     let one : length (enter_pending c.frame.status c.frame).nodes ≡ length c.frame.nodes + 1 =
-    ap (λ (g : Frame). length g.nodes) (enter_pending_is c.frame c.kind c.number c.named) ∙ length_push c.frame.nodes (node_of c.kind c.number) in
+    ap (λ (g : Frame). length g.nodes) (enter_pending_is c.frame c.kind c.number c.named) ∙ length_push c.frame.nodes
+    (node_of c.kind c.number) in
     omega (arith, m, one)
 counted_after p limit s (Finish i e) h =
     let r = h.control.running in
@@ -80,7 +84,8 @@ starts_are_counted p limit events s (RunThen {events = es} {s = t} r e h) =
 -- ---- the instances of an iteration
 
 -- the actions of a bounded behaviour name at most `more` stages
-names_few : (each left more : ℕ) (d : Behaviour) (xs : List Action) → Performs d xs → HasBoundedWork each left more d → length (nodes_in xs) ≤ more
+names_few : (each left more : ℕ) (d : Behaviour) (xs : List Action) → Performs d xs → HasBoundedWork each left more d
+    → length (nodes_in xs) ≤ more
 names_few each left more d [] p b = omega arith
 names_few each left more (Reading c go) (Accessed a ∷ xs) p b = names_few each b.0 more (go a.value) xs p.1 (b.2 a.value)
 names_few each left more (Reading c go) (Staged k n ∷ xs) p b = absurd (let o = p.0 in let q = o.1 in cc)
@@ -99,7 +104,8 @@ names_few each left more (Ending e) (Staged k n ∷ xs) p b = absurd (let o = p.
 names_few each left more (Ending e) (Ended f ∷ xs) p b = names_few each left more (Ending e) xs p.1 b
 
 -- so an iteration has at most one instance more
-frame_is_small : (p : Pipeline) (each more i : ℕ) (f : Frame) → IsTraced p i f → HasBoundedWork each each more (p.behaviour i) → length f.nodes ≤ more + 1
+frame_is_small : (p : Pipeline) (each more i : ℕ) (f : Frame) → IsTraced p i f → HasBoundedWork each each more (p.behaviour i)
+    → length f.nodes ≤ more + 1
 frame_is_small p each more i f t b =
     let few = names_few each each more (p.behaviour i) f.trace t.performs b in
     let all : suc (length (nodes_in f.trace)) ≡ length f.nodes + length (pending_node f.status) =
@@ -143,7 +149,8 @@ count_all last stages n one le = elim (cases_lt last n) [
 ]
 
 -- no iteration follows the one that always closes the loop
-within_last : (p : Pipeline) (limit : ℕ) (events : List Event) (s : State) → Run p limit events s → AlwaysClosesLoop (p.behaviour p.last_iteration)
+within_last : (p : Pipeline) (limit : ℕ) (events : List Event) (s : State) → Run p limit events s
+    → AlwaysClosesLoop (p.behaviour p.last_iteration)
     → length s.frames ≤ p.last_iteration + 1
 within_last p limit events s r closing = elim (cases_lt (p.last_iteration + 1) (length s.frames)) [
   | inl more ↦ (

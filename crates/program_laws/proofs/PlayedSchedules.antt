@@ -1,5 +1,6 @@
 -- Schedules: a run is finished exactly if it has no candidate, and with enough turns every schedule finishes.
-use Rattle.std.proofs.Common.{◌≡◌, ◌≢◌, ◌∙◌, sym, ap, subst, refl, ℕ, ℤ, zero, suc, List, [], ◌∷◌, ◌++◌, inl, inr, ◌<◌, ◌≤◌, ◌+◌, ◌*◌, ◌%◌, length, Option, Some, None, arith, append-nil, append_assoc, get_or}
+use Rattle.std.proofs.Common.{◌≡◌, ◌≢◌, ◌∙◌, sym, ap, subst, refl, ℕ, ℤ, zero, suc, List, [], ◌∷◌, ◌++◌, inl, inr, ◌<◌, ◌≤◌, ◌+◌, ◌*◌, ◌%◌}
+use Rattle.std.proofs.Common.{length, Option, Some, None, arith, append-nil, append_assoc, get_or}
 use Rattle.std.proofs.lemmas.Bool.{cases_lt, false≢true}
 use Rattle.std.proofs.lemmas.List.{length_push}
 use Rattle.pipe_model.proofs.Members.{among_at}
@@ -35,7 +36,8 @@ closed_or_goes_on (Completed e) nodes s g =
     let one = s.1 in omega (arith, wide, one)
 
 -- after the end only a stop is allowed
-finished_allows_none : (p : Pipeline) (limit : ℕ) (events : List Event) (s : State) (e : Event) → Run p limit events s → IsFinished s → e ≢ Stop
+finished_allows_none : (p : Pipeline) (limit : ℕ) (events : List Event) (s : State) (e : Event) → Run p limit events s → IsFinished s
+    → e ≢ Stop
     → Allowed p limit s e → ⊥
 finished_allows_none p limit events s e r fin apart h = by_event e h apart
   where
@@ -48,7 +50,8 @@ finished_allows_none p limit events s e r fin apart h = by_event e h apart
         let within = frame_at_within s.frames shut.iteration shut.frame shut.is in
         let number = h.control.number in
         elim (cases_lt (shut.iteration + 1) (length s.frames)) [
-          | inl less ↦ closed_or_goes_on shut.frame.status shut.frame.nodes shut.closes ((run_consistent r).sound.goes shut.iteration shut.frame shut.is less)
+          | inl less ↦ closed_or_goes_on shut.frame.status shut.frame.nodes shut.closes
+              ((run_consistent r).sound.goes shut.iteration shut.frame shut.is less)
           | inr last ↦ closed_or_goes_on shut.frame.status shut.frame.nodes shut.closes
               (h.control.follows shut.iteration shut.frame (omega (arith, within, last, number)) shut.is)
         ]
@@ -97,7 +100,8 @@ record PlaysOn (p : Pipeline) (limit workers : ℕ) (events : List Event) (s : S
   most : length more ≤ turns
   ended : length more < turns → IsFinished (state_from s more)
 
-plays_on : (p : Pipeline) (limit workers : ℕ) (choices : List ℕ) (turns j : ℕ) (events : List Event) (s : State) → IsWellFormed p → 0 < limit → 0 < workers
+plays_on : (p : Pipeline) (limit workers : ℕ) (choices : List ℕ) (turns j : ℕ) (events : List Event) (s : State) → IsWellFormed p
+    → 0 < limit → 0 < workers
     → PlayedRun p limit workers events s → PlaysOn p limit workers events s turns (played_from p limit workers choices turns j s)
 plays_on p limit workers choices zero j events s well one busy r = record {
   run = rw append-nil r;
@@ -110,8 +114,10 @@ plays_on p limit workers choices (suc turns) j events s well one busy r =
   where
     by_choice : (o : Option Event) → chosen (choice_at choices j) (candidates p limit workers s) ≡ o
         → ((e : Event) → Among e (candidates p limit workers s)
-        → PlaysOn p limit workers (events ++ e ∷ []) (next_state s e) turns (played_from p limit workers choices turns (j + 1) (next_state s e)))
-        → PlaysOn p limit workers events s (suc turns) (after_choice o (λ e. played_from p limit workers choices turns (j + 1) (next_state s e)))
+        → PlaysOn p limit workers (events ++ e ∷ []) (next_state s e) turns
+        (played_from p limit workers choices turns (j + 1) (next_state s e)))
+        → PlaysOn p limit workers events s (suc turns) (after_choice o
+        (λ e. played_from p limit workers choices turns (j + 1) (next_state s e)))
     by_choice None q again =
         let k = played_runs_are_runs p limit workers events s r well in
         let none = none_is_chosen (choice_at choices j) (candidates p limit workers s) q in

@@ -1,5 +1,6 @@
 -- The serial elision of a program as a run, and accepted programs.
-use Rattle.std.proofs.Common.{◌≡◌, ◌∙◌, sym, ap, subst, refl, ℤ, List, [], ◌∷◌, ◌++◌, Bool, true, false, inl, inr, map, Option, Some, None, append-nil}
+use Rattle.std.proofs.Common.{◌≡◌, ◌∙◌, sym, ap, subst, refl, ℤ, List, [], ◌∷◌, ◌++◌, Bool, true, false, inl, inr, map, Option, Some, None}
+use Rattle.std.proofs.Common.{append-nil}
 use Rattle.std.specs.Prelude.{is_some}
 use Rattle.std.proofs.lemmas.Bool.{cases_Bool}
 use Rattle.pipe_model.specs.declared.event.Event.{Event}
@@ -11,7 +12,8 @@ use Rattle.pipe_model.specs.Language.Programs.{pipeline_of}
 use Rattle.pipe_model.specs.Races.DeterminacyRaces.{IsRaceFree}
 use Rattle.pipe_model.specs.Runs.Run.{Run, EmptyRun, IsFinished}
 use Rattle.pipe_model.specs.Runs.RunLogs.{accesses_after, column_of_frame, columns_after, ended_columns_after, state_after}
-use Rattle.pipe_model.specs.Pipelines.SerialElision.{located_from, serial_accesses, serial_events, serial_traces, unless, trace_events_from, serial_trace}
+use Rattle.pipe_model.specs.Pipelines.SerialElision.{located_from, serial_accesses, serial_events, serial_traces, unless, trace_events_from}
+use Rattle.pipe_model.specs.Pipelines.SerialElision.{serial_trace}
 use Rattle.pipe_model.specs.Runs.State.{State, initial_state, accesses_of}
 use Rattle.pipe_model.specs.Language.SyntaxTree.{Empty, Statements, SyntaxTree}
 use Rattle.pipe_model.specs.Runs.Throttling.{IsThrottled}
@@ -26,7 +28,8 @@ use Rattle.pipe_model.specs.Pipelines.Store.{output_of}
 use Rattle.pipe_model.specs.declared.trap.TrapAt.{TrapAt}
 use Rattle.pipe_model.specs.declared.trap.TrapPlace.TheVariants.{Last}
 use Rattle.program_laws.specs.ProgramRunLaws.{ProgramElisionIsARun, AcceptedProgramsMeetTheElision, NoInitNoAccesses, LoopsAlone}
-use Rattle.program_laws.proofs.ProgramRuns.{loop_traces_are, no_loop_traces, well_formed_after, race_free_program_runs_are_serial, program_races_are_those_of_the_elision}
+use Rattle.program_laws.proofs.ProgramRuns.{loop_traces_are, no_loop_traces, well_formed_after, race_free_program_runs_are_serial}
+use Rattle.program_laws.proofs.ProgramRuns.{program_races_are_those_of_the_elision}
 
 pub program_elision_is_a_run : ProgramElisionIsARun
 program_elision_is_a_run w limit well room = elim (cases_Bool (is_some (init_trap w))) [
@@ -48,7 +51,8 @@ program_elision_is_a_run w limit well room = elim (cases_Bool (is_some (init_tra
       let events : trace_events_from 0 (loop_traces w) ≡ serial_events p = ap (trace_events_from 0) same in
       let state : r.state ≡ state_after (trace_events_from 0 (loop_traces w)) = run_state_is r.run ∙ ap (λ l. state_after l) (sym events) in
       let run : Run p limit (trace_events_from 0 (loop_traces w)) (state_after (trace_events_from 0 (loop_traces w))) =
-      subst (λ l. Run p limit l (state_after (trace_events_from 0 (loop_traces w)))) (sym events) (subst (λ s. Run p limit (serial_events p) s) state r.run) in
+      subst (λ l. Run p limit l (state_after (trace_events_from 0 (loop_traces w)))) (sym events)
+      (subst (λ s. Run p limit (serial_events p) s) state r.run) in
       record {
         run = record {
           run = OfLoop free run;
@@ -119,5 +123,6 @@ bare_is_loop tree input =
 pub loops_alone : LoopsAlone
 loops_alone tree input e f =
     let same : tree ≡ bare tree =
-    ap (λ ss. (let q : SyntaxTree = record tree { init = ss } in q)) e ∙ ap (λ ss. (let q : SyntaxTree = record tree { init = Empty; last = ss } in q)) f in
+    ap (λ ss. (let q : SyntaxTree = record tree { init = ss } in q)) e
+    ∙ ap (λ ss. (let q : SyntaxTree = record tree { init = Empty; last = ss } in q)) f in
     subst (λ q. IsLoopAlone q input) (sym same) (bare_is_loop tree input)

@@ -5,7 +5,8 @@ use Rattle.std.proofs.lemmas.Bool.{false≢true}
 use Rattle.pipe_model.specs.declared.access.Access.{Access}
 use Rattle.pipe_model.specs.declared.column.Column.{Column}
 use Rattle.pipe_model.specs.declared.node.Node.{Node}
-use Rattle.pipe_model.specs.Pipelines.Behaviour.{Behaviour, Reading, Writing, Staging, Ending, Action, Accessed, Staged, read_access, write_access, accesses_in, column_of, trace_end}
+use Rattle.pipe_model.specs.Pipelines.Behaviour.{Behaviour, Reading, Writing, Staging, Ending, Action, Accessed, Staged, read_access}
+use Rattle.pipe_model.specs.Pipelines.Behaviour.{write_access, accesses_in, column_of, trace_end}
 use Rattle.pipe_model.specs.Pipelines.ElisionResults.{ended_column, first_of_both, first_trap}
 use Rattle.pipe_model.specs.declared.trap.TrapPlace.TheVariants.{Last}
 use Rattle.pipe_model.specs.Pipelines.Pipeline.{Pipeline, IsWellFormed}
@@ -21,9 +22,11 @@ use Rattle.run_laws.proofs.Elision.RaceFreeRuns.{race_free_runs_are_serial}
 use Rattle.run_laws.proofs.Iterations.CellWrites.{written-append}
 use Rattle.run_laws.proofs.Iterations.ElisionTraces.{unless_true, unless_false}
 use Rattle.run_laws.proofs.Iterations.TraceParts.{trace_end_is}
-use Rattle.pipe_model.specs.Pipelines.WholePrograms.{WholeProgram, init_accesses, init_trap, loop_after_init, loop_traces, loop_accesses, final_trace, output_with, trap_with, trap_before_final, part_trap}
+use Rattle.pipe_model.specs.Pipelines.WholePrograms.{WholeProgram, init_accesses, init_trap, loop_after_init, loop_traces, loop_accesses}
+use Rattle.pipe_model.specs.Pipelines.WholePrograms.{final_trace, output_with, trap_with, trap_before_final, part_trap}
 use Rattle.pipe_model.specs.Runs.WholeProgramRuns.{NoLoop, OfLoop, WithoutLoop, WithLoop, run_traces}
-use Rattle.program_laws.specs.ProgramRunLaws.{IsSerialProgram, RaceFreeProgramRunsAreSerial, ProgramRacesAreThoseOfTheElision, PlayedWhereFinalRan, RaceFreeRunsHaveOutcomes}
+use Rattle.program_laws.specs.ProgramRunLaws.{IsSerialProgram, RaceFreeProgramRunsAreSerial, ProgramRacesAreThoseOfTheElision}
+use Rattle.program_laws.specs.ProgramRunLaws.{PlayedWhereFinalRan, RaceFreeRunsHaveOutcomes}
 
 -- two lists of accesses that write the same to every cell
 abbrev pub WriteTheSame : List Access → List Access → Type 0

@@ -1,5 +1,6 @@
 -- Tickets that are in order along parents are in order along paths.
-use Rattle.std.proofs.Common.{◌≡◌, ◌∙◌, sym, subst, refl, ℕ, zero, suc, List, Bool, true, false, inl, inr, ◌<◌, ◌≤◌, ◌+◌, Some, arith, nat_lt}
+use Rattle.std.proofs.Common.{◌≡◌, ◌∙◌, sym, subst, refl, ℕ, zero, suc, List, Bool, true, false, inl, inr, ◌<◌, ◌≤◌, ◌+◌, Some, arith}
+use Rattle.std.proofs.Common.{nat_lt}
 use Rattle.std.proofs.lemmas.Bool.{cases_lt, lt-ltb}
 use Rattle.pipe_model.specs.declared.node.Node.{Node}
 use Rattle.pipe_model.specs.declared.node.NodeId.{NodeId}
@@ -46,7 +47,8 @@ module _ (columns : List (List Node)) (book : List BookEntry) (shards : ℕ → 
       record { start = start; end = r.0; starts = starts; ends = r.1; later = omega (arith, later, a) }
 
   -- an instance starts after the ends of the instances of the left column that precede it
-  left_ended : TicketsAreInOrder columns book shards made → (i k start : ℕ) → start_ticket_of book (suc i) k ≡ Some start → (j : ℕ) → j ≤ joined_at columns i k
+  left_ended : TicketsAreInOrder columns book shards made → (i k start : ℕ) → start_ticket_of book (suc i) k ≡ Some start → (j : ℕ)
+      → j ≤ joined_at columns i k
       → StartsAfterEnd book i j (suc i) k
   left_ended h i zero start is j le =
       let u = h.instances.left i 0 0 start refl is in
@@ -95,7 +97,8 @@ module _ (columns : List (List Node)) (book : List BookEntry) (shards : ℕ → 
       let n : i + 1 ≡ suc i = omega arith in
       let within : j ≤ reach columns (i + 1) k i = b.within (omega arith) in
       let near : j ≤ reach columns (suc i) k i = subst (λ m. j ≤ reach columns m k i) n within in
-      let r : reach columns (suc i) k i ≡ joined_at columns i k = reach_left columns i k i (omega arith) ∙ reach_here columns i (joined_at columns i k) in
+      let r : reach columns (suc i) k i ≡ joined_at columns i k = reach_left columns i k i (omega arith)
+      ∙ reach_here columns i (joined_at columns i k) in
       subst (λ m. StartsAfterEnd book i j m k) (sym n)
       (left_ended h i k start (subst (λ m. start_ticket_of book m k ≡ Some start) n is) j (omega (arith, near, r)))
 

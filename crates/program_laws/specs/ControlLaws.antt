@@ -39,7 +39,8 @@ abbrev pub RunsHaveControlRuns : Type 0
 RunsHaveControlRuns = (p : Pipeline) (limit : ℕ) (events : List Event) (s : State) → Run p limit events s → HasControlRun limit events s
 
 abbrev pub GreaterLimitsAllow : Type 0
-GreaterLimitsAllow = (limit more : ℕ) (events : List Event) (c : State) → limit ≤ more → ControlRun limit events c → ControlRun more events c
+GreaterLimitsAllow = (limit more : ℕ) (events : List Event) (c : State) → limit ≤ more → ControlRun limit events c
+    → ControlRun more events c
 
 -- an iteration has passed a number exactly if its counter passes it
 abbrev pub CountersDecidePassing : Type 0

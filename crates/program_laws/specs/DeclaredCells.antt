@@ -32,7 +32,8 @@ pub record PartsAccessBelow (cells : ℕ) (w : WholeProgram) : Type 0 where
 
 -- each part of a program that breaks no rule accesses the program's cells only
 abbrev pub ProgramsAccessTheirCells : Type 0
-ProgramsAccessTheirCells = (tree : SyntaxTree) (input : List ℤ) → BreaksNoRule tree → PartsAccessBelow (cell_count tree) (whole_of tree input)
+ProgramsAccessTheirCells = (tree : SyntaxTree) (input : List ℤ) → BreaksNoRule tree → PartsAccessBelow (cell_count tree)
+    (whole_of tree input)
 
 -- the access is to one of the first `cells` cells
 abbrev pub IsBelow : ℕ → CellAccess → Type 0
@@ -50,16 +51,19 @@ IsInside cells Stop = Unit {0}
 -- what such a behaviour performs accesses these cells only
 abbrev pub ActionsAccessBelow : Type 0
 ActionsAccessBelow =
-    (cells : ℕ) (d : Behaviour) (actions : List Action) → AccessesBelow cells d → Performs d actions → All (IsBelow cells) (accesses_in actions)
+    (cells : ℕ) (d : Behaviour) (actions : List Action) → AccessesBelow cells d → Performs d actions
+    → All (IsBelow cells) (accesses_in actions)
 
 -- the accesses of `init` are to the program's cells
 abbrev pub InitAccessesItsCells : Type 0
-InitAccessesItsCells = (tree : SyntaxTree) (input : List ℤ) → BreaksNoRule tree → All (IsBelow (cell_count tree)) (init_accesses (whole_of tree input))
+InitAccessesItsCells = (tree : SyntaxTree) (input : List ℤ) → BreaksNoRule tree → All (IsBelow (cell_count tree))
+    (init_accesses (whole_of tree input))
 
 -- the accesses of a run are to the cells that its iterations access
 abbrev pub RunsAccessBelow : Type 0
 RunsAccessBelow =
-    (p : Pipeline) (limit cells : ℕ) (events : List Event) (s : State) → ((i : ℕ) → AccessesBelow cells (p.behaviour i)) → Run p limit events s
+    (p : Pipeline) (limit cells : ℕ) (events : List Event) (s : State) → ((i : ℕ) → AccessesBelow cells (p.behaviour i))
+    → Run p limit events s
     → All (IsInside cells) events
 
 -- the accesses of a run of a program that breaks no rule are to the program's cells

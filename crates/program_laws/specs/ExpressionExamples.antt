@@ -2,9 +2,12 @@
 use Rattle.std.specs.Prelude.{ℤ, pos, negsuc, List, [], ◌∷◌, Some, None}
 use Rattle.pipe_model.specs.declared.trap.Trap.{Trap}
 use Rattle.pipe_model.specs.declared.trap.Trap.TheVariants as traps
-use Rattle.pipe_model.specs.Language.SyntaxTree.{Expression, Name, Element, And, Or, More, Take, Iter, Let, Assign, AssignElement, Emit, Empty, Then, SyntaxTree}
+use Rattle.pipe_model.specs.Language.SyntaxTree.{Expression, Name, Element, And, Or, More, Take, Iter, Let, Assign, AssignElement, Emit}
+use Rattle.pipe_model.specs.Language.SyntaxTree.{Empty, Then, SyntaxTree}
 use Rattle.language_laws.specs.LanguageExamples.{n, t, plus, less, plain_cell, trap_at}
-use Rattle.program_laws.specs.ExampleParts.{HasOutputAndTrap, a, at_least, at_most, computing, count_up, difference, emit_all, equal, failing, greater_than, limits_of, negation, negative, number, product, quotient, remainder, trap_in_final, unequal}
+use Rattle.program_laws.specs.ExampleParts.{HasOutputAndTrap, a, at_least, at_most, computing, count_up, difference, emit_all, equal}
+use Rattle.program_laws.specs.ExampleParts.{failing, greater_than, limits_of, negation, negative, number, product, quotient, remainder}
+use Rattle.program_laws.specs.ExampleParts.{trap_in_final, unequal}
 
 -- `final` emits the values
 abbrev pub Emits : List Expression → List ℤ → Type 0
@@ -41,7 +44,8 @@ abbrev pub ComparisonsCompute : Type 0
 ComparisonsCompute =
     Emits (equal (number 2) (number 2) ∷ equal (number 2) (number 3) ∷ unequal (number 2) (number 3) ∷ unequal (number 2) (number 2) ∷ [])
     (pos 1 ∷ pos 0 ∷ pos 1 ∷ pos 0 ∷ [])
-    × Emits (less (negative (number 1)) (number 0) ∷ less (number 3) (number 3) ∷ at_most (number 3) (number 3) ∷ at_most (number 3) (number 2)
+    × Emits (less (negative (number 1)) (number 0) ∷ less (number 3) (number 3) ∷ at_most (number 3) (number 3) ∷ at_most (number 3)
+    (number 2)
     ∷ []) (pos 1 ∷ pos 0 ∷ pos 1 ∷ pos 0 ∷ [])
     × Emits (greater_than (number 3) (number 2) ∷ greater_than (number 3) (number 3) ∷ at_least (number 3) (number 3) ∷ at_least
     (negative (number 3)) (number 3) ∷ [])
@@ -52,7 +56,8 @@ abbrev pub ArithmeticComputes : Type 0
 ArithmeticComputes =
     Emits (plus (number 2) (negative (number 5)) ∷ difference (number 2) (number 5) ∷ product (negative (number 2)) (number 3) ∷ [])
     (negsuc 2 ∷ negsuc 2 ∷ negsuc 5 ∷ [])
-    × Emits (quotient (negative (number 7)) (number 2) ∷ remainder (negative (number 7)) (number 2) ∷ quotient (number 7) (negative (number 2))
+    × Emits (quotient (negative (number 7)) (number 2) ∷ remainder (negative (number 7)) (number 2) ∷ quotient (number 7)
+    (negative (number 2))
     ∷ remainder (number 7) (negative (number 2)) ∷ [])
     (negsuc 2 ∷ negsuc 0 ∷ negsuc 2 ∷ pos 1 ∷ [])
     × Emits (negative (number 4) ∷ negation (number 4) ∷ negation (number 0) ∷ []) (negsuc 3 ∷ pos 0 ∷ pos 1 ∷ [])

@@ -13,12 +13,14 @@ with_turns turns setting = record setting { turns = turns }
 -- iteration i, with another bound on the turns of a loop
 abbrev pub iteration_with : SyntaxTree → List ℤ → ℕ → ℕ → Behaviour
 iteration_with tree input turns i =
-    with_budget (natural tree.limits.steps) (natural tree.limits.steps) (run_iteration (with_turns turns (setting_of tree input i)) tree.test tree.body)
+    with_budget (natural tree.limits.steps) (natural tree.limits.steps)
+    (run_iteration (with_turns turns (setting_of tree input i)) tree.test tree.body)
 
 -- `init` or `final`, with another bound on the turns of a loop
 abbrev pub part_with : SyntaxTree → List ℤ → ℕ → Statements → Behaviour
 part_with tree input turns statements =
-    with_budget (natural tree.limits.steps) (natural tree.limits.steps) (execute_part (with_turns turns (setting_of tree input 0)) statements)
+    with_budget (natural tree.limits.steps) (natural tree.limits.steps)
+    (execute_part (with_turns turns (setting_of tree input 0)) statements)
 
 -- an iteration is the same under every larger bound
 abbrev pub MoreTurnsChangeNothing : Type 0

@@ -5,10 +5,12 @@ use Rattle.pipe_model.specs.declared.trap.Trap.TheVariants as traps
 use Rattle.pipe_model.specs.declared.tree.Limits.{Limits}
 use Rattle.pipe_model.specs.Language.Grammar.{declaration}
 use Rattle.pipe_model.specs.Language.ProgramsOfTrees.{whole_of}
-use Rattle.pipe_model.specs.Language.SyntaxTree.{Expression, Name, Element, Let, Assign, Emit, If, Stage, Statements, Empty, Then, SyntaxTree}
+use Rattle.pipe_model.specs.Language.SyntaxTree.{Expression, Name, Element, Let, Assign, Emit, If, Stage, Statements, Empty, Then}
+use Rattle.pipe_model.specs.Language.SyntaxTree.{SyntaxTree}
 use Rattle.pipe_model.specs.Pipelines.WholePrograms.{program_columns}
 use Rattle.language_laws.specs.LanguageExamples.{n, s, t, plus, less, plain_cell, trap_at}
-use Rattle.program_laws.specs.ExampleParts.{HasOutputAndTrap, a, count_up, equal, failing, k, limits_of, negative, number, product, trap_in_final, trap_in_init}
+use Rattle.program_laws.specs.ExampleParts.{HasOutputAndTrap, a, count_up, equal, failing, k, limits_of, negative, number, product}
+use Rattle.program_laws.specs.ExampleParts.{trap_in_final, trap_in_init}
 
 -- limits iterations 3, stages 2, steps 12, emits 3; cell n = 0;
 -- pipe_while (n < 2) { n = n + 1; let t = n; pipe_wait(1); emit t; if (t == 1) { let k = value; } }
@@ -46,7 +48,8 @@ abbrev pub InitAndFinalRun : Type 0
 InitAndFinalRun =
     HasOutputAndTrap (around 2 (Then (Assign s (number 4)) (Then (Emit (Name s)) Empty))) [] (pos 4 ∷ pos 42 ∷ []) None
     × HasOutputAndTrap (around 2 (Then (Emit failing) Empty)) [] [] (Some (trap_in_init traps.DivZero))
-    × HasOutputAndTrap (around 1 (Then (Emit (number 1)) (Then (Emit (number 2)) Empty))) [] (pos 1 ∷ []) (Some (trap_in_init traps.OutputLimit))
+    × HasOutputAndTrap (around 1 (Then (Emit (number 1)) (Then (Emit (number 2)) Empty))) [] (pos 1 ∷ [])
+    (Some (trap_in_init traps.OutputLimit))
     × HasOutputAndTrap (around 1 (Then (Emit (number 1)) Empty)) [] (pos 1 ∷ []) (Some (trap_in_final traps.OutputLimit))
 
 -- the given limits; cell a[2] = 0; pipe_while (1) { emit value; } final { emit 3; }
@@ -64,7 +67,8 @@ emitting limits value = record {
 abbrev pub TrapsCloseTheLoop : Type 0
 TrapsCloseTheLoop =
     HasOutputAndTrap (emitting (limits_of 1 1 20 1) (Element a (number 2))) [] [] (Some (trap_at traps.Index 0 0 (pos 0)))
-    × HasOutputAndTrap (emitting (limits_of 1 1 20 1) (plus (number 9223372036854775807) (number 1))) [] [] (Some (trap_at traps.Overflow 0 0 (pos 0)))
+    × HasOutputAndTrap (emitting (limits_of 1 1 20 1) (plus (number 9223372036854775807) (number 1))) [] []
+    (Some (trap_at traps.Overflow 0 0 (pos 0)))
     × HasOutputAndTrap (emitting (limits_of 2 1 20 4) (number 8)) [] (pos 8 ∷ pos 8 ∷ []) (Some (trap_at traps.IterLimit 2 0 (pos 0)))
     × HasOutputAndTrap (emitting (limits_of 4 1 20 1) (number 8)) [] (pos 8 ∷ []) (Some (trap_at traps.OutputLimit 1 0 (pos 0)))
 
@@ -87,7 +91,8 @@ InitPreparesTheLoop =
     × HasOutputAndTrap (prepared 4) [] (pos 5 ∷ []) (Some (trap_at traps.Budget 0 0 (pos 0)))
     × HasOutputAndTrap (prepared 3) [] [] (Some (trap_in_init traps.Budget))
 
--- limits iterations 3, stages 1, steps 50, emits 3; cell n = 0; init { emit 1 / 0; } pipe_while (n < 2) { n = n + 1; emit n; } final { emit 9; }
+-- limits iterations 3, stages 1, steps 50, emits 3; cell n = 0; init { emit 1 / 0; } pipe_while (n < 2) { n = n + 1; emit n; } final { emit
+-- 9; }
 abbrev pub failing_at_once : SyntaxTree
 failing_at_once = record {
   limits = limits_of 3 1 50 3;
@@ -100,4 +105,5 @@ failing_at_once = record {
 
 -- a trap in `init` leaves out a loop and a `final` that would emit
 abbrev pub TrappedInitEndsAll : Type 0
-TrappedInitEndsAll = HasOutputAndTrap failing_at_once [] [] (Some (trap_in_init traps.DivZero)) × (program_columns (whole_of failing_at_once []) ≡ [])
+TrappedInitEndsAll = HasOutputAndTrap failing_at_once [] [] (Some (trap_in_init traps.DivZero))
+    × (program_columns (whole_of failing_at_once []) ≡ [])

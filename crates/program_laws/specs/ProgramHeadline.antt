@@ -19,7 +19,8 @@ use Rattle.pipe_model.specs.Runs.WholeProgramRuns.{IsFinishedProgramRun, run_out
 abbrev pub HasNoProgramRace : WholeProgram → Type 0
 HasNoProgramRace w = IsRaceFree (map column_of (loop_traces w)) (loop_accesses w)
 
--- the log, the reports, the status and the text of a call that has run the program under the throttling limit; `races` is the text of the reports
+-- the log, the reports, the status and the text of a call that has run the program under the throttling limit; `races` is the text of the
+-- reports
 pub record MeetsProgramHeadline (w : WholeProgram) (limit : ℕ) (log : RunLog) (reports : List Report) (races : List ℕ) (status : ℕ)
     (text : List ℕ) : Type 0 where
   pub run : IsFinishedProgramRun w limit log
@@ -51,4 +52,5 @@ RunsMeetTheHeadline =
     → AreRight (columns_after log.events) (accesses_after log.events) reports
     → MeetsProgramHeadline (whole_of tree input) limit log reports races
     (exit_status reports (run_trap (whole_of tree input) (state_after log.events)))
-    (printed_text reports races (run_output (whole_of tree input) (state_after log.events)) (run_trap (whole_of tree input) (state_after log.events)))
+    (printed_text reports races (run_output (whole_of tree input) (state_after log.events))
+    (run_trap (whole_of tree input) (state_after log.events)))

@@ -16,8 +16,10 @@ use Rattle.pipe_model.specs.Pipelines.SerialElision.{serial_traces}
 use Rattle.pipe_model.specs.Pipelines.Behaviour.{column_of}
 use Rattle.pipe_model.specs.Runs.State.{State, own_columns, accesses_of}
 use Rattle.pipe_model.specs.Pipelines.Store.{output_of, written}
-use Rattle.pipe_model.specs.Pipelines.WholePrograms.{IsOneInstance, WholeProgram, program_log, loop_traces, loop_accesses, program_columns, program_output, program_trap}
-use Rattle.pipe_model.specs.Runs.WholeProgramRuns.{ProgramRun, ProgramIsFinished, IsFinishedProgramRun, run_traces, run_output, run_trap, played_output, played_trap}
+use Rattle.pipe_model.specs.Pipelines.WholePrograms.{IsOneInstance, WholeProgram, program_log, loop_traces, loop_accesses, program_columns}
+use Rattle.pipe_model.specs.Pipelines.WholePrograms.{program_output, program_trap}
+use Rattle.pipe_model.specs.Runs.WholeProgramRuns.{ProgramRun, ProgramIsFinished, IsFinishedProgramRun, run_traces, run_output, run_trap}
+use Rattle.pipe_model.specs.Runs.WholeProgramRuns.{played_output, played_trap}
 
 -- the run has the traces, columns, output and trap of the serial elision, and the elision has no race
 pub record IsSerialProgram (w : WholeProgram) (s : State) : Type 0 where
@@ -54,7 +56,8 @@ ProgramElisionIsARun = (w : WholeProgram) (limit : ℕ) → IsWellFormed w.loop 
 -- the run has a race exactly if the serial elision has one; if it has none, it has the columns, the output and the trap of the elision;
 -- at most `limit` iterations are alive after each event
 pub record MeetsElision (w : WholeProgram) (limit : ℕ) (log : RunLog) : Type 0 where
-  pub races : IsRaceFree (columns_after log.events) (accesses_after log.events) ↔ IsRaceFree (map column_of (loop_traces w)) (loop_accesses w)
+  pub races : IsRaceFree (columns_after log.events) (accesses_after log.events) ↔ IsRaceFree (map column_of (loop_traces w))
+      (loop_accesses w)
   pub columns : IsRaceFree (columns_after log.events) (accesses_after log.events) → log.columns ≡ program_columns w
   pub output : IsRaceFree (columns_after log.events) (accesses_after log.events) → run_output w (state_after log.events) ≡ program_output w
   pub trap : IsRaceFree (columns_after log.events) (accesses_after log.events) → run_trap w (state_after log.events) ≡ program_trap w

@@ -45,5 +45,6 @@ SchedulesArePlayed =
     (played (pipeline_after_init emitting_once []) 2 1 [] 100 ≡ first_events ++ events.Finish 1 Closed ∷ [])
     × (played (pipeline_after_init emitting_once []) 2 1 [] 11 ≡ first_events)
     × (played (pipeline_after_init emitting_once []) 2 1 (1 ∷ []) 6
-    ≡ events.Begin 0 ∷ events.Access 0 (read_access 2 (pos 0)) ∷ events.Access 0 (write_access 2 (pos 1)) ∷ events.Advance 0 kinds.Wait (pos 1)
+    ≡ events.Begin 0 ∷ events.Access 0 (read_access 2 (pos 0)) ∷ events.Access 0 (write_access 2 (pos 1)) ∷ events.Advance 0 kinds.Wait
+    (pos 1)
     ∷ events.Begin 1 ∷ events.Access 1 (read_access 2 (pos 1)) ∷ [])

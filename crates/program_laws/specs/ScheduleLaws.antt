@@ -43,7 +43,8 @@ RunsHaveCandidates =
 pub record IsPlayed (p : Pipeline) (limit workers : ℕ) (events : List Event) (s : State) : Type 0 where
   pub run : Run p limit events s
   pub not_stopped : s.stopped ≡ false
-  pub at_most_workers : (before after : List Event) → events ≡ before ++ after → running_instances (state_from initial_state before) ≤ workers
+  pub at_most_workers : (before after : List Event) → events ≡ before ++ after → running_instances
+      (state_from initial_state before) ≤ workers
 
 abbrev pub PlayedRunsAreRuns : Type 0
 PlayedRunsAreRuns =

@@ -6,15 +6,18 @@ use Rattle.pipe_model.specs.declared.tree.StageKind.TheVariants as stage_kinds
 use Rattle.pipe_model.specs.declared.trap.Trap.TheVariants as traps
 use Rattle.pipe_model.specs.Pipelines.Behaviour.{node_of}
 use Rattle.pipe_model.specs.Language.ProgramsOfTrees.{whole_of}
-use Rattle.pipe_model.specs.Language.SyntaxTree.{Expression, Name, Element, Take, Iter, Let, Assign, AssignElement, Emit, If, While, Stage, NextStage, Statements, Empty, Then, SyntaxTree}
+use Rattle.pipe_model.specs.Language.SyntaxTree.{Expression, Name, Element, Take, Iter, Let, Assign, AssignElement, Emit, If, While, Stage}
+use Rattle.pipe_model.specs.Language.SyntaxTree.{NextStage, Statements, Empty, Then, SyntaxTree}
 use Rattle.pipe_model.specs.Pipelines.WholePrograms.{program_columns}
 use Rattle.language_laws.specs.LanguageExamples.{n, s, t, plus, less, plain_cell, trap_at}
-use Rattle.program_laws.specs.ExampleParts.{HasOutputAndTrap, a, c, computing, count_up, emit_all, equal, k, limits_of, negative, number, remainder, trap_in_final}
+use Rattle.program_laws.specs.ExampleParts.{HasOutputAndTrap, a, c, computing, count_up, emit_all, equal, k, limits_of, negative, number}
+use Rattle.program_laws.specs.ExampleParts.{remainder, trap_in_final}
 
 -- let k = 1; k = k + 1; n = k + 1; emit k; emit n;
 abbrev pub NamesAreAssigned : Type 0
 NamesAreAssigned =
-    HasOutputAndTrap (computing (Then (Let k (number 1)) (count_up k (Then (Assign n (plus (Name k) (number 1))) (emit_all (Name k ∷ Name n ∷ []) Empty))))) []
+    HasOutputAndTrap (computing (Then (Let k (number 1))
+    (count_up k (Then (Assign n (plus (Name k) (number 1))) (emit_all (Name k ∷ Name n ∷ []) Empty))))) []
     (pos 2 ∷ pos 3 ∷ []) None
 
 -- a[n + 2] = 8; emit a[0]; emit a[2]; a[3] = 1; and a[take()] = take(); emit a[1];
@@ -23,7 +26,8 @@ ElementsAreAssigned =
     HasOutputAndTrap (computing (Then (AssignElement a (plus (Name n) (number 2)) (number 8))
     (emit_all (Element a (number 0) ∷ Element a (number 2) ∷ []) (Then (AssignElement a (number 3) (number 1)) Empty)))) []
     (pos 5 ∷ pos 8 ∷ []) (Some (trap_in_final traps.Index))
-    × HasOutputAndTrap (computing (Then (AssignElement a Take Take) (Then (Emit (Element a (number 1))) Empty))) (pos 1 ∷ pos 7 ∷ []) (pos 7 ∷ []) None
+    × HasOutputAndTrap (computing (Then (AssignElement a Take Take) (Then (Emit (Element a (number 1))) Empty))) (pos 1 ∷ pos 7 ∷ [])
+    (pos 7 ∷ []) None
 
 -- if (value) { emit 1; } else { emit 2; }
 abbrev pub branching : Expression → SyntaxTree
@@ -51,7 +55,8 @@ BlocksEndLocals =
 -- let k = 0; while (k < turns) { n = n + 1; k = k + 1; } emit n;
 abbrev pub turning : ℕ → SyntaxTree
 turning turns =
-    computing (Then (Let k (number 0)) (Then (While (less (Name k) (number turns)) (count_up n (count_up k Empty))) (Then (Emit (Name n)) Empty)))
+    computing (Then (Let k (number 0)) (Then (While (less (Name k) (number turns)) (count_up n (count_up k Empty)))
+    (Then (Emit (Name n)) Empty)))
 
 -- three turns, none, and a loop that only the budget ends
 abbrev pub LoopsTurn : Type 0
@@ -73,8 +78,10 @@ staged stages body = record {
 
 -- let k = 6; pipe_wait(2); emit k; pipe_wait; pipe_continue(7); pipe_continue; emit k + 1;
 abbrev pub each_stage : SyntaxTree
-each_stage = staged 5 (Then (Let k (number 6)) (Then (Stage stage_kinds.Wait (number 2)) (Then (Emit (Name k)) (Then (NextStage stage_kinds.Wait)
-    (Then (Stage stage_kinds.Continue (number 7)) (Then (NextStage stage_kinds.Continue) (Then (Emit (plus (Name k) (number 1))) Empty)))))))
+each_stage = staged 5 (Then (Let k (number 6)) (Then (Stage stage_kinds.Wait (number 2))
+    (Then (Emit (Name k)) (Then (NextStage stage_kinds.Wait)
+    (Then (Stage stage_kinds.Continue (number 7)) (Then (NextStage stage_kinds.Continue)
+    (Then (Emit (plus (Name k) (number 1))) Empty)))))))
 
 -- stages with and without a number; locals live across stages
 abbrev pub StagesAreNamed : Type 0
@@ -82,7 +89,8 @@ StagesAreNamed =
     HasOutputAndTrap each_stage [] (pos 6 ∷ pos 7 ∷ []) None
     × (program_columns (whole_of each_stage [])
     ≡ record {
-      nodes = node_of kinds.Zero (pos 0) ∷ node_of kinds.Wait (pos 2) ∷ node_of kinds.Wait (pos 3) ∷ node_of kinds.Continue (pos 7) ∷ node_of
+      nodes = node_of kinds.Zero (pos 0) ∷ node_of kinds.Wait (pos 2) ∷ node_of kinds.Wait (pos 3) ∷ node_of kinds.Continue
+          (pos 7) ∷ node_of
           kinds.Continue (pos 8) ∷ [];
       end = Some End;
     } ∷ record { nodes = node_of kinds.Zero (pos 0) ∷ []; end = Some Closed } ∷ [])
@@ -95,7 +103,8 @@ StagesTrap =
     × HasOutputAndTrap (staged 3 (Then (Stage stage_kinds.Wait (number 0)) Empty)) [] [] (Some (trap_at traps.StageOrder 0 0 (pos 0)))
     × HasOutputAndTrap (staged 2 (Then (Stage stage_kinds.Wait (number 1)) (Then (NextStage stage_kinds.Continue) Empty))) [] []
     (Some (trap_at traps.StageLimit 0 1 (pos 1)))
-    × HasOutputAndTrap (staged 3 (Then (Stage stage_kinds.Wait (number 9223372036854775807)) (Then (NextStage stage_kinds.Wait) Empty))) [] []
+    × HasOutputAndTrap (staged 3 (Then (Stage stage_kinds.Wait (number 9223372036854775807)) (Then (NextStage stage_kinds.Wait) Empty))) []
+    []
     (Some (trap_at traps.Overflow 0 1 (pos 9223372036854775807)))
 
 -- limits iterations 4, stages 3, steps 50, emits 4; cell n = 0; cell s = 0;
@@ -106,7 +115,8 @@ every_other = record {
   cells = plain_cell n (pos 0) ∷ plain_cell s (pos 0) ∷ [];
   init = Empty;
   test = less (Name n) (number 4);
-  body = count_up n (Then (Let t (Name n)) (Then (If (equal (remainder Iter (number 2)) (number 0)) (Then (Stage stage_kinds.Wait (number 1)) Empty) Empty)
+  body = count_up n (Then (Let t (Name n)) (Then (If (equal (remainder Iter (number 2)) (number 0))
+      (Then (Stage stage_kinds.Wait (number 1)) Empty) Empty)
       (Then (Stage stage_kinds.Wait (number 2)) (Then (Assign s (plus (Name s) (Name t))) (Then (Emit (Name s)) Empty)))));
   last = Empty;
 }
@@ -123,11 +133,13 @@ waiting other = record {
   cells = plain_cell n (pos 0) ∷ plain_cell c (pos 0) ∷ [];
   init = Empty;
   test = less (Name n) (number 2);
-  body = count_up n (Then (If (equal Iter (number 0)) (Then (Stage stage_kinds.Wait (number 5)) (Then (Assign c (number 7)) Empty)) other) Empty);
+  body = count_up n (Then (If (equal Iter (number 0)) (Then (Stage stage_kinds.Wait (number 5)) (Then (Assign c (number 7)) Empty)) other)
+      Empty);
   last = Empty;
 }
 
--- waits with redundant edges: { pipe_wait(5); pipe_wait(6); pipe_wait(7); emit c; }, and a wait for an earlier stage: { pipe_wait(6); emit c; }
+-- waits with redundant edges: { pipe_wait(5); pipe_wait(6); pipe_wait(7); emit c; }, and a wait for an earlier stage: { pipe_wait(6); emit
+-- c; }
 abbrev pub WaitsEmit : Type 0
 WaitsEmit =
     HasOutputAndTrap (waiting (Then (Stage stage_kinds.Wait (number 5)) (Then (Stage stage_kinds.Wait (number 6))

@@ -15,7 +15,8 @@ use Rattle.pipe_model.specs.Language.SyntaxTree.{SyntaxTree}
 abbrev pub ProgramsHaveBoundedWork : Type 0
 ProgramsHaveBoundedWork =
     (tree : SyntaxTree) (input : List ℤ) (i : ℕ)
-    → HasBoundedWork (2 * natural tree.limits.steps) (2 * natural tree.limits.steps) (natural tree.limits.stages - 1) ((pipeline_of tree input).behaviour i)
+    → HasBoundedWork (2 * natural tree.limits.steps) (2 * natural tree.limits.steps) (natural tree.limits.stages - 1)
+    ((pipeline_of tree input).behaviour i)
 
 -- the greatest number of instances in a run: those of all iterations, and the one that closes the loop
 abbrev pub most_instances : SyntaxTree → ℕ

@@ -1,7 +1,8 @@
 //! Bounds on the turns of loops, on the work of a program, and on the length of its runs.
 
 ghost use Rattle.program_laws.specs.LoopTurns.{MoreTurnsChangeNoPart, MoreTurnsChangeNothing};
-ghost use Rattle.program_laws.specs.WorkBounds.{ProgramInstancesAreBounded, ProgramRunsAreBounded, ProgramsHaveBoundedWork, StartsAreCounted};
+ghost use Rattle.program_laws.specs.WorkBounds.{ProgramInstancesAreBounded, ProgramRunsAreBounded, ProgramsHaveBoundedWork};
+ghost use Rattle.program_laws.specs.WorkBounds.{StartsAreCounted};
 
 /// A larger bound on the turns of loops does not change a program: its instances have no steps for
 /// more turns.

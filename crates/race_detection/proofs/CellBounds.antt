@@ -11,7 +11,8 @@ use Rattle.race_detection.proofs.NotedCells.{no_access}
 max_assoc : (a b c : ℕ) → max (max a b) c ≡ max a (max b c)
 max_assoc a b c = omega arith
 
-bound_with : (accesses : List NodeAccess) (a : NodeAccess) → cell_bound (accesses ++ a ∷ []) ≡ max (cell_bound accesses) (suc a.access.cell.0)
+bound_with : (accesses : List NodeAccess) (a : NodeAccess) → cell_bound (accesses ++ a ∷ []) ≡ max (cell_bound accesses)
+    (suc a.access.cell.0)
 bound_with [] a = max-zero (suc a.access.cell.0) ∙ sym (zero-max (suc a.access.cell.0))
 bound_with (x ∷ xs) a =
     ap (max (suc x.access.cell.0)) (bound_with xs a) ∙ sym (max_assoc (suc x.access.cell.0) (cell_bound xs) (suc a.access.cell.0))

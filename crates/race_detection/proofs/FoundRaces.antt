@@ -1,5 +1,6 @@
 -- What the histories have found, as reports.
-use Rattle.std.proofs.Common.{◌≡◌, ◌≢◌, ◌∙◌, ◌<◌, ◌≤◌, ℕ, zero, suc, List, [], ◌∷◌, ◌++◌, All, AllPairs, Contains, Result, Ok, Err, IfOk, ◌⊎◌, inl, inr, Option, Some, None, IfSome, length, map, ap, ap₂, refl, sym, subst, arith}
+use Rattle.std.proofs.Common.{◌≡◌, ◌≢◌, ◌∙◌, ◌<◌, ◌≤◌, ℕ, zero, suc, List, [], ◌∷◌, ◌++◌, All, AllPairs, Contains, Result, Ok, Err, IfOk}
+use Rattle.std.proofs.Common.{◌⊎◌, inl, inr, Option, Some, None, IfSome, length, map, ap, ap₂, refl, sym, subst, arith}
 use Rattle.std.proofs.lemmas.List.{append-nil, get_or-map, length-map, map-append}
 use Rattle.std.proofs.lemmas.List.Elements.{All-append, All-cons}
 use Rattle.std.proofs.lemmas.List.Quantifiers.{all_pairs_push}
@@ -42,7 +43,8 @@ one_below c (Some race) =
 below_with : (found : List (CellId × Found)) (c : ℕ) (report : Option Found) → All (λ (f : CellId × Found). f.0.0 < c) found
     → All (λ (f : CellId × Found). f.0.0 < suc c) (found ++ found_of c report)
 below_with found c report below =
-    All-append (λ (f : CellId × Found). f.0.0 < suc c) found (found_of c report) (λ k d w. let l = below k d w in omega (arith, l)) (one_below c report)
+    All-append (λ (f : CellId × Found). f.0.0 < suc c) found (found_of c report) (λ k d w. let l = below k d w in omega (arith, l))
+    (one_below c report)
 
 found_is_below : (histories : List History) (n : ℕ) → All (λ (f : CellId × Found). f.0.0 < n) (found_below histories n)
 found_is_below histories zero = λ k d w. absurd (omega (arith, w))
@@ -56,19 +58,23 @@ found_rises histories (suc n) =
 -- the cells differ
 pub found_apart : (histories : List History) (n : ℕ) (found : List (CellId × Found)) → found ≡ found_below histories n
     → AllPairs (λ a b. a.0 ≢ b.0) found
-found_apart histories n found is = rw is (λ i j d l w e. let rise = found_rises histories n i j d l w in let same = ap (λ c. c.0) e in omega (arith, rise, same))
+found_apart histories n found is = rw is (λ i j d l w e. let rise = found_rises histories n i j d l w in let same = ap (λ c. c.0) e in
+    omega (arith, rise, same))
 
 -- ---- the instances
 
-inside_with : (columns : List (List Node)) (found : List (CellId × Found)) (c : ℕ) (report : Option Found) → IfSome report (IsFoundIn columns)
-    → All (λ (f : CellId × Found). IsFoundIn columns f.1) found → All (λ (f : CellId × Found). IsFoundIn columns f.1) (found ++ found_of c report)
+inside_with : (columns : List (List Node)) (found : List (CellId × Found)) (c : ℕ) (report : Option Found)
+    → IfSome report (IsFoundIn columns)
+    → All (λ (f : CellId × Found). IsFoundIn columns f.1) found → All (λ (f : CellId × Found). IsFoundIn columns f.1)
+    (found ++ found_of c report)
 inside_with columns found c None inside all = rw (append-nil found) all
 inside_with columns found c (Some race) inside all =
     All-append (λ (f : CellId × Found). IsFoundIn columns f.1) found (found_of c (Some race)) all
     (All-cons (λ (f : CellId × Found). IsFoundIn columns f.1) (record { 0 = c }, race) [] inside (λ k d w. absurd (omega (arith, w))))
 
 all_inside : (columns : List (List Node)) (starts : List NodeId) (accesses : List NodeAccess) (histories : List History) (n : ℕ)
-    → HaveNoted columns starts accesses histories → n ≤ length histories → All (λ (f : CellId × Found). IsFoundIn columns f.1) (found_below histories n)
+    → HaveNoted columns starts accesses histories → n ≤ length histories → All (λ (f : CellId × Found). IsFoundIn columns f.1)
+    (found_below histories n)
 all_inside columns starts accesses histories zero noted w = λ k d l. absurd (omega (arith, l))
 all_inside columns starts accesses histories (suc n) noted w =
     inside_with columns (found_below histories n) n (history_at histories n).report (noted.each n (omega (arith, w))).report
@@ -84,7 +90,8 @@ found_inside columns starts accesses histories found noted is =
 
 -- the report of a cell
 report_is : (columns : List (List Node)) (c : ℕ) (accesses : List NotedAccess) (race : Option FoundRace)
-    → map (λ (f : CellId × Found). report_found columns f.0 f.1) (found_of c (report_of_race accesses race)) ≡ reports.report_found columns c accesses race
+    → map (λ (f : CellId × Found). report_found columns f.0 f.1) (found_of c (report_of_race accesses race)) ≡ reports.report_found columns
+    c accesses race
 report_is columns c accesses None = refl
 report_is columns c accesses (Some race) = refl
 
@@ -141,7 +148,8 @@ among_others x xs r less c = elim (first_or_other x xs r c) [
   | inr other ↦ other
 ]
 
-one_first : (x y : Report) (xs ys : List Report) → RiseByCell (x ∷ xs) → RiseByCell (y ∷ ys) → Contains (y ∷ ys) x → Contains (x ∷ xs) y → x ≡ y
+one_first : (x y : Report) (xs ys : List Report) → RiseByCell (x ∷ xs) → RiseByCell (y ∷ ys) → Contains (y ∷ ys) x → Contains (x ∷ xs) y
+    → x ≡ y
 one_first x y xs ys p q a b = elim (first_or_other y ys x a) [
   | inl same ↦ sym same
   | inr later ↦ elim (first_or_other x xs y b) [
@@ -168,18 +176,22 @@ one_list (x ∷ xs) (y ∷ ys) p q f g =
     after x xs r c = (suc c.0, (let w = c.1 in omega (arith, w)), c.2)
 
 -- sorted, the reports of what was found are the reports of the histories
-pub detected : (columns : List (List Node)) (starts : List NodeId) (accesses : List NodeAccess) (histories : List History) (found : List (CellId × Found))
+pub detected : (columns : List (List Node)) (starts : List NodeId) (accesses : List NodeAccess) (histories : List History)
+    (found : List (CellId × Found))
     (sorted : List Report) → HaveNoted columns starts accesses histories → found ≡ found_below histories (length histories)
     → IsPermutation (map (λ (f : CellId × Found). report_found columns f.0 f.1) found) sorted → RiseByCell sorted
     → sorted ≡ reports_below columns starts accesses (length histories)
 detected columns starts accesses histories found sorted noted is same rise =
     let made = ap (map (λ (f : CellId × Found). report_found columns f.0 f.1)) is in
-    let rising = subst RiseByCell (sym made) (reports_rise columns (found_below histories (length histories)) (found_rises histories (length histories))) in
-    one_list sorted (map (λ (f : CellId × Found). report_found columns f.0 f.1) found) rise rising (λ r c. Contains-permutation _ _ r (IsPermutation-sym _ _ same) c) (λ r c. Contains-permutation _ _ r same c)
+    let rising = subst RiseByCell (sym made) (reports_rise columns (found_below histories (length histories))
+    (found_rises histories (length histories))) in
+    one_list sorted (map (λ (f : CellId × Found). report_found columns f.0 f.1) found) rise rising
+    (λ r c. Contains-permutation _ _ r (IsPermutation-sym _ _ same) c) (λ r c. Contains-permutation _ _ r same c)
     ∙ made ∙ reports_so_far columns starts accesses histories (length histories) noted (omega arith)
 
 -- the same of a sort that may run out of memory
-pub all_detected : (columns own : List (List Node)) (starts first : List NodeId) (accesses given : List NodeAccess) (histories : List History) (cells : ℕ)
+pub all_detected : (columns own : List (List Node)) (starts first : List NodeId) (accesses given : List NodeAccess)
+    (histories : List History) (cells : ℕ)
     (found : List (CellId × Found)) (r : Result (List Report) NoMemory) → HaveNoted columns starts accesses histories
     → found ≡ found_below histories (length histories)
     → columns ≡ own → starts ≡ first → accesses ≡ given → length histories ≡ cells

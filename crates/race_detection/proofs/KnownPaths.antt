@@ -1,5 +1,6 @@
 -- The instances that are known to be before another, in a run: paths lead from them to it.
-use Rattle.std.proofs.Common.{◌≡◌, ◌∙◌, ◌<◌, ◌≤◌, ◌==◌, ◌&&◌, ◌||◌, ℕ, suc, true, nat_le, nat_lt, List, Option, Some, None, IfSome, inl, inr, subst, arith}
+use Rattle.std.proofs.Common.{◌≡◌, ◌∙◌, ◌<◌, ◌≤◌, ◌==◌, ◌&&◌, ◌||◌, ℕ, suc, true, nat_le, nat_lt, List, Option, Some, None, IfSome, inl}
+use Rattle.std.proofs.Common.{inr, subst, arith}
 use Rattle.std.proofs.lemmas.Bool.{or_cases}
 use Rattle.std.proofs.lemmas.Bool.Decides.{nat_tests}
 use Rattle.access_history.specs.declared.history.History.{History}
@@ -27,7 +28,8 @@ above_it columns i j l less = record { column = omega arith; place = λ e. less;
 -- in the column to the left, at an index of at most the joined one
 left_of_it : (columns : List (List Node)) (i j l : ℕ) → j ≤ joined_at columns i l → IsBelow columns i j (suc i) l
 left_of_it columns i j l most =
-    let e : reach columns (suc i) l i ≡ joined_at columns i l = reach_left columns i l i (omega arith) ∙ reach_here columns i (joined_at columns i l) in
+    let e : reach columns (suc i) l i ≡ joined_at columns i l = reach_left columns i l i (omega arith)
+    ∙ reach_here columns i (joined_at columns i l) in
     record { column = omega arith; place = λ s. absurd (omega (arith, s)); within = λ s. omega (arith, most, e) }
 
 known_below : (columns : List (List Node)) (i j k l : ℕ)
@@ -56,13 +58,15 @@ known_one columns starts ok ordered started x y in_x in_y = λ known.
 known_of : (columns : List (List Node)) (starts : List NodeId) → AreColumns columns → AreStarts columns starts
     → ((y : NodeId) → IsNodeOf columns y → IsStarted starts y) → (x : NodeId) → IsNodeOf columns x → (kept : Option Who)
     → IfSome kept (IsMarked columns starts)
-    → IfSome kept (λ y. AgreeOnKnown (Some (left_joined columns x.iteration x.index)) (down_place starts) (right_place columns starts) x y.node)
+    → IfSome kept (λ y. AgreeOnKnown (Some (left_joined columns x.iteration x.index)) (down_place starts)
+    (right_place columns starts) x y.node)
 known_of columns starts ok ordered started x in_x None marked = tt
 known_of columns starts ok ordered started x in_x (Some y) marked = known_one columns starts ok ordered started x y.node in_x marked.inside
 
 -- the orders of the starts have each kept instance before an instance that it is known to precede
 pub known_kept : (columns : List (List Node)) (starts : List NodeId) → AreColumns columns → AreStarts columns starts
-    → ((y : NodeId) → IsNodeOf columns y → IsStarted starts y) → (x : NodeId) → IsNodeOf columns x → (h : History) → AllKept (IsMarked columns starts) h
+    → ((y : NodeId) → IsNodeOf columns y → IsStarted starts y) → (x : NodeId) → IsNodeOf columns x → (h : History)
+    → AllKept (IsMarked columns starts) h
     → AgreeOnKnownKept (Some (left_joined columns x.iteration x.index)) (down_place starts) (right_place columns starts) x h
 known_kept columns starts ok ordered started x in_x h marked = record {
   writer = known_of columns starts ok ordered started x in_x h.writer marked.writer;

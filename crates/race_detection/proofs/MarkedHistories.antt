@@ -1,12 +1,14 @@
 -- The history of a cell whose kept instances have the marks of a run.
-use Rattle.std.proofs.Common.{ap, ◌≡◌, ℕ, Bool, true, false, List, Option, Some, None, IfSome, inl, inr, arith, [], ◌∷◌, ◌++◌, if◌then◌else◌}
+use Rattle.std.proofs.Common.{ap, ◌≡◌, ℕ, Bool, true, false, List, Option, Some, None, IfSome, inl, inr, arith, [], ◌∷◌, ◌++◌}
+use Rattle.std.proofs.Common.{if◌then◌else◌}
 use Rattle.access_history.specs.declared.history.Found.{Found}
 use Rattle.access_history.specs.declared.history.History.{History}
 use Rattle.access_history.specs.declared.history.Verdict.{Verdict}
 use Rattle.access_history.specs.declared.history.Verdict.TheVariants.{Clean, Race}
 use Rattle.access_history.specs.declared.history.Who.{Who}
 use Rattle.access_history.specs.KnownOrder.{AgreeOnKnownKept}
-use Rattle.access_history.specs.KeptInstances.{AgreeOn, AgreeOnKept, AllKept, IsEither, IsHistoryAfter, KeepsAmong, earlier_access, kept_of, node_of, report_after}
+use Rattle.access_history.specs.KeptInstances.{AgreeOn, AgreeOnKept, AllKept, IsEither, IsHistoryAfter, KeepsAmong, earlier_access, kept_of}
+use Rattle.access_history.specs.KeptInstances.{node_of, report_after}
 use Rattle.order_2d.specs.declared.started.StartedNode.{StartedNode}
 use Rattle.order_2d.specs.StartedNodes.{started_node}
 use Rattle.pipe_model.specs.declared.access.AccessKind.{AccessKind}
@@ -42,7 +44,8 @@ each_kept P Q None f h = tt
 each_kept P Q (Some w) f h = f w h
 
 pub agree_on_kept : (columns : List (List Node)) (starts : List NodeId) (d r : List ℕ) → d ≡ list_of_log (down_first_log starts)
-    → r ≡ list_of_log (right_first_log columns starts) → (x : Who) (h : History) → IsMarked columns starts x → AllKept (IsMarked columns starts) h
+    → r ≡ list_of_log (right_first_log columns starts) → (x : Who) (h : History) → IsMarked columns starts x
+    → AllKept (IsMarked columns starts) h
     → AgreeOnKept d r (down_place starts) (right_place columns starts) x h
 agree_on_kept columns starts d r same_down same_right x h hx kept =
     let one = agree columns starts d r same_down same_right x in
@@ -72,7 +75,8 @@ still_kept P h h' x k p among = record {
 abbrev IsAt : (NodeId → Type 0) → NotedAccess → Type 0
 IsAt P e = P e.who
 
-either_access : (P : NodeId → Type 0) (b : Bool) (x y : Option NotedAccess) → IfSome x (IsAt P) → IfSome y (IsAt P) → IfSome (if b then x else y) (IsAt P)
+either_access : (P : NodeId → Type 0) (b : Bool) (x y : Option NotedAccess) → IfSome x (IsAt P) → IfSome y (IsAt P)
+    → IfSome (if b then x else y) (IsAt P)
 either_access P true x y p q = p
 either_access P false x y p q = q
 
@@ -90,15 +94,20 @@ check_at P down right h x Write kept =
     (race_at P down right x Read h.rightmost _ kept.rightmost (race_at P down right x Read h.downmost None kept.downmost tt))
 
 -- a report names instances of the columns
-reported_at : (columns : List (List Node)) (old : Option Found) (x : NodeId) (kind : AccessKind) (verdict : Verdict) → IfSome old (IsFoundIn columns)
-    → IsNodeOf columns x → IfSome (earlier_access verdict) (IsAt (IsNodeOf columns)) → IfSome (report_after old x kind verdict) (IsFoundIn columns)
+reported_at : (columns : List (List Node)) (old : Option Found) (x : NodeId) (kind : AccessKind) (verdict : Verdict)
+    → IfSome old (IsFoundIn columns)
+    → IsNodeOf columns x → IfSome (earlier_access verdict) (IsAt (IsNodeOf columns)) → IfSome (report_after old x kind verdict)
+    (IsFoundIn columns)
 reported_at columns (Some found) x kind verdict o inside e = o
 reported_at columns None x kind Clean o inside e = tt
 reported_at columns None x kind (Race y earlier) o inside e = record { earlier = e; later = inside }
 
-pub report_inside : (columns : List (List Node)) (starts : List NodeId) (down right : NodeId → ℕ) (h : History) (x : NodeId) (kind : AccessKind)
-    (verdict : Verdict) (new : Option Found) → AllKept (IsMarked columns starts) h → IfSome h.report (IsFoundIn columns) → IsNodeOf columns x
-    → earlier_access verdict ≡ check_access down right (kept_of h) x kind → new ≡ report_after h.report x kind verdict → IfSome new (IsFoundIn columns)
+pub report_inside : (columns : List (List Node)) (starts : List NodeId) (down right : NodeId → ℕ) (h : History) (x : NodeId)
+    (kind : AccessKind)
+    (verdict : Verdict) (new : Option Found) → AllKept (IsMarked columns starts) h → IfSome h.report (IsFoundIn columns)
+    → IsNodeOf columns x
+    → earlier_access verdict ≡ check_access down right (kept_of h) x kind → new ≡ report_after h.report x kind verdict
+    → IfSome new (IsFoundIn columns)
 report_inside columns starts down right h x kind verdict new kept old inside race is =
     let nodes : AllKept (λ w. IsNodeOf columns w.node) h = record {
       writer = each_kept _ _ h.writer (λ w m. m.inside) kept.writer;
@@ -115,10 +124,12 @@ pub marked_as : (columns : List (List Node)) (starts : List NodeId) (x : NodeId)
 marked_as columns starts x s inside is = record { inside = inside; marks = ap (λ n. n.marks) is }
 
 pub noted_again : (columns : List (List Node)) (starts : List NodeId) (d r : List ℕ) → d ≡ list_of_log (down_first_log starts)
-    → r ≡ list_of_log (right_first_log columns starts) → (x : Who) (kind : AccessKind) (h h' : History) (verdict : Verdict) (accesses : List NotedAccess)
+    → r ≡ list_of_log (right_first_log columns starts) → (x : Who) (kind : AccessKind) (h h' : History) (verdict : Verdict)
+    (accesses : List NotedAccess)
     → IsMarked columns starts x → HasNoted columns starts accesses h
     → (joined : Option ℕ) → AgreeOnKnownKept joined (down_place starts) (right_place columns starts) x.node h
-    → ((down right : NodeId → ℕ) → AgreeOnKept d r down right x h → AgreeOnKnownKept joined down right x.node h → (before : List NotedAccess)
+    → ((down right : NodeId → ℕ) → AgreeOnKept d r down right x h → AgreeOnKnownKept joined down right x.node h
+    → (before : List NotedAccess)
     → IsHistoryAfter down right before h → IsHistoryAfter down right (before ++ noted_access x.node kind ∷ []) h')
     → ((down right : NodeId → ℕ) → AgreeOnKept d r down right x h → AgreeOnKnownKept joined down right x.node h
     → earlier_access verdict ≡ check_access down right (kept_of h) x.node kind)
@@ -129,6 +140,7 @@ noted_again columns starts d r same_down same_right x kind h h' verdict accesses
     record {
       after = step (down_place starts) (right_place columns starts) agrees known accesses before.after;
       kept = still_kept (IsMarked columns starts) h h' x before.kept marked each;
-      report = report_inside columns starts (down_place starts) (right_place columns starts) h x.node kind verdict h'.report before.kept before.report
+      report = report_inside columns starts (down_place starts) (right_place columns starts) h x.node kind verdict h'.report before.kept
+          before.report
           marked.inside (race (down_place starts) (right_place columns starts) agrees known) report;
     }

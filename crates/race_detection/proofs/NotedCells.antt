@@ -1,5 +1,6 @@
 -- The histories of all cells after one more access, and after none.
-use Rattle.std.proofs.Common.{◌≡◌, ◌≢◌, ◌∙◌, ◌<◌, ◌+◌, ◌==◌, ℕ, pos, zero, suc, Bool, true, false, List, [], ◌∷◌, ◌++◌, get_or, take, length, slice_set, ap, refl, sym, subst, arith, inl, inr, if◌then◌else◌}
+use Rattle.std.proofs.Common.{◌≡◌, ◌≢◌, ◌∙◌, ◌<◌, ◌+◌, ◌==◌, ℕ, pos, zero, suc, Bool, true, false, List, [], ◌∷◌, ◌++◌, get_or, take}
+use Rattle.std.proofs.Common.{length, slice_set, ap, refl, sym, subst, arith, inl, inr, if◌then◌else◌}
 use Rattle.std.proofs.lemmas.Bool.{cases_lt}
 use Rattle.std.proofs.lemmas.Bool.Decides.{nat_tests}
 use Rattle.std.proofs.lemmas.List.{length-append}
@@ -17,7 +18,8 @@ use Rattle.race_detection.specs.NotedRuns.{HasNoted, HaveNoted, history_at, noth
 
 pub count_of_nothing : (n : ℕ) → length (nothing_noted n) ≡ n
 count_of_nothing zero = refl
-count_of_nothing (suc n) = let h = count_of_nothing n in let more = length-append (nothing_noted n) (nothing_kept ∷ []) in omega (arith, h, more)
+count_of_nothing (suc n) = let h = count_of_nothing n in let more = length-append (nothing_noted n) (nothing_kept ∷ []) in
+    omega (arith, h, more)
 
 -- a history past the end is the history of no accesses, and so is one at the end
 pushed_at : (hs : List History) (c : ℕ) → ((k : ℕ) → history_at hs k ≡ nothing_kept) → history_at (hs ++ nothing_kept ∷ []) c ≡ nothing_kept
@@ -57,7 +59,8 @@ to_its_cell (x ∷ xs) a =
     (accesses_to a.access.cell.0 xs) (noted_access a.node a.access.kind ∷ []) (to_its_cell xs a)
 
 -- those to another cell have not
-to_another : (accesses : List NodeAccess) (a : NodeAccess) (c : ℕ) → c ≢ a.access.cell.0 → accesses_to c (accesses ++ a ∷ []) ≡ accesses_to c accesses
+to_another : (accesses : List NodeAccess) (a : NodeAccess) (c : ℕ) → c ≢ a.access.cell.0 → accesses_to c
+    (accesses ++ a ∷ []) ≡ accesses_to c accesses
 to_another [] a c differs = let apart : (a.access.cell.0 == c) ≡ false = grind (arith, nat_tests) in rw apart refl
 to_another (x ∷ xs) a c differs =
     ap (λ l. if x.access.cell.0 == c then noted_access x.node x.access.kind ∷ l else l) (to_another xs a c differs)
@@ -88,7 +91,8 @@ set_count (x ∷ xs) (suc c) h = ap suc (set_count xs c h)
 abbrev pub no_access : NodeAccess
 no_access = record { node = record { iteration = 0; index = 0 }; access = record { cell = record { 0 = 0 }; kind = Read; value = pos 0 } }
 
-pub one_more_noted : (columns : List (List Node)) (starts : List NodeId) (accesses : List NodeAccess) (hs : List History) (k : ℕ) (h : History)
+pub one_more_noted : (columns : List (List Node)) (starts : List NodeId) (accesses : List NodeAccess) (hs : List History) (k : ℕ)
+    (h : History)
     → HaveNoted columns starts (take k accesses) hs → k < length accesses → (get_or accesses k no_access).access.cell.0 < length hs
     → HasNoted columns starts (accesses_to (get_or accesses k no_access).access.cell.0 (take k accesses)
     ++ noted_access (get_or accesses k no_access).node (get_or accesses k no_access).access.kind ∷ []) h
@@ -111,7 +115,8 @@ one_more_noted columns starts accesses hs k h before w inside new = record { eac
         → HasNoted columns starts (accesses_to c (take (k + 1) accesses)) (history_at (slice_set hs cell h) c)
     elsewhere c differs l = rw (taken, set_elsewhere hs cell c h differs, to_another (take k accesses) a c differs) (before.each c l)
 
-    each : (c : ℕ) → c < length (slice_set hs cell h) → HasNoted columns starts (accesses_to c (take (k + 1) accesses)) (history_at (slice_set hs cell h) c)
+    each : (c : ℕ) → c < length (slice_set hs cell h) → HasNoted columns starts (accesses_to c (take (k + 1) accesses))
+        (history_at (slice_set hs cell h) c)
     each c l =
         let within : c < length hs = (let count = set_count hs cell h in omega (arith, l, count)) in
         elim (cases_lt c cell) [

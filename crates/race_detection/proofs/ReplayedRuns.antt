@@ -1,5 +1,6 @@
 -- What a replay gives of a run: its lists, and the marks of its instances.
-use Rattle.std.proofs.Common.{◌≡◌, ◌∙◌, ◌↔◌, ◌<◌, ◌==◌, ◌&&◌, ℕ, suc, Bool, true, false, All, List, [], ◌∷◌, get_or, if◌then◌else◌, refl, length, ap, sym, subst, arith}
+use Rattle.std.proofs.Common.{◌≡◌, ◌∙◌, ◌↔◌, ◌<◌, ◌==◌, ◌&&◌, ℕ, suc, Bool, true, false, All, List, [], ◌∷◌, get_or, if◌then◌else◌, refl}
+use Rattle.std.proofs.Common.{length, ap, sym, subst, arith}
 use Rattle.std.proofs.lemmas.Bool.Decides.{nat_tests}
 use Rattle.std.proofs.lemmas.List.{get_or-map, length-map}
 use Rattle.order_2d.specs.declared.replay.Replayed.{Replayed}
@@ -36,8 +37,10 @@ start_found (y ∷ ys) x started = start_by y ys x ((y.iteration == x.iteration)
 
 -- the marks of the starts are in order
 marks_at_start : (columns : List (List Node)) (starts nodes : List NodeId) (m : ℕ) (d : Marks) → m < length nodes
-    → get_or (marks_of_starts columns starts nodes) m d ≡ instance_marks columns starts (start_at nodes m).iteration (start_at nodes m).index
-marks_at_start columns starts nodes m d w = get_or-map (λ (x : NodeId). instance_marks columns starts x.iteration x.index) nodes m (at 0 0) d w
+    → get_or (marks_of_starts columns starts nodes) m d ≡ instance_marks columns starts (start_at nodes m).iteration
+    (start_at nodes m).index
+marks_at_start columns starts nodes m d w = get_or-map (λ (x : NodeId). instance_marks columns starts x.iteration x.index) nodes m
+    (at 0 0) d w
 
 -- the elements of each instance are in the lists
 placed_instance : (columns : List (List Node)) (starts : List NodeId) (marks : List Marks) (down right : List ℕ)
@@ -47,7 +50,8 @@ placed_instance columns starts marks down right same all x started =
     let m = start_number starts x.iteration x.index in
     let found : start_at starts m ≡ x = start_found starts x started in
     let d = instance_marks columns starts 0 0 in
-    let count : length (marks_of_starts columns starts starts) ≡ length starts = length-map starts (λ (y : NodeId). instance_marks columns starts y.iteration y.index) in
+    let count : length (marks_of_starts columns starts starts) ≡ length starts = length-map starts
+    (λ (y : NodeId). instance_marks columns starts y.iteration y.index) in
     let here = subst (All (AreIn down right)) same all m d (omega (arith, started, count)) in
     subst (λ (y : NodeId). AreIn down right (instance_marks columns starts y.iteration y.index)) found
     (subst (AreIn down right) (marks_at_start columns starts starts m d started) here)

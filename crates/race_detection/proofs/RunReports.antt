@@ -1,5 +1,6 @@
 -- The control part of a run has the columns and the starts of the run, so its histories have the reports of the run.
-use Rattle.std.proofs.Common.{◌≡◌, ◌∙◌, ℕ, Bool, true, false, List, [], ◌∷◌, ◌++◌, ap, sym, refl, append-nil, append_assoc, length, if◌then◌else◌}
+use Rattle.std.proofs.Common.{◌≡◌, ◌∙◌, ℕ, Bool, true, false, List, [], ◌∷◌, ◌++◌, ap, sym, refl, append-nil, append_assoc, length}
+use Rattle.std.proofs.Common.{if◌then◌else◌}
 use Rattle.order_2d.proofs.EventsSoFar.{without-append}
 use Rattle.order_2d.specs.LogStarts.{IsControlLog, log_columns, log_starts}
 use Rattle.pipe_model.specs.declared.event.Event.{Event}
@@ -25,12 +26,14 @@ control_log p limit events s r = record { limit = limit; run = (runs_have_contro
 
 -- the control part has the run's columns
 columns_of_run : (p : Pipeline) (limit : ℕ) (events : List Event) (s : State) → Run p limit events s → log_columns events ≡ own_columns s
-columns_of_run p limit events s r = sym (control_goes_by_outlines limit s (control_after events) (runs_have_control_runs p limit events s r).same).columns
+columns_of_run p limit events s r = sym (control_goes_by_outlines limit s (control_after events)
+    (runs_have_control_runs p limit events s r).same).columns
 
 -- ---- the starts
 
 -- one more event at the end
-starts_with : (s : State) (events : List Event) (e : Event) → starts_from s (events ++ e ∷ []) ≡ starts_from s events ++ started_by (state_from s events) e
+starts_with : (s : State) (events : List Event) (e : Event) → starts_from s (events ++ e ∷ []) ≡ starts_from s events ++ started_by
+    (state_from s events) e
 starts_with s [] e = append-nil (started_by s e)
 starts_with s (x ∷ xs) e =
     ap (λ l. started_by s x ++ l) (starts_with (next_state s x) xs e)
@@ -59,12 +62,14 @@ one_more_start : (p : Pipeline) (limit : ℕ) (events : List Event) (s : State) 
     → starts_of (without_accesses (events ++ e ∷ [])) ≡ starts_of events ++ started_by s e
 one_more_start p limit events s e r before true t =
     let log : without_accesses (events ++ e ∷ []) ≡ without_accesses events =
-    without-append events (e ∷ []) ∙ ap (λ b. without_accesses events ++ (if b then [] else e ∷ [])) t ∙ append-nil (without_accesses events) in
+    without-append events (e ∷ []) ∙ ap (λ b. without_accesses events ++ (if b then [] else e ∷ [])) t
+    ∙ append-nil (without_accesses events) in
     ap starts_of log ∙ before ∙ sym (append-nil (starts_of events)) ∙ ap (λ l. starts_of events ++ l) (sym (access_starts_none s e t))
 one_more_start p limit events s e r before false t =
     let log : without_accesses (events ++ e ∷ []) ≡ without_accesses events ++ e ∷ [] =
     without-append events (e ∷ []) ∙ ap (λ b. without_accesses events ++ (if b then [] else e ∷ [])) t in
-    let state : state_from initial_state (without_accesses events) ≡ control_after events = sym (control_skips_accesses initial_state events) in
+    let state : state_from initial_state (without_accesses events) ≡ control_after events =
+    sym (control_skips_accesses initial_state events) in
     let columns : own_columns (state_from initial_state (without_accesses events)) ≡ own_columns s =
     ap own_columns state ∙ columns_of_run p limit events s r in
     ap starts_of log ∙ starts_with initial_state (without_accesses events) e

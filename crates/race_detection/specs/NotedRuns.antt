@@ -46,7 +46,8 @@ abbrev pub history_at : List History → ℕ → History
 history_at histories c = slice_index_or histories c nothing_kept
 
 -- each history has noted the accesses to its cell
-pub record HaveNoted (columns : List (List Node)) (starts : List NodeId) (accesses : List NodeAccess) (histories : List History) : Type 0 where
+pub record HaveNoted (columns : List (List Node)) (starts : List NodeId) (accesses : List NodeAccess)
+    (histories : List History) : Type 0 where
   pub each : (c : ℕ) → c < length histories → HasNoted columns starts (accesses_to c accesses) (history_at histories c)
 
 -- the histories of cells that were not accessed

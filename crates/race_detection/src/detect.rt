@@ -82,7 +82,8 @@ pub fn detect(alloc: Global, run_log: &RunLog, accesses: &NodeAccesses) -> Resul
     requires own { IsOwnLog run_log.now }
     requires few { length (log_starts run_log.now.events) ≤ MOST_STARTS }
     requires inside { All (λ (a : PlainAccess). IsNodeOf (log_columns run_log.now.events) a.node) accesses.now }
-    ensures { IfOk result (λ reports. reports ≡ found_reports (log_columns run_log.now.events) (log_starts run_log.now.events) accesses.now) }
+    ensures { IfOk result (λ reports. reports ≡ found_reports (log_columns run_log.now.events)
+        (log_starts run_log.now.events) accesses.now) }
 {
     let run = StartedRun {
         columns: &run_log.columns,

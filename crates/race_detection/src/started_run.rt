@@ -37,9 +37,11 @@ fn started_node(run: &StartedRun<'_>, node: NodeId) -> StartedNode
 pub(crate) fn note(run: &StartedRun<'_>, history: &mut History, access: NodeAccess)
     requires run { IsReplayOf (nodes_of_columns run.now.columns.now) run.now.replayed }
     requires inside { IsNodeOf (nodes_of_columns run.now.columns.now) access.node }
-    requires noted { (accesses : List NotedAccess) × HasNoted (nodes_of_columns run.now.columns.now) run.now.replayed.nodes accesses history.old }
+    requires noted { (accesses : List NotedAccess) × HasNoted (nodes_of_columns run.now.columns.now) run.now.replayed.nodes accesses
+        history.old }
     ensures { (accesses : List NotedAccess) → HasNoted (nodes_of_columns run.now.columns.now) run.now.replayed.nodes accesses history.old
-        → HasNoted (nodes_of_columns run.now.columns.now) run.now.replayed.nodes (accesses ++ noted_access access.node access.access.kind ∷ []) history.new }
+        → HasNoted (nodes_of_columns run.now.columns.now) run.now.replayed.nodes
+        (accesses ++ noted_access access.node access.access.kind ∷ []) history.new }
 {
     let started = started_node(run, access.node);
     let who = Who {

@@ -9,10 +9,12 @@ use Rattle.race_report.specs.CellNames.{declared_name, element_name}
 
 -- the name of a cell of declaration i, or of a later one
 pub name_step : (ds : List Declaration) (i k : ℕ) (d : Declaration) → i < length ds → d ≡ get_or ds i d
-    → declared_name (drop i ds) k ≡ cond (ltb k (declared_size d.size)) (element_name d k) (declared_name (drop (i + 1) ds) (k - declared_size d.size))
+    → declared_name (drop i ds) k ≡ cond (ltb k (declared_size d.size)) (element_name d k)
+    (declared_name (drop (i + 1) ds) (k - declared_size d.size))
 name_step ds i k d h e =
     at_drop_more (λ more. declared_name more k) ds i d h
-    ∙ ap (λ (m : Declaration). cond (ltb k (declared_size m.size)) (element_name m k) (declared_name (drop (i + 1) ds) (k - declared_size m.size))) (sym e)
+    ∙ ap (λ (m : Declaration). cond (ltb k (declared_size m.size)) (element_name m k)
+    (declared_name (drop (i + 1) ds) (k - declared_size m.size))) (sym e)
 
 -- a text with the line of a race appended, from its parts
 pub line_by_parts : (name : ℕ → List ℕ) (r : Report) (before start named once twice end : List ℕ) → start ≡ before ++ codes "race "

@@ -1,5 +1,6 @@
 -- From what was followed to the answer.
-use Rattle.std.proofs.Common.{◌≡◌, ◌≢◌, ◌∙◌, ap, sym, subst, refl, arith, inl, inr, ℕ, ◌+◌, ◌<◌, ◌≤◌, List, [], ◌∷◌, ◌++◌, Bool, true, false, length, take, get_or, nat_lt}
+use Rattle.std.proofs.Common.{◌≡◌, ◌≢◌, ◌∙◌, ap, sym, subst, refl, arith, inl, inr, ℕ, ◌+◌, ◌<◌, ◌≤◌, List, [], ◌∷◌, ◌++◌, Bool, true}
+use Rattle.std.proofs.Common.{false, length, take, get_or, nat_lt}
 use Rattle.std.specs.Prelude.{◌↔◌, IsTrue, All}
 use Rattle.std.proofs.lemmas.Bool.{cases_lt}
 use Rattle.std.proofs.lemmas.List.{get_or-take, length-take-le, take-take, take_all, take_more}
@@ -34,12 +35,15 @@ use Rattle.record_check.proofs.NextEvents.{last_allowed}
 after_stop : (events : List Event) → state_after (events ++ Stop ∷ []) ≡ next_state (state_after events) Stop
 after_stop events = state_from-push initial_state events Stop
 
-pub stop_run : (p : Pipeline) (limit : ℕ) (events : List Event) → Run p limit events (state_after events) → (state_after events).stopped ≡ false
+pub stop_run : (p : Pipeline) (limit : ℕ) (events : List Event) → Run p limit events (state_after events)
+    → (state_after events).stopped ≡ false
     → Run p limit (events ++ Stop ∷ []) (state_after (events ++ Stop ∷ []))
 stop_run p limit events r going =
-    subst (Run p limit (events ++ Stop ∷ [])) (sym (after_stop events)) (RunThen r Stop (record { going = going; control = tt; program = tt }))
+    subst (Run p limit (events ++ Stop ∷ [])) (sym (after_stop events))
+    (RunThen r Stop (record { going = going; control = tt; program = tt }))
 
-pub with_stop_run : (p : Pipeline) (limit : ℕ) (events : List Event) (b : Bool) → Run p limit events (state_after events) → (state_after events).stopped ≡ false
+pub with_stop_run : (p : Pipeline) (limit : ℕ) (events : List Event) (b : Bool) → Run p limit events (state_after events)
+    → (state_after events).stopped ≡ false
     → Run p limit (with_stop b events) (state_after (with_stop b events))
 with_stop_run p limit events true r going = stop_run p limit events r going
 with_stop_run p limit events false r going = r
@@ -48,7 +52,8 @@ pub with_stop_accesses : (events : List Event) (b : Bool) → accesses_after (wi
 with_stop_accesses events true = ap (λ (s : State). s.accesses) (after_stop events)
 with_stop_accesses events false = refl
 
-pub with_stop_kind : (events : List Event) (b finished : Bool) → (state_after events).stopped ≡ false → IsTrue finished ↔ IsFinished (state_after events)
+pub with_stop_kind : (events : List Event) (b finished : Bool) → (state_after events).stopped ≡ false
+    → IsTrue finished ↔ IsFinished (state_after events)
     → IsKindOf (state_after (with_stop b events)) (kind_of b finished)
 with_stop_kind events true finished going h = ap (λ (s : State). s.stopped) (after_stop events)
 with_stop_kind events false true going h = h.0 refl
@@ -81,7 +86,8 @@ refused_before p limit events going n k first are l h =
 
 -- the event after a stop is not allowed
 pub refused_after : (p : Pipeline) (limit : ℕ) (events : List Event) (n : ℕ) → IsFirstStop events n → n + 1 < length events
-    → Run p limit (take n events) (state_after (take n events)) → (state_after (take n events)).stopped ≡ false → IsNotAllowed p limit events (n + 1)
+    → Run p limit (take n events) (state_after (take n events)) → (state_after (take n events)).stopped ≡ false
+    → IsNotAllowed p limit events (n + 1)
 refused_after p limit events n first l r going =
     let stops : take (n + 1) events ≡ take n events ++ Stop ∷ [] =
     take_more events n Stop (omega (arith, l)) ∙ ap (λ e. take n events ++ e ∷ []) (first.stops Stop (omega (arith, l))) in
@@ -119,10 +125,12 @@ pub record_detectable : (tree : SyntaxTree) (input : List ℤ) (limit : ℕ) (es
     → IsDetectable columns all accesses
 record_detectable tree input limit es all b columns accesses accepted r going are made same =
     detectable tree input limit all columns accesses accepted
-    (subst (λ l. Run (pipeline_after_init tree input) limit l (state_after l)) (sym are) (with_stop_run (pipeline_after_init tree input) limit es b r going))
+    (subst (λ l. Run (pipeline_after_init tree input) limit l (state_after l)) (sym are)
+    (with_stop_run (pipeline_after_init tree input) limit es b r going))
     made (same ∙ sym (with_stop_accesses es b) ∙ ap accesses_after (sym are))
 
-pub checked_run : (p : Pipeline) (limit : ℕ) (es all : List Event) (b finished : Bool) (columns : List Column) (accesses : List NodeAccess) (reports : List Report)
+pub checked_run : (p : Pipeline) (limit : ℕ) (es all : List Event) (b finished : Bool) (columns : List Column) (accesses : List NodeAccess)
+    (reports : List Report)
     (kind : RunKind) → Run p limit es (state_after es) → (state_after es).stopped ≡ false → IsTrue finished ↔ IsFinished (state_after es)
     → all ≡ with_stop b es → accesses ≡ (state_after es).accesses → IsDetectable columns all accesses
     → reports ≡ found_reports (log_columns all) (log_starts all) accesses → kind ≡ kind_of b finished
@@ -149,7 +157,8 @@ checked_run p limit es all b finished columns accesses reports kind r going ends
     by_found = found ∙ can.found ∙ ap (found_reports (columns_after all) (starts_of all)) accessed
 
 -- all events before the stop were followed
-pub all_followed : (p : Pipeline) (limit : ℕ) (events : List Event) (n k : ℕ) → IsFirstStop events n → n ≤ k → HasFollowed p limit (take n events) k
+pub all_followed : (p : Pipeline) (limit : ℕ) (events : List Event) (n k : ℕ) → IsFirstStop events n → n ≤ k
+    → HasFollowed p limit (take n events) k
     → (k ≡ length (take n events)) × Run p limit (take n events) (state_after (take n events))
 all_followed p limit events n k first l h =
     let within = h.within in

@@ -1,5 +1,6 @@
 -- An event that is allowed is the event of its turn.
-use Rattle.std.proofs.Common.{◌≡◌, ◌≢◌, ◌∙◌, ap, sym, subst, refl, arith, inl, inr, ℕ, ◌+◌, ◌<◌, ◌≤◌, List, [], ◌∷◌, ◌++◌, Bool, true, false, Option, Some, None, length, take, get_or}
+use Rattle.std.proofs.Common.{◌≡◌, ◌≢◌, ◌∙◌, ap, sym, subst, refl, arith, inl, inr, ℕ, ◌+◌, ◌<◌, ◌≤◌, List, [], ◌∷◌, ◌++◌, Bool, true}
+use Rattle.std.proofs.Common.{false, Option, Some, None, length, take, get_or}
 use Rattle.std.proofs.lemmas.List.{get_or_push, length-append, length-take-le, take_more}
 use Rattle.pipe_model.specs.declared.event.Event.{Event}
 use Rattle.pipe_model.specs.declared.event.Event.TheVariants.{Begin, Enter, Stop}
@@ -24,13 +25,15 @@ use Rattle.pipe_model.specs.Language.SyntaxTree.{tree_of}
 use Rattle.schedule_play.specs.PlayStates.{IsPlay, KeepsProgram, PlayState, pipeline_played, run_state}
 use Rattle.record_check.specs.FollowedEvents.{HasFollowed, turn_for}
 
-turn_of_behaviour : (p : Pipeline) (before : List Cell_access) (i : ℕ) (d : Behaviour) → turn_for (event_of_behaviour p before i d) ≡ turns.Next i
+turn_of_behaviour : (p : Pipeline) (before : List Cell_access) (i : ℕ) (d : Behaviour) → turn_for
+    (event_of_behaviour p before i d) ≡ turns.Next i
 turn_of_behaviour p before i (Reading c go) = refl
 turn_of_behaviour p before i (Writing c v d) = refl
 turn_of_behaviour p before i (Staging k n d) = refl
 turn_of_behaviour p before i (Ending e) = refl
 
-turn_of_status : (p : Pipeline) (s : State) (i : ℕ) (w : Status) (t : List Action) (e : Event) → event_of_status p s i w t ≡ Some e → turn_for e ≡ turns.Next i
+turn_of_status : (p : Pipeline) (s : State) (i : ℕ) (w : Status) (t : List Action) (e : Event) → event_of_status p s i w t ≡ Some e
+    → turn_for e ≡ turns.Next i
 turn_of_status p s i Running t e q =
     let d = behaviour_after_all (p.behaviour i) t in
     let same : event_of_behaviour p (p.preamble ++ accesses_of s.accesses) i d ≡ e = cc in
@@ -42,7 +45,8 @@ turn_of_status p s i (Pending k n) t e q = by (may_enter s.frames i k n) q
     by false q = absurd (cc)
 turn_of_status p s i (Completed x) t e q = absurd (cc)
 
-turn_of_next : (p : Pipeline) (s : State) (i : ℕ) (o : Option Frame) (e : Event) → event_of_frame p s i o ≡ Some e → turn_for e ≡ turns.Next i
+turn_of_next : (p : Pipeline) (s : State) (i : ℕ) (o : Option Frame) (e : Event) → event_of_frame p s i o ≡ Some e
+    → turn_for e ≡ turns.Next i
 turn_of_next p s i None e q = absurd (cc)
 turn_of_next p s i (Some f) e q = turn_of_status p s i f.status f.trace e q
 
@@ -59,15 +63,18 @@ allowed_in_turn p limit s e apart h = elim (allowed_is_next p limit s e apart h)
 ]
 
 -- the last event of a run is allowed after the others
-last_allowed_from : (p : Pipeline) (limit : ℕ) (s : State) (es : List Event) (e : Event) → AllowedFrom p limit s (es ++ e ∷ []) → Allowed p limit (state_from s es) e
+last_allowed_from : (p : Pipeline) (limit : ℕ) (s : State) (es : List Event) (e : Event) → AllowedFrom p limit s (es ++ e ∷ [])
+    → Allowed p limit (state_from s es) e
 last_allowed_from p limit s [] e g = g.0
 last_allowed_from p limit s (x ∷ es) e g = last_allowed_from p limit (next_state s x) es e g.1
 
-pub last_allowed : (p : Pipeline) (limit : ℕ) (es : List Event) (e : Event) (s : State) → Run p limit (es ++ e ∷ []) s → Allowed p limit (state_after es) e
+pub last_allowed : (p : Pipeline) (limit : ℕ) (es : List Event) (e : Event) (s : State) → Run p limit (es ++ e ∷ []) s
+    → Allowed p limit (state_after es) e
 last_allowed p limit es e s r = last_allowed_from p limit initial_state es e ((runs_from_the_front p limit (es ++ e ∷ []) s).0 r).0
 
 -- a run goes on only with the event of a turn
-pub refused_at : (p : Pipeline) (limit : ℕ) (events : List Event) (k : ℕ) (e d : Event) → k < length events → e ≡ get_or events k d → e ≢ Stop
+pub refused_at : (p : Pipeline) (limit : ℕ) (events : List Event) (k : ℕ) (e d : Event) → k < length events → e ≡ get_or events k d
+    → e ≢ Stop
     → (turn_event p limit (state_after (take k events)) (turn_for e) ≡ Some e → ⊥)
     → (s : State) → Run p limit (take (k + 1) events) s → ⊥
 refused_at p limit events k e d l is apart never s r =

@@ -23,12 +23,14 @@ both_ways : {b : Bool} → b ≡ true → b ≡ false → ⊥
 both_ways t f = let z : true ≡ false = sym t ∙ f in cc
 
 -- a run of a program whose `init` did not trap is one of its loop
-loop_run : {w : WholeProgram} {limit : ℕ} {es : List Event} {s : State} → ProgramRun w limit es s → is_some (init_trap w) ≡ false → Run (loop_after_init w) limit es s
+loop_run : {w : WholeProgram} {limit : ℕ} {es : List Event} {s : State} → ProgramRun w limit es s → is_some (init_trap w) ≡ false
+    → Run (loop_after_init w) limit es s
 loop_run (NoLoop trap_is) none = absurd (both_ways trap_is none)
 loop_run (OfLoop none r) f = r
 
 -- after a trap of `init` there are no events
-pub no_events : {w : WholeProgram} {limit : ℕ} {es : List Event} {s : State} → ProgramRun w limit es s → is_some (init_trap w) ≡ true → length es ≡ 0
+pub no_events : {w : WholeProgram} {limit : ℕ} {es : List Event} {s : State} → ProgramRun w limit es s → is_some (init_trap w) ≡ true
+    → length es ≡ 0
 no_events (NoLoop trap_is) t = refl
 no_events (OfLoop none r) t = absurd (both_ways t none)
 
@@ -58,7 +60,8 @@ program_answer w none (IsNoRun k h) = IsNoProgramRun k (record {
 })
 
 -- `init` trapped, and there are no events
-pub empty_answer : (w : WholeProgram) (limit : ℕ) (events own : List Event) (columns : List Column) (reports : List Report) → is_some (init_trap w) ≡ true
+pub empty_answer : (w : WholeProgram) (limit : ℕ) (events own : List Event) (columns : List Column) (reports : List Report)
+    → is_some (init_trap w) ≡ true
     → events ≡ [] → own ≡ [] → columns ≡ [] → reports ≡ []
     → IsRecordAnswer w limit events (answers.Run Finished (record { columns = columns; events = own }) reports)
 empty_answer w limit events own columns reports trapped none e c r =

@@ -1,5 +1,6 @@
 -- The answers exclude one another.
-use Rattle.std.proofs.Common.{◌≡◌, ◌∙◌, ap, ap₂, sym, subst, refl, arith, inl, inr, ℕ, ◌+◌, ◌<◌, ◌≤◌, List, [], ◌∷◌, ◌++◌, Bool, true, false, length, take, drop}
+use Rattle.std.proofs.Common.{◌≡◌, ◌∙◌, ap, ap₂, sym, subst, refl, arith, inl, inr, ℕ, ◌+◌, ◌<◌, ◌≤◌, List, [], ◌∷◌, ◌++◌, Bool, true}
+use Rattle.std.proofs.Common.{false, length, take, drop}
 use Rattle.std.specs.Prelude.{is_some}
 use Rattle.std.proofs.lemmas.Bool.{cases_lt}
 use Rattle.std.proofs.lemmas.List.{nil_from_length, take-append-drop, take-take, take_all}
@@ -45,7 +46,8 @@ runs_are_not_refused w limit events s k r h =
     no_longer_run w limit events k (length events) s h h.within
     (subst (λ es. ProgramRun w limit es s) (sym (take_all (length events) events (omega arith))) r)
 
-one_index : (w : WholeProgram) (limit : ℕ) (events : List Event) (k n : ℕ) → IsRefusedRecord w limit events k → IsRefusedRecord w limit events n → k ≡ n
+one_index : (w : WholeProgram) (limit : ℕ) (events : List Event) (k n : ℕ) → IsRefusedRecord w limit events k
+    → IsRefusedRecord w limit events n → k ≡ n
 one_index w limit events k n h g = elim (cases_lt k n) [
   | inl less ↦ absurd (no_longer_run w limit events k n (state_after (take n events)) h less g.run)
   | inr past ↦ elim (cases_lt n k) [
@@ -57,7 +59,8 @@ one_index w limit events k n h g = elim (cases_lt k n) [
 -- ---- kinds
 
 -- a run is not stopped if `init` trapped
-going_after_trap : (w : WholeProgram) (limit : ℕ) (events : List Event) → ProgramRun w limit events (state_after events) → is_some (init_trap w) ≡ true
+going_after_trap : (w : WholeProgram) (limit : ℕ) (events : List Event) → ProgramRun w limit events (state_after events)
+    → is_some (init_trap w) ≡ true
     → (state_after events).stopped ≡ false
 going_after_trap w limit events r trapped =
     subst (λ es. (state_after es).stopped ≡ false) (sym (nil_from_length events (no_events r trapped))) refl
@@ -88,7 +91,8 @@ one_log : (a b : RunLog) → a.columns ≡ b.columns → a.events ≡ b.events �
 one_log a b c e = ap₂ (λ (cs : List Column) (es : List Event). record { columns = cs; events = es }) c e
 
 one_run : (w : WholeProgram) (limit : ℕ) (events : List Event) (kind kind' : RunKind) (log log' : RunLog) (reports reports' : List Report)
-    → IsCheckedRecord w limit events kind log reports → IsCheckedRecord w limit events kind' log' reports' → answers.Run kind log reports ≡ answers.Run kind' log' reports'
+    → IsCheckedRecord w limit events kind log reports → IsCheckedRecord w limit events kind' log' reports'
+    → answers.Run kind log reports ≡ answers.Run kind' log' reports'
 one_run w limit events kind kind' log log' reports reports' h g =
     let kinds : kind ≡ kind' = one_kind w limit events kind kind' h.run h.reached g.reached in
     let logs : log ≡ log' = one_log log log' (h.own ∙ sym g.own) (h.same ∙ sym g.same) in
@@ -102,4 +106,5 @@ records_have_one_answer w limit events answer other (IsProgramRun kind log repor
     absurd (runs_are_not_refused w limit events (state_after events) k h.run g)
 records_have_one_answer w limit events answer other (IsNoProgramRun k h) (IsProgramRun kind log reports g) =
     absurd (runs_are_not_refused w limit events (state_after events) k g.run h)
-records_have_one_answer w limit events answer other (IsNoProgramRun k h) (IsNoProgramRun n g) = ap answers.NotAllowed (one_index w limit events k n h g)
+records_have_one_answer w limit events answer other (IsNoProgramRun k h) (IsNoProgramRun n g) =
+    ap answers.NotAllowed (one_index w limit events k n h g)

@@ -16,4 +16,5 @@ RecordsHaveOneAnswer =
 -- no event of a run is refused
 abbrev pub RunsAreNotRefused : Type 0
 RunsAreNotRefused =
-    (w : WholeProgram) (limit : ℕ) (events : List Event) (s : State) (k : ℕ) → ProgramRun w limit events s → IsRefusedRecord w limit events k → ⊥
+    (w : WholeProgram) (limit : ℕ) (events : List Event) (s : State) (k : ℕ) → ProgramRun w limit events s
+    → IsRefusedRecord w limit events k → ⊥

@@ -27,7 +27,8 @@ use std::alloc::Global;
 
 // The answer if `init` trapped: the empty list is the only run.
 fn end_after_init(alloc: Global, events: &Events) -> RecordAnswer
-    ensures { (w : whole_programs.WholeProgram) (limit : ℕ) → is_some (whole_programs.init_trap w) ≡ true → IsRecordAnswer w limit events.now result }
+    ensures { (w : whole_programs.WholeProgram) (limit : ℕ) → is_some (whole_programs.init_trap w) ≡ true
+        → IsRecordAnswer w limit events.now result }
 {
     if events.is_empty() {
         let columns = Columns::new(alloc);

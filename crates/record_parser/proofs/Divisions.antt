@@ -54,8 +54,10 @@ free_append b (x ∷ xs) ys f g = free_cons b x (xs ++ ys) (free_head b x xs f) 
 pub never_divided : (b : ℕ) (bytes xs ys : List ℕ) → IsFreeOf b bytes → bytes ≡ xs ++ b ∷ ys → ⊥
 never_divided b bytes xs ys f e = not_free b xs ys (subst (IsFreeOf b) e f)
 
-pub at_first : (b : ℕ) (bytes first rest xs ys : List ℕ) → bytes ≡ first ++ b ∷ rest → IsFreeOf b first → bytes ≡ xs ++ b ∷ ys → IsFreeOf b xs → (first ≡ xs) × (rest ≡ ys)
+pub at_first : (b : ℕ) (bytes first rest xs ys : List ℕ) → bytes ≡ first ++ b ∷ rest → IsFreeOf b first → bytes ≡ xs ++ b ∷ ys
+    → IsFreeOf b xs → (first ≡ xs) × (rest ≡ ys)
 at_first b bytes first rest xs ys e f g h = one_first b first xs rest ys f h (sym e ∙ g)
 
-pub at_last : (b : ℕ) (bytes rest last xs ys : List ℕ) → bytes ≡ rest ++ b ∷ last → IsFreeOf b last → bytes ≡ xs ++ b ∷ ys → IsFreeOf b ys → (rest ≡ xs) × (last ≡ ys)
+pub at_last : (b : ℕ) (bytes rest last xs ys : List ℕ) → bytes ≡ rest ++ b ∷ last → IsFreeOf b last → bytes ≡ xs ++ b ∷ ys → IsFreeOf b ys
+    → (rest ≡ xs) × (last ≡ ys)
 at_last b bytes rest last xs ys e f g h = one_last b rest xs last ys f h (sym e ∙ g)

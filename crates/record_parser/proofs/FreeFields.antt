@@ -1,5 +1,6 @@
 -- Fields have no space in them, so a text is divided at its spaces in one way.
-use Rattle.std.proofs.Common.{◌≡◌, ◌≢◌, ◌∙◌, ap, sym, subst, refl, arith, ℕ, ℤ, pos, negsuc, suc, ◌<◌, ◌^◌, List, [], ◌∷◌, ◌++◌, Bool, true, false, FitsSigned}
+use Rattle.std.proofs.Common.{◌≡◌, ◌≢◌, ◌∙◌, ap, sym, subst, refl, arith, ℕ, ℤ, pos, negsuc, suc, ◌<◌, ◌^◌, List, [], ◌∷◌, ◌++◌, Bool, true}
+use Rattle.std.proofs.Common.{false, FitsSigned}
 use Rattle.std.specs.Prelude.{◌==◌, ◌&&◌, not}
 use Rattle.std.specs.Fmt.{decimal, signed_decimal}
 use Rattle.std.specs.Int.{IsInRange}
@@ -29,7 +30,8 @@ use Rattle.record_parser.proofs.PlainDecimals.{own}
 -- a test by computation
 pub free_by_test : (b : ℕ) (xs : List ℕ) → list_all (λ x. not (x == b)) xs ≡ true → IsFreeOf b xs
 free_by_test b [] e = λ k d l. absurd (omega (arith, l))
-free_by_test b (x ∷ xs) e = free_cons b x xs (λ same. (let z : (x == b) ≡ true = grind (arith, same) in absurd (by (x == b) z e))) (free_by_test b xs (rest (not (x == b)) e))
+free_by_test b (x ∷ xs) e = free_cons b x xs (λ same. (let z : (x == b) ≡ true = grind (arith, same) in absurd (by (x == b) z e)))
+    (free_by_test b xs (rest (not (x == b)) e))
   where
     by : (t : Bool) → t ≡ true → (not t && list_all (λ x. not (x == b)) xs) ≡ true → ⊥
     by true z f = absurd (cc)
@@ -87,14 +89,16 @@ trap_free b t other = free_by is_letter b (trap_name t) other (trap_letters t)
 -- ---- numbers
 
 pub decimal_free : (b n : ℕ) → n < 2 ^ 64 → (IsInRange 48 57 b → ⊥) → IsFreeOf b (decimal n)
-decimal_free b n small out = λ k d l. subst (λ x. x ≢ b) (get_or_default (decimal n) k 0 d l) (not_in_digits own (decimal n) b (digits_decimal own n small) out k l)
+decimal_free b n small out = λ k d l. subst (λ x. x ≢ b) (get_or_default (decimal n) k 0 d l)
+    (not_in_digits own (decimal n) b (digits_decimal own n small) out k l)
 
 pub iteration_free : (b i : ℕ) → IsIteration i → (IsInRange 48 57 b → ⊥) → IsFreeOf b (decimal i)
 iteration_free b i h out = decimal_free b i (omega (arith, h)) out
 
 pub signed_free : (b : ℕ) (z : ℤ) → FitsSigned w64 z → (IsInRange 48 57 b → ⊥) → 45 ≢ b → IsFreeOf b (signed_decimal z)
 signed_free b (pos n) fits out apart = decimal_free b n (let small = fits.sfits in omega (arith, small)) out
-signed_free b (negsuc n) fits out apart = free_cons b 45 (decimal (suc n)) apart (decimal_free b (suc n) (let small = fits.sfits in omega (arith, small)) out)
+signed_free b (negsuc n) fits out apart = free_cons b 45 (decimal (suc n)) apart
+    (decimal_free b (suc n) (let small = fits.sfits in omega (arith, small)) out)
 
 pub no_digit : IsInRange 48 57 space → ⊥
 no_digit r = let low = r.0 in omega (arith, low)
@@ -117,4 +121,5 @@ pub one_access : (text before other : List ℕ) → EndsInAccess text before →
 one_access text before other h g =
     let parts = at_last space text (before ++ space ∷ kind_text h.kind) h.instance (other ++ space ∷ kind_text g.kind) g.instance
     h.is (instance_free h.instance h.is_instance) g.is (instance_free g.instance g.is_instance) in
-    (at_last space (before ++ space ∷ kind_text h.kind) before (kind_text h.kind) other (kind_text g.kind) refl (kind_free space h.kind refl) parts.0 (kind_free space g.kind refl)).0
+    (at_last space (before ++ space ∷ kind_text h.kind) before (kind_text h.kind) other (kind_text g.kind) refl
+    (kind_free space h.kind refl) parts.0 (kind_free space g.kind refl)).0

@@ -26,7 +26,8 @@ word_of bs =
     if bytes_eq bs (codes "begin") then words.Begin else (if bytes_eq bs (codes "enter") then words.Enter else (
     if bytes_eq bs (codes "end") then words.End else (if bytes_eq bs (codes "closed") then words.Closed else (
     if bytes_eq bs (codes "read") then words.Access kinds.Read else (if bytes_eq bs (codes "write") then words.Access kinds.Write else (
-    if bytes_eq bs (codes "wait") then words.Stage stages.Wait else (if bytes_eq bs (codes "continue") then words.Stage stages.Continue else words.Trap)))))))
+    if bytes_eq bs (codes "wait") then words.Stage stages.Wait
+    else (if bytes_eq bs (codes "continue") then words.Stage stages.Continue else words.Trap)))))))
 
 word_back : (w : LogWord) → word_of (word_text w) ≡ w
 word_back words.Begin = refl
@@ -44,7 +45,8 @@ one_word v w e = sym (word_back v) ∙ ap word_of e ∙ word_back w
 
 -- ---- from a word and fields to the line
 
-line_text : (word fields line rest : List ℕ) → line ≡ word ++ space ∷ fields → fields ++ line_feed ∷ [] ≡ rest → line ++ line_feed ∷ [] ≡ word ++ space ∷ rest
+line_text : (word fields line rest : List ℕ) → line ≡ word ++ space ∷ fields → fields ++ line_feed ∷ [] ≡ rest
+    → line ++ line_feed ∷ [] ≡ word ++ space ∷ rest
 line_text word fields line rest e f =
     ap (λ l. l ++ line_feed ∷ []) e ∙ append_assoc word (space ∷ fields) (line_feed ∷ []) ∙ ap (λ r. word ++ space ∷ r) f
 
@@ -53,33 +55,43 @@ two_fields : (first second : List ℕ) → (first ++ space ∷ second) ++ line_f
 two_fields first second = append_assoc first (space ∷ second) (line_feed ∷ [])
 
 -- three fields and a line feed
-three_fields : (first second third : List ℕ) → (first ++ space ∷ (second ++ space ∷ third)) ++ line_feed ∷ [] ≡ first ++ space ∷ (second ++ space ∷ (third ++ line_feed ∷ []))
+three_fields : (first second third : List ℕ) → (first ++ space ∷ (second ++ space ∷ third)) ++ line_feed ∷ [] ≡ first
+    ++ space ∷ (second ++ space ∷ (third ++ line_feed ∷ []))
 three_fields first second third = two_fields first (second ++ space ∷ third) ∙ ap (λ r. first ++ space ∷ r) (two_fields second third)
 
 with_feed : (fields text rest : List ℕ) → fields ≡ text → text ++ line_feed ∷ [] ≡ rest → fields ++ line_feed ∷ [] ≡ rest
 with_feed fields text rest e f = ap (λ l. l ++ line_feed ∷ []) e ∙ f
 
-pub line_of_fields : (cells : List Declaration) (fields line : List ℕ) (w : LogWord) (e : Event) → HasFields cells fields w e → line ≡ word_text w ++ space ∷ fields
+pub line_of_fields : (cells : List Declaration) (fields line : List ℕ) (w : LogWord) (e : Event) → HasFields cells fields w e
+    → line ≡ word_text w ++ space ∷ fields
     → IsLogLine cells line e
-line_of_fields cells fields line w e (Begins i r f) l = record { text = line_text (codes "begin") fields line _ l (with_feed fields (decimal i) _ f refl); ranges = r }
-line_of_fields cells fields line w e (Enters i r f) l = record { text = line_text (codes "enter") fields line _ l (with_feed fields (decimal i) _ f refl); ranges = r }
-line_of_fields cells fields line w e (Ends i r f) l = record { text = line_text (codes "end") fields line _ l (with_feed fields (decimal i) _ f refl); ranges = r }
-line_of_fields cells fields line w e (Closes i r f) l = record { text = line_text (codes "closed") fields line _ l (with_feed fields (decimal i) _ f refl); ranges = r }
+line_of_fields cells fields line w e (Begins i r f) l =
+    record { text = line_text (codes "begin") fields line _ l (with_feed fields (decimal i) _ f refl); ranges = r }
+line_of_fields cells fields line w e (Enters i r f) l =
+    record { text = line_text (codes "enter") fields line _ l (with_feed fields (decimal i) _ f refl); ranges = r }
+line_of_fields cells fields line w e (Ends i r f) l =
+    record { text = line_text (codes "end") fields line _ l (with_feed fields (decimal i) _ f refl); ranges = r }
+line_of_fields cells fields line w e (Closes i r f) l =
+    record { text = line_text (codes "closed") fields line _ l (with_feed fields (decimal i) _ f refl); ranges = r }
 line_of_fields cells fields line w e (Traps i t h) l = record {
-  text = line_text (codes "trap") fields line _ l (with_feed fields (decimal i ++ space ∷ trap_name t) _ h.1 (two_fields (decimal i) (trap_name t)));
+  text = line_text (codes "trap") fields line _ l (with_feed fields (decimal i ++ space ∷ trap_name t) _ h.1
+      (two_fields (decimal i) (trap_name t)));
   ranges = h.0;
 }
 line_of_fields cells fields line w e (Accesses kind i c v h) l = record {
-  text = line_text (kind_text kind) fields line _ l (with_feed fields (decimal i ++ space ∷ (cell_name cells c ++ space ∷ signed_decimal v)) _ h.1.1.1
+  text = line_text (kind_text kind) fields line _ l (with_feed fields
+      (decimal i ++ space ∷ (cell_name cells c ++ space ∷ signed_decimal v)) _ h.1.1.1
       (three_fields (decimal i) (cell_name cells c) (signed_decimal v)));
   ranges = (h.0, (h.1.0, h.1.1.0));
 }
 line_of_fields cells fields line w e (Advances stages.Wait i n h) l = record {
-  text = line_text (codes "wait") fields line _ l (with_feed fields (decimal i ++ space ∷ signed_decimal n) _ h.1.1 (two_fields (decimal i) (signed_decimal n)));
+  text = line_text (codes "wait") fields line _ l (with_feed fields (decimal i ++ space ∷ signed_decimal n) _ h.1.1
+      (two_fields (decimal i) (signed_decimal n)));
   ranges = (h.0, h.1.0);
 }
 line_of_fields cells fields line w e (Advances stages.Continue i n h) l = record {
-  text = line_text (codes "continue") fields line _ l (with_feed fields (decimal i ++ space ∷ signed_decimal n) _ h.1.1 (two_fields (decimal i) (signed_decimal n)));
+  text = line_text (codes "continue") fields line _ l
+      (with_feed fields (decimal i ++ space ∷ signed_decimal n) _ h.1.1 (two_fields (decimal i) (signed_decimal n)));
   ranges = (h.0, h.1.0);
 }
 
@@ -91,14 +103,17 @@ pub record Divided (cells : List Declaration) (line : List ℕ) (e : Event) : Ty
   pub text : line ≡ word_text word ++ space ∷ fields
   pub has : HasFields cells fields word e
 
-without_feed : (word fields line rest : List ℕ) → fields ++ line_feed ∷ [] ≡ rest → line ++ line_feed ∷ [] ≡ word ++ space ∷ rest → line ≡ word ++ space ∷ fields
+without_feed : (word fields line rest : List ℕ) → fields ++ line_feed ∷ [] ≡ rest → line ++ line_feed ∷ [] ≡ word ++ space ∷ rest
+    → line ≡ word ++ space ∷ fields
 without_feed word fields line rest f e =
-    append_cancel_right line (word ++ space ∷ fields) (line_feed ∷ []) (e ∙ sym (line_text word fields (word ++ space ∷ fields) rest refl f))
+    append_cancel_right line (word ++ space ∷ fields) (line_feed ∷ [])
+    (e ∙ sym (line_text word fields (word ++ space ∷ fields) rest refl f))
 
 no_line : (line : List ℕ) → line ++ line_feed ∷ [] ≡ [] → ⊥
 no_line line e = let a = ap length e in omega (arith, a, length-append line (line_feed ∷ []))
 
-pub divided : (cells : List Declaration) (line : List ℕ) (e : Event) → IsLogLine cells line e → ((e ≡ events.Stop) × (line ≡ codes "stop")) ⊎ Divided cells line e
+pub divided : (cells : List Declaration) (line : List ℕ) (e : Event) → IsLogLine cells line e
+    → ((e ≡ events.Stop) × (line ≡ codes "stop")) ⊎ Divided cells line e
 divided cells line (events.Begin i) h = inr (record {
   word = words.Begin;
   fields = decimal i;

@@ -1,5 +1,6 @@
 -- A line is the text of one event, and of no outcome.
-use Rattle.std.proofs.Common.{◌≡◌, ◌∙◌, ap, ap₂, sym, subst, refl, arith, inl, inr, ℕ, ℤ, ◌<◌, List, ◌∷◌, ◌++◌, true, FitsSigned, length, get_or, if◌then◌else◌}
+use Rattle.std.proofs.Common.{◌≡◌, ◌∙◌, ap, ap₂, sym, subst, refl, arith, inl, inr, ℕ, ℤ, ◌<◌, List, ◌∷◌, ◌++◌, true, FitsSigned, length}
+use Rattle.std.proofs.Common.{get_or, if◌then◌else◌}
 use Rattle.std.specs.Prelude.{codes}
 use Rattle.std.specs.Fmt.{decimal, signed_decimal}
 use Rattle.std.specs.Str.{bytes_eq}
@@ -40,7 +41,8 @@ one_iteration i j h g e =
     sym a ∙ ap number_of e ∙ b
 
 one_number : (m n : ℤ) → FitsSigned w64 m → FitsSigned w64 n → signed_decimal m ≡ signed_decimal n → m ≡ n
-one_number m n f g e = signed_decimal_injective m n (let small = f.sfits in omega (arith, small)) (let small = g.sfits in omega (arith, small)) e
+one_number m n f g e = signed_decimal_injective m n (let small = f.sfits in omega (arith, small))
+    (let small = g.sfits in omega (arith, small)) e
 
 -- the trap that a name is
 abbrev trap_of : List ℕ → Trap_name
@@ -48,7 +50,8 @@ trap_of bs =
     if bytes_eq bs (codes "Overflow") then traps.Overflow else (if bytes_eq bs (codes "DivZero") then traps.DivZero else (
     if bytes_eq bs (codes "Index") then traps.Index else (if bytes_eq bs (codes "Budget") then traps.Budget else (
     if bytes_eq bs (codes "StageOrder") then traps.StageOrder else (if bytes_eq bs (codes "StageLimit") then traps.StageLimit else (
-    if bytes_eq bs (codes "InputEnd") then traps.InputEnd else (if bytes_eq bs (codes "IterLimit") then traps.IterLimit else traps.OutputLimit)))))))
+    if bytes_eq bs (codes "InputEnd") then traps.InputEnd
+    else (if bytes_eq bs (codes "IterLimit") then traps.IterLimit else traps.OutputLimit)))))))
 
 trap_back : (t : Trap_name) → trap_of (trap_name t) ≡ t
 trap_back traps.Overflow = refl
@@ -67,28 +70,34 @@ one_trap s t e = sym (trap_back s) ∙ ap trap_of e ∙ trap_back t
 -- ---- events
 
 -- fields after an iteration
-after_iteration : (fields xs ys : List ℕ) (i j : ℕ) → IsIteration i → IsIteration j → fields ≡ decimal i ++ space ∷ xs → fields ≡ decimal j ++ space ∷ ys → (i ≡ j) × (xs ≡ ys)
+after_iteration : (fields xs ys : List ℕ) (i j : ℕ) → IsIteration i → IsIteration j → fields ≡ decimal i ++ space ∷ xs
+    → fields ≡ decimal j ++ space ∷ ys → (i ≡ j) × (xs ≡ ys)
 after_iteration fields xs ys i j h g e f =
-    let parts = at_first space fields (decimal i) xs (decimal j) ys e (iteration_free space i h no_digit) f (iteration_free space j g no_digit) in
+    let parts = at_first space fields (decimal i) xs (decimal j) ys e (iteration_free space i h no_digit) f
+    (iteration_free space j g no_digit) in
     (one_iteration i j h g parts.0, parts.1)
 
-one_fields : (cells : List Declaration) (fields : List ℕ) (w : LogWord) (e f : Event) → HasPlainNames cells → HasFields cells fields w e → HasFields cells fields w f → e ≡ f
+one_fields : (cells : List Declaration) (fields : List ℕ) (w : LogWord) (e f : Event) → HasPlainNames cells → HasFields cells fields w e
+    → HasFields cells fields w f → e ≡ f
 one_fields cells fields w e f plain (Begins i r p) (Begins j q o) = ap events.Begin (one_iteration i j r q (sym p ∙ o))
 one_fields cells fields w e f plain (Enters i r p) (Enters j q o) = ap events.Enter (one_iteration i j r q (sym p ∙ o))
 one_fields cells fields w e f plain (Ends i r p) (Ends j q o) = ap (λ n. events.Finish n ends.End) (one_iteration i j r q (sym p ∙ o))
-one_fields cells fields w e f plain (Closes i r p) (Closes j q o) = ap (λ n. events.Finish n ends.Closed) (one_iteration i j r q (sym p ∙ o))
+one_fields cells fields w e f plain (Closes i r p) (Closes j q o) = ap (λ n. events.Finish n ends.Closed)
+    (one_iteration i j r q (sym p ∙ o))
 one_fields cells fields w e f plain (Traps i t h) (Traps j u g) =
     let parts = after_iteration fields (trap_name t) (trap_name u) i j h.0 g.0 h.1 g.1 in
     ap₂ (λ n (x : Trap_name). events.Finish n (ends.Trapped x)) parts.0 (one_trap t u parts.1)
 one_fields cells fields w e f plain (Accesses kind i c v h) (Accesses same j d x g) =
     let rest = cell_name cells c ++ space ∷ signed_decimal v in
     let parts = after_iteration fields rest (cell_name cells d ++ space ∷ signed_decimal x) i j h.0 g.0 h.1.1.1 g.1.1.1 in
-    let more = at_last space rest (cell_name cells c) (signed_decimal v) (cell_name cells d) (signed_decimal x) refl (signed_free space v h.1.1.0 no_digit no_sign)
+    let more = at_last space rest (cell_name cells c) (signed_decimal v) (cell_name cells d) (signed_decimal x) refl
+    (signed_free space v h.1.1.0 no_digit no_sign)
     parts.1 (signed_free space x g.1.1.0 no_digit no_sign) in
     let cell : c ≡ d = plain.distinct c d h.1.0 g.1.0 more.0 in
     let value : v ≡ x = one_number v x h.1.1.0 g.1.1.0 more.1 in
     let iteration : i ≡ j = parts.0 in
-    ap₂ (λ n (a : Cell_access). events.Access n a) iteration (ap₂ (λ (k : ℕ) (z : ℤ). record { cell = record { 0 = k }; kind = kind; value = z }) cell value)
+    ap₂ (λ n (a : Cell_access). events.Access n a) iteration
+    (ap₂ (λ (k : ℕ) (z : ℤ). record { cell = record { 0 = k }; kind = kind; value = z }) cell value)
 one_fields cells fields w e f plain (Advances kind i n h) (Advances same j m g) =
     let parts = after_iteration fields (signed_decimal n) (signed_decimal m) i j h.0 g.0 h.1.1 g.1.1 in
     ap₂ (λ k (z : ℤ). events.Advance k (kind_of_stage kind) z) parts.0 (one_number n m h.1.0 g.1.0 parts.1)
@@ -100,7 +109,8 @@ stop_free = free_by_test space (codes "stop") refl
 not_stop : (line word fields : List ℕ) → line ≡ codes "stop" → line ≡ word ++ space ∷ fields → ⊥
 not_stop line word fields s e = never_divided space (codes "stop") word fields stop_free (sym s ∙ e)
 
-pub one_event : (cells : List Declaration) (line : List ℕ) (e f : Event) → HasPlainNames cells → IsLogLine cells line e → IsLogLine cells line f → e ≡ f
+pub one_event : (cells : List Declaration) (line : List ℕ) (e f : Event) → HasPlainNames cells → IsLogLine cells line e
+    → IsLogLine cells line f → e ≡ f
 one_event cells line e f plain h g = elim (divided cells line e h) [
   | inl s ↦ elim (divided cells line f g) [
     | inl t ↦ s.0 ∙ sym t.0
@@ -109,7 +119,8 @@ one_event cells line e f plain h g = elim (divided cells line e h) [
   | inr d ↦ elim (divided cells line f g) [
     | inl t ↦ absurd (not_stop line (word_text d.word) d.fields t.1 d.text)
     | inr b ↦ (
-        let parts = at_first space line (word_text d.word) d.fields (word_text b.word) b.fields d.text (word_free space d.word refl) b.text (word_free space b.word refl) in
+        let parts = at_first space line (word_text d.word) d.fields (word_text b.word) b.fields d.text (word_free space d.word refl) b.text
+        (word_free space b.word refl) in
         let word : d.word ≡ b.word = one_word d.word b.word parts.0 in
         one_fields cells b.fields b.word e f plain
         (subst (λ w. HasFields cells b.fields w e) word (subst (λ x. HasFields cells x d.word e) parts.1 d.has)) b.has)
@@ -148,14 +159,18 @@ no_trap_number i traps.InputEnd h e = no_number 73 i (trap_name traps.InputEnd) 
 no_trap_number i traps.IterLimit h e = no_number 73 i (trap_name traps.IterLimit) h (omega arith) refl (omega arith) e
 no_trap_number i traps.OutputLimit h e = no_number 79 i (trap_name traps.OutputLimit) h (omega arith) refl (omega arith) e
 
-no_trap_fields : (cells : List Declaration) (fields : List ℕ) (e : Event) → HasFields cells fields words.Trap e → IsOutcomeTrapText fields → ⊥
+no_trap_fields : (cells : List Declaration) (fields : List ℕ) (e : Event) → HasFields cells fields words.Trap e → IsOutcomeTrapText fields
+    → ⊥
 no_trap_fields cells fields e (Traps i t h) g =
-    let parts = at_first space fields (decimal i) (trap_name t) (trap_name g.trap) g.place h.1 (iteration_free space i h.0 no_digit) g.is (trap_free space g.trap refl) in
+    let parts = at_first space fields (decimal i) (trap_name t) (trap_name g.trap) g.place h.1 (iteration_free space i h.0 no_digit) g.is
+    (trap_free space g.trap refl) in
     no_trap_number i g.trap h.0 parts.0
 
-no_output : (cells : List Declaration) (line : List ℕ) (e : Event) (v : ℤ) → IsLogLine cells line e → FitsSigned w64 v → line ≡ signed_decimal v → ⊥
+no_output : (cells : List Declaration) (line : List ℕ) (e : Event) (v : ℤ) → IsLogLine cells line e → FitsSigned w64 v
+    → line ≡ signed_decimal v → ⊥
 no_output cells line e v h f is = elim (divided cells line e h) [
-  | inl s ↦ (subst (IsFreeOf 115) (sym is ∙ s.1) (signed_free 115 v f (λ r. (let high = r.1 in omega (arith, high))) (λ z. omega (arith, z)))) 0 0 (omega arith) refl
+  | inl s ↦ (subst (IsFreeOf 115) (sym is ∙ s.1) (signed_free 115 v f (λ r. (let high = r.1 in omega (arith, high)))
+      (λ z. omega (arith, z)))) 0 0 (omega arith) refl
   | inr d ↦ never_divided space (signed_decimal v) (word_text d.word) d.fields (signed_free space v f no_digit no_sign) (sym is ∙ d.text)
 ]
 
@@ -163,12 +178,14 @@ no_worded : (cells : List Declaration) (line : List ℕ) (e : Event) → IsLogLi
 no_worded cells line e h (RaceLine text r is) = elim (divided cells line e h) [
   | inl s ↦ not_stop line (codes "race") text s.1 is
   | inr d ↦ no_race_word d.word
-      (at_first space line (word_text d.word) d.fields (codes "race") text d.text (word_free space d.word refl) is (free_by_test space (codes "race") refl)).0
+      (at_first space line (word_text d.word) d.fields (codes "race") text d.text (word_free space d.word refl) is
+      (free_by_test space (codes "race") refl)).0
 ]
 no_worded cells line e h (TrapLine text t is) = elim (divided cells line e h) [
   | inl s ↦ not_stop line (codes "trap") text s.1 is
   | inr d ↦ (
-      let parts = at_first space line (word_text d.word) d.fields (codes "trap") text d.text (word_free space d.word refl) is (free_by_test space (codes "trap") refl) in
+      let parts = at_first space line (word_text d.word) d.fields (codes "trap") text d.text (word_free space d.word refl) is
+      (free_by_test space (codes "trap") refl) in
       let word : d.word ≡ words.Trap = one_word d.word words.Trap parts.0 in
       no_trap_fields cells d.fields e (subst (λ w. HasFields cells d.fields w e) word d.has) (subst IsOutcomeTrapText (sym parts.1) t))
 ]

@@ -1,5 +1,6 @@
 -- A text is a record or has a first bad line, and not both.
-use Rattle.std.proofs.Common.{◌≡◌, ◌∙◌, ap, sym, subst, refl, arith, inl, inr, ℕ, ◌-◌, ◌<◌, ◌≤◌, List, [], ◌∷◌, ◌++◌, All, length, take, get_or}
+use Rattle.std.proofs.Common.{◌≡◌, ◌∙◌, ap, sym, subst, refl, arith, inl, inr, ℕ, ◌-◌, ◌<◌, ◌≤◌, List, [], ◌∷◌, ◌++◌, All, length, take}
+use Rattle.std.proofs.Common.{get_or}
 use Rattle.std.specs.List.{AllZip}
 use Rattle.std.proofs.lemmas.Bool.{cases_lt}
 use Rattle.std.proofs.lemmas.List.{get_or_append_left, get_or-take, length-append, length-take-le, take-take}
@@ -12,14 +13,17 @@ use Rattle.record_parser.proofs.OneEvent.{no_outcome}
 use Rattle.record_parser.proofs.ReadBack.{line_at}
 
 -- a line that is passed over
-passed_line : (cells : List Declaration) (lines passed log : List (List ℕ)) (n : ℕ) → lines ≡ passed ++ log → All (IsOutcomeLine cells) passed → n < length passed
+passed_line : (cells : List Declaration) (lines passed log : List (List ℕ)) (n : ℕ) → lines ≡ passed ++ log
+    → All (IsOutcomeLine cells) passed → n < length passed
     → IsOutcomeLine cells (get_or lines n [])
 passed_line cells lines passed log n e o l =
     subst (IsOutcomeLine cells) (sym (ap (λ ls. get_or ls n []) e ∙ get_or_append_left passed log [] n l)) (o n [] l)
 
 -- the first of the lines that are read as events
-first_read : (cells : List Declaration) (lines : List (List ℕ)) (n : ℕ) (bad : IsFirstBadLine cells lines n) (passed log : List (List ℕ)) (before : List Event)
-    → take n lines ≡ passed ++ log → AllZip (IsLogLine cells) log before → (before ≡ [] → ⊥) → (k : ℕ) × (k < n) × (e : Event) × IsLogLine cells (get_or lines k []) e
+first_read : (cells : List Declaration) (lines : List (List ℕ)) (n : ℕ) (bad : IsFirstBadLine cells lines n) (passed log : List (List ℕ))
+    (before : List Event)
+    → take n lines ≡ passed ++ log → AllZip (IsLogLine cells) log before → (before ≡ [] → ⊥)
+    → (k : ℕ) × (k < n) × (e : Event) × IsLogLine cells (get_or lines k []) e
 first_read cells lines n bad passed [] [] e h some = absurd (some refl)
 first_read cells lines n bad passed [] (x ∷ xs) e h some = absurd h
 first_read cells lines n bad passed (l ∷ ls) [] e h some = absurd h
@@ -32,19 +36,22 @@ first_read cells lines n bad passed (l ∷ ls) (x ∷ xs) e h some =
     sym (get_or-take n lines (length passed) [] less) ∙ ap (λ xs. get_or xs (length passed) []) e ∙ get_or-append_seam passed l ls [] in
     (length passed, less, x, subst (λ y. IsLogLine cells y x) (sym here) h.0)
 
-none_before : (cells : List Declaration) (lines : List (List ℕ)) (n : ℕ) (bad : IsFirstBadLine cells lines n) (before : List Event) → bad.before ≡ before
+none_before : (cells : List Declaration) (lines : List (List ℕ)) (n : ℕ) (bad : IsFirstBadLine cells lines n) (before : List Event)
+    → bad.before ≡ before
     → ((k : ℕ) (e : Event) → k < n → IsLogLine cells (get_or lines k []) e → ⊥) → bad.before ≡ []
 none_before cells lines n bad [] is none = is
 none_before cells lines n bad (x ∷ xs) is none =
     let r = bad.record_before in
-    let found = first_read cells lines n bad r.passed r.log bad.before r.parts r.read (λ empty. (let z = ap length (sym is ∙ empty) in omega (arith, z))) in
+    let found = first_read cells lines n bad r.passed r.log bad.before r.parts r.read
+    (λ empty. (let z = ap length (sym is ∙ empty) in omega (arith, z))) in
     absurd (none found.0 found.2 found.1 found.3)
 
 pub records_have_no_bad_line : RecordsHaveNoBadLine
 records_have_no_bad_line cells lines es n r bad = elim (cases_lt n (length r.passed)) [
   | inl less ↦ bad.bad.no_outcome
       (none_before cells lines n bad bad.before refl
-      (λ k e l h. no_outcome cells (get_or lines k []) e h (passed_line cells lines r.passed r.log k r.parts r.outcome (omega (arith, l, less)))))
+      (λ k e l h. no_outcome cells (get_or lines k []) e h
+      (passed_line cells lines r.passed r.log k r.parts r.outcome (omega (arith, l, less)))))
       (passed_line cells lines r.passed r.log n r.parts r.outcome less)
   | inr past ↦ (
       let within = bad.within in
@@ -57,7 +64,8 @@ records_have_no_bad_line cells lines es n r bad = elim (cases_lt n (length r.pas
 ]
 
 -- the same bad line, of a prefix of the lines
-of_prefix : (cells : List Declaration) (lines : List (List ℕ)) (n m : ℕ) → n < m → m ≤ length lines → IsFirstBadLine cells lines n → IsFirstBadLine cells (take m lines) n
+of_prefix : (cells : List Declaration) (lines : List (List ℕ)) (n m : ℕ) → n < m → m ≤ length lines → IsFirstBadLine cells lines n
+    → IsFirstBadLine cells (take m lines) n
 of_prefix cells lines n m l within bad =
     let size = length-take-le m lines within in
     record {
@@ -67,10 +75,12 @@ of_prefix cells lines n m l within bad =
       bad = subst (CannotFollow cells bad.before) (sym (get_or-take m lines n [] l)) bad.bad;
     }
 
-later_is_none : (cells : List Declaration) (lines : List (List ℕ)) (n m : ℕ) → n < m → IsFirstBadLine cells lines n → IsFirstBadLine cells lines m → ⊥
+later_is_none : (cells : List Declaration) (lines : List (List ℕ)) (n m : ℕ) → n < m → IsFirstBadLine cells lines n
+    → IsFirstBadLine cells lines m → ⊥
 later_is_none cells lines n m l first other =
     let within = other.within in
-    records_have_no_bad_line cells (take m lines) other.before n other.record_before (of_prefix cells lines n m l (omega (arith, within)) first)
+    records_have_no_bad_line cells (take m lines) other.before n other.record_before
+    (of_prefix cells lines n m l (omega (arith, within)) first)
 
 pub texts_have_one_bad_line : TextsHaveOneBadLine
 texts_have_one_bad_line cells lines n m first other = elim (cases_lt n m) [

@@ -12,7 +12,8 @@ use Rattle.pipe_model.specs.declared.tree.Declaration.{Declaration}
 use Rattle.pipe_model.specs.Texts.{instance_text, kind_text, race_line, trap_name, trap_place}
 use Rattle.race_report.specs.CellNames.{cell_name}
 use Rattle.record_parser.specs.LogForms.{space}
-use Rattle.record_parser.specs.OutcomeForms.{AtInstance, InFinal, InInit, IsInstanceText, IsOutcomeTrapText, IsPlaceText, IsRaceText, IsWordedOutcome, RaceLine, TrapLine, slash}
+use Rattle.record_parser.specs.OutcomeForms.{AtInstance, InFinal, InInit, IsInstanceText, IsOutcomeTrapText, IsPlaceText, IsRaceText}
+use Rattle.record_parser.specs.OutcomeForms.{IsWordedOutcome, RaceLine, TrapLine, slash}
 use Rattle.record_parser.specs.RecordLines.{IsIteration, IsOutcomeLine, IsOutput, IsPlaceInRanges, IsRace, IsTrap, line_feed}
 
 cut : (a b c : List ℕ) → (a ++ space ∷ b) ++ c ≡ a ++ space ∷ (b ++ c)
@@ -22,7 +23,8 @@ cut a b c = append_assoc a (space ∷ b) c
 
 race_text : (name kind instance kind' instance' : List ℕ)
     → (codes "race" ++ space ∷ ((((name ++ space ∷ kind) ++ space ∷ instance) ++ space ∷ kind') ++ space ∷ instance')) ++ line_feed ∷ []
-    ≡ codes "race " ++ (name ++ (codes " " ++ (kind ++ (codes " " ++ (instance ++ (codes " " ++ (kind' ++ (codes " " ++ (instance' ++ codes "\n")))))))))
+    ≡ codes "race " ++ (name ++ (codes " " ++ (kind ++ (codes " "
+    ++ (instance ++ (codes " " ++ (kind' ++ (codes " " ++ (instance' ++ codes "\n")))))))))
 race_text name kind instance kind' instance' =
     let last = instance' ++ line_feed ∷ [] in
     let three = kind' ++ space ∷ last in
@@ -35,7 +37,8 @@ race_text name kind instance kind' instance' =
     ∙ cut name kind (space ∷ two))
 
 -- the race that the parts of a line say; the index of an instance is not in the line
-race_of_parts : (cells : List Declaration) (line text : List ℕ) (h : IsRaceText cells text) → line ≡ codes "race" ++ space ∷ text → IsOutcomeLine cells line
+race_of_parts : (cells : List Declaration) (line text : List ℕ) (h : IsRaceText cells text) → line ≡ codes "race" ++ space ∷ text
+    → IsOutcomeLine cells line
 race_of_parts cells line text h e = IsRace (record {
   cell = record { 0 = h.cell };
   earlier = record { iteration = h.earlier.is_instance.iteration; index = 0 };
@@ -48,7 +51,8 @@ race_of_parts cells line text h e = IsRace (record {
   cell = h.within;
   earlier = (h.earlier.is_instance.within, h.earlier.is_instance.fits);
   later = (h.later.is_instance.within, h.later.is_instance.fits);
-}) (ap (λ l. l ++ line_feed ∷ []) (e ∙ ap (λ t. codes "race" ++ space ∷ t) whole) ∙ race_text name (kind_text h.earlier.kind) first (kind_text h.later.kind) second)
+}) (ap (λ l. l ++ line_feed ∷ []) (e ∙ ap (λ t. codes "race" ++ space ∷ t) whole) ∙ race_text name (kind_text h.earlier.kind) first
+    (kind_text h.later.kind) second)
   where
     name : List ℕ
     name = cell_name cells h.cell
@@ -69,7 +73,8 @@ instance_parts i n l f = record { iteration = i; number = n; within = l; fits = 
 
 -- ---- traps
 
-trap_text : (name place : List ℕ) → (codes "trap" ++ space ∷ (name ++ space ∷ place)) ++ line_feed ∷ [] ≡ codes "trap " ++ (name ++ (codes " " ++ (place ++ codes "\n")))
+trap_text : (name place : List ℕ) → (codes "trap" ++ space ∷ (name ++ space ∷ place)) ++ line_feed ∷ [] ≡ codes "trap "
+    ++ (name ++ (codes " " ++ (place ++ codes "\n")))
 trap_text name place =
     cut (codes "trap") (name ++ space ∷ place) (line_feed ∷ []) ∙ ap (λ r. codes "trap" ++ space ∷ r) (cut name place (line_feed ∷ []))
 
@@ -89,10 +94,12 @@ place_of_text text (AtInstance instance h e) = record {
 
 text_of_place : (p : TrapPlace) → IsPlaceInRanges p → IsPlaceText (trap_place p)
 text_of_place places.Init r = InInit refl
-text_of_place (places.At node n) r = AtInstance (decimal node.iteration ++ slash ∷ signed_decimal n) (instance_parts node.iteration n r.0 r.1) refl
+text_of_place (places.At node n) r = AtInstance (decimal node.iteration ++ slash ∷ signed_decimal n)
+    (instance_parts node.iteration n r.0 r.1) refl
 text_of_place places.Last r = InFinal refl
 
-trap_of_parts : (cells : List Declaration) (line text : List ℕ) → IsOutcomeTrapText text → line ≡ codes "trap" ++ space ∷ text → IsOutcomeLine cells line
+trap_of_parts : (cells : List Declaration) (line text : List ℕ) → IsOutcomeTrapText text → line ≡ codes "trap" ++ space ∷ text
+    → IsOutcomeLine cells line
 trap_of_parts cells line text h e =
     let p = place_of_text h.place h.is_place in
     IsTrap (record { trap = h.trap; place = p.place }) p.ranges
@@ -106,17 +113,21 @@ outcome_of_worded cells line (RaceLine text h e) = race_of_parts cells line text
 outcome_of_worded cells line (TrapLine text h e) = trap_of_parts cells line text h e
 
 worded_race : (cells : List Declaration) (line : List ℕ) (r : Report) → IsRaceText cells
-    ((((cell_name cells r.cell.0 ++ space ∷ kind_text r.earlier_kind) ++ space ∷ instance_text r.earlier r.earlier_number) ++ space ∷ kind_text r.later_kind)
+    ((((cell_name cells r.cell.0 ++ space ∷ kind_text r.earlier_kind) ++ space ∷ instance_text r.earlier r.earlier_number)
+    ++ space ∷ kind_text r.later_kind)
     ++ space ∷ instance_text r.later r.later_number) → line ++ line_feed ∷ [] ≡ race_line (cell_name cells) r → IsWordedOutcome cells line
 worded_race cells line r h e =
-    let text = (((cell_name cells r.cell.0 ++ space ∷ kind_text r.earlier_kind) ++ space ∷ instance_text r.earlier r.earlier_number) ++ space ∷ kind_text r.later_kind)
+    let text = (((cell_name cells r.cell.0 ++ space ∷ kind_text r.earlier_kind) ++ space ∷ instance_text r.earlier r.earlier_number)
+    ++ space ∷ kind_text r.later_kind)
     ++ space ∷ instance_text r.later r.later_number in
     RaceLine text h (append_cancel_right line (codes "race" ++ space ∷ text) (line_feed ∷ [])
-    (e ∙ sym (race_text (cell_name cells r.cell.0) (kind_text r.earlier_kind) (instance_text r.earlier r.earlier_number) (kind_text r.later_kind)
+    (e ∙ sym (race_text (cell_name cells r.cell.0) (kind_text r.earlier_kind) (instance_text r.earlier r.earlier_number)
+    (kind_text r.later_kind)
     (instance_text r.later r.later_number))))
 
 -- an outcome line that is no number is a race or a trap
-pub worded : (cells : List Declaration) (line : List ℕ) → ((v : ℤ) → FitsSigned w64 v → line ≡ signed_decimal v → ⊥) → IsOutcomeLine cells line → IsWordedOutcome cells line
+pub worded : (cells : List Declaration) (line : List ℕ) → ((v : ℤ) → FitsSigned w64 v → line ≡ signed_decimal v → ⊥)
+    → IsOutcomeLine cells line → IsWordedOutcome cells line
 worded cells line none (IsOutput v f e) = absurd (none v f e)
 worded cells line none (IsRace r h e) = worded_race cells line r (record {
   cell = r.cell.0;

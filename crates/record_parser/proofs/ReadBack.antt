@@ -44,11 +44,13 @@ record HasWritten (cells : List Declaration) (e : Event) : Type 0 where
   is : IsLogLine cells line e
   free : IsFreeOf line_feed line
 
-by_fields : (cells : List Declaration) (w : LogWord) (fields : List ℕ) (e : Event) → HasFields cells fields w e → IsFreeOf line_feed fields → HasWritten cells e
+by_fields : (cells : List Declaration) (w : LogWord) (fields : List ℕ) (e : Event) → HasFields cells fields w e → IsFreeOf line_feed fields
+    → HasWritten cells e
 by_fields cells w fields e h f = record {
   line = word_text w ++ space ∷ fields;
   is = line_of_fields cells fields (word_text w ++ space ∷ fields) w e h refl;
-  free = free_append line_feed (word_text w) (space ∷ fields) (word_free line_feed w refl) (free_cons line_feed space fields no_space_feed f);
+  free = free_append line_feed (word_text w) (space ∷ fields) (word_free line_feed w refl)
+      (free_cons line_feed space fields no_space_feed f);
 }
 
 -- two fields
@@ -56,7 +58,8 @@ two_free : (first second : List ℕ) → IsFreeOf line_feed first → IsFreeOf l
 two_free first second f g = free_append line_feed first (space ∷ second) f (free_cons line_feed space second no_space_feed g)
 
 written : (cells : List Declaration) (e : Event) → HasPlainNames cells → IsInRanges cells e → HasLine e → HasWritten cells e
-written cells (events.Begin i) plain r h = by_fields cells words.Begin (decimal i) (events.Begin i) (Begins i r refl) (iteration_free line_feed i r no_digit_feed)
+written cells (events.Begin i) plain r h = by_fields cells words.Begin (decimal i) (events.Begin i) (Begins i r refl)
+    (iteration_free line_feed i r no_digit_feed)
 written cells (events.Access i a) plain r h =
     let name = cell_name cells a.cell.0 in
     by_fields cells (words.Access a.kind) (decimal i ++ space ∷ (name ++ space ∷ signed_decimal a.value)) (events.Access i a)
@@ -67,12 +70,15 @@ written cells (events.Advance i node_kinds.Zero n) plain r h = absurd h
 written cells (events.Advance i node_kinds.Wait n) plain r h =
     by_fields cells (words.Stage stages.Wait) (decimal i ++ space ∷ signed_decimal n) (events.Advance i node_kinds.Wait n)
     (Advances stages.Wait i n (r.0, (r.1, refl)))
-    (two_free (decimal i) (signed_decimal n) (iteration_free line_feed i r.0 no_digit_feed) (signed_free line_feed n r.1 no_digit_feed no_sign_feed))
+    (two_free (decimal i) (signed_decimal n) (iteration_free line_feed i r.0 no_digit_feed)
+    (signed_free line_feed n r.1 no_digit_feed no_sign_feed))
 written cells (events.Advance i node_kinds.Continue n) plain r h =
     by_fields cells (words.Stage stages.Continue) (decimal i ++ space ∷ signed_decimal n) (events.Advance i node_kinds.Continue n)
     (Advances stages.Continue i n (r.0, (r.1, refl)))
-    (two_free (decimal i) (signed_decimal n) (iteration_free line_feed i r.0 no_digit_feed) (signed_free line_feed n r.1 no_digit_feed no_sign_feed))
-written cells (events.Enter i) plain r h = by_fields cells words.Enter (decimal i) (events.Enter i) (Enters i r refl) (iteration_free line_feed i r no_digit_feed)
+    (two_free (decimal i) (signed_decimal n) (iteration_free line_feed i r.0 no_digit_feed)
+    (signed_free line_feed n r.1 no_digit_feed no_sign_feed))
+written cells (events.Enter i) plain r h = by_fields cells words.Enter (decimal i) (events.Enter i) (Enters i r refl)
+    (iteration_free line_feed i r no_digit_feed)
 written cells (events.Finish i ends.End) plain r h =
     by_fields cells words.End (decimal i) (events.Finish i ends.End) (Ends i r refl) (iteration_free line_feed i r no_digit_feed)
 written cells (events.Finish i ends.Closed) plain r h =
@@ -80,7 +86,12 @@ written cells (events.Finish i ends.Closed) plain r h =
 written cells (events.Finish i (ends.Trapped t)) plain r h =
     by_fields cells words.Trap (decimal i ++ space ∷ trap_name t) (events.Finish i (ends.Trapped t)) (Traps i t (r, refl))
     (two_free (decimal i) (trap_name t) (iteration_free line_feed i r no_digit_feed) (trap_free line_feed t refl))
-written cells events.Stop plain r h = record { line = codes "stop"; is = record { text = refl; ranges = tt }; free = free_by_test line_feed (codes "stop") refl }
+written cells events.Stop plain r h = record {
+  line = codes "stop";
+  is = record { text = refl; ranges = tt };
+  free =
+      free_by_test line_feed (codes "stop") refl;
+}
 
 -- ---- the lines of a log
 
@@ -102,7 +113,8 @@ lines_are cells (e ∷ es) plain r h =
 
 -- ---- what is read
 
-same_events : (cells : List Declaration) (lines : List (List ℕ)) (es others : List Event) → HasPlainNames cells → AllZip (IsLogLine cells) lines es
+same_events : (cells : List Declaration) (lines : List (List ℕ)) (es others : List Event) → HasPlainNames cells
+    → AllZip (IsLogLine cells) lines es
     → AllZip (IsLogLine cells) lines others → others ≡ es
 same_events cells [] [] [] plain h g = refl
 same_events cells [] [] (o ∷ os) plain h g = absurd g
@@ -113,7 +125,8 @@ same_events cells (l ∷ ls) (e ∷ es) (o ∷ os) plain h g =
     ap₂ (λ (x : Event) (xs : List Event). x ∷ xs) (one_event cells l o e plain g.0 h.0) (same_events cells ls es os plain h.1 g.1)
 
 -- no line of a log is passed over
-none_passed : (cells : List Declaration) (lines passed log : List (List ℕ)) (es : List Event) → AllZip (IsLogLine cells) lines es → lines ≡ passed ++ log
+none_passed : (cells : List Declaration) (lines passed log : List (List ℕ)) (es : List Event) → AllZip (IsLogLine cells) lines es
+    → lines ≡ passed ++ log
     → All (IsOutcomeLine cells) passed → lines ≡ log
 none_passed cells lines [] log es h e o = e
 none_passed cells lines (p ∷ ps) log [] h e o = absurd (subst (λ ls. AllZip (IsLogLine cells) ls []) e h)
@@ -134,8 +147,10 @@ abbrev rest_of : List (List ℕ) → List (List ℕ)
 rest_of [] = []
 rest_of (l ∷ ls) = ls
 
-one_reading : (cells : List Declaration) (passed others log read : List (List ℕ)) (es fs : List Event) → HasPlainNames cells → passed ++ log ≡ others ++ read
-    → All (IsOutcomeLine cells) passed → All (IsOutcomeLine cells) others → AllZip (IsLogLine cells) log es → AllZip (IsLogLine cells) read fs → es ≡ fs
+one_reading : (cells : List Declaration) (passed others log read : List (List ℕ)) (es fs : List Event) → HasPlainNames cells
+    → passed ++ log ≡ others ++ read
+    → All (IsOutcomeLine cells) passed → All (IsOutcomeLine cells) others → AllZip (IsLogLine cells) log es
+    → AllZip (IsLogLine cells) read fs → es ≡ fs
 one_reading cells [] others log read es fs plain e o p h g =
     let same = none_passed cells log others read es h e p in
     sym (same_events cells log es fs plain h (subst (λ ls. AllZip (IsLogLine cells) ls fs) (sym same) g))
@@ -143,15 +158,18 @@ one_reading cells (x ∷ xs) [] log read es fs plain e o p h g =
     let same = none_passed cells read (x ∷ xs) log fs g (sym e) o in
     same_events cells read fs es plain g (subst (λ ls. AllZip (IsLogLine cells) ls es) (sym same) h)
 one_reading cells (x ∷ xs) (y ∷ ys) log read es fs plain e o p h g =
-    one_reading cells xs ys log read es fs plain (ap rest_of e) (all_tail (IsOutcomeLine cells) x xs o) (all_tail (IsOutcomeLine cells) y ys p) h g
+    one_reading cells xs ys log read es fs plain (ap rest_of e) (all_tail (IsOutcomeLine cells) x xs o)
+    (all_tail (IsOutcomeLine cells) y ys p) h g
 
 pub records_have_one_reading : RecordsHaveOneReading
 records_have_one_reading source tree lines es others accepted first other =
-    one_reading tree.cells first.passed other.passed first.log other.log es others (accepted_names source tree accepted) (sym first.parts ∙ other.parts)
+    one_reading tree.cells first.passed other.passed first.log other.log es others (accepted_names source tree accepted)
+    (sym first.parts ∙ other.parts)
     first.outcome other.outcome first.read other.read
 
 -- each line is the text of an event
-pub line_at : (cells : List Declaration) (lines : List (List ℕ)) (es : List Event) (n : ℕ) → AllZip (IsLogLine cells) lines es → n < length lines
+pub line_at : (cells : List Declaration) (lines : List (List ℕ)) (es : List Event) (n : ℕ) → AllZip (IsLogLine cells) lines es
+    → n < length lines
     → (e : Event) × IsLogLine cells (slice_index_or lines n []) e
 line_at cells [] es n h l = absurd (omega (arith, l))
 line_at cells (x ∷ xs) [] n h l = absurd h
@@ -161,5 +179,6 @@ line_at cells (x ∷ xs) (e ∷ es) (suc n) h l = line_at cells xs es n h.1 (ome
 pub logs_have_no_bad_line : LogsHaveNoBadLine
 logs_have_no_bad_line source tree es n accepted r h bad =
     let cells = tree.cells in
-    let found = line_at cells (lines_of (log_text cells es)) es n (lines_are cells es (accepted_names source tree accepted) r h) bad.within in
+    let found = line_at cells (lines_of (log_text cells es)) es n (lines_are cells es (accepted_names source tree accepted) r h) bad.within
+    in
     bad.bad.no_event found.0 found.1

@@ -13,7 +13,8 @@ use Rattle.record_parser.specs.RecordLines.{CannotFollow, IsFirstBadLine, IsLogL
 
 -- ---- one more line
 
-zip_push : {A B : Type 0} (R : A → B → Type 0) (xs : List A) (ys : List B) (x : A) (y : B) → AllZip R xs ys → R x y → AllZip R (xs ++ x ∷ []) (ys ++ y ∷ [])
+zip_push : {A B : Type 0} (R : A → B → Type 0) (xs : List A) (ys : List B) (x : A) (y : B) → AllZip R xs ys → R x y
+    → AllZip R (xs ++ x ∷ []) (ys ++ y ∷ [])
 zip_push R [] [] x y h r = (r, tt)
 zip_push R [] (b ∷ bs) x y h r = absurd h
 zip_push R (a ∷ as') [] x y h r = absurd h
@@ -23,7 +24,8 @@ zip_nil : {A B : Type 0} (R : A → B → Type 0) (xs : List A) → AllZip R xs 
 zip_nil R [] h = refl
 zip_nil R (x ∷ xs) h = absurd h
 
-pub with_event : (cells : List Declaration) (lines : List (List ℕ)) (events : List Event) (line : List ℕ) (e : Event) → IsLogLine cells line e → IsRecord cells lines events
+pub with_event : (cells : List Declaration) (lines : List (List ℕ)) (events : List Event) (line : List ℕ) (e : Event)
+    → IsLogLine cells line e → IsRecord cells lines events
     → IsRecord cells (lines ++ line ∷ []) (events ++ e ∷ [])
 with_event cells lines events line e h r = record {
   passed = r.passed;
@@ -33,13 +35,15 @@ with_event cells lines events line e h r = record {
   read = zip_push (IsLogLine cells) r.log events line e r.read h;
 }
 
-pub with_outcome : (cells : List Declaration) (lines : List (List ℕ)) (line : List ℕ) → IsOutcomeLine cells line → IsRecord cells lines [] → IsRecord cells (lines ++ line ∷ []) []
+pub with_outcome : (cells : List Declaration) (lines : List (List ℕ)) (line : List ℕ) → IsOutcomeLine cells line → IsRecord cells lines []
+    → IsRecord cells (lines ++ line ∷ []) []
 with_outcome cells lines line h r =
     let none = zip_nil (IsLogLine cells) r.log r.read in
     record {
       passed = r.passed ++ line ∷ [];
       log = [];
-      parts = ap (λ ls. ls ++ line ∷ []) (r.parts ∙ ap (λ l. r.passed ++ l) none ∙ append-nil r.passed) ∙ sym (append-nil (r.passed ++ line ∷ []));
+      parts = ap (λ ls. ls ++ line ∷ []) (r.parts ∙ ap (λ l. r.passed ++ l) none ∙ append-nil r.passed)
+          ∙ sym (append-nil (r.passed ++ line ∷ []));
       outcome = All-push (IsOutcomeLine cells) r.passed line r.outcome h;
       read = tt;
     }
@@ -59,13 +63,22 @@ nothing_read cells text events e = record {
   done = [];
   lines = refl;
   count = refl;
-  record_done = subst (IsRecord cells []) (sym e) (record { passed = []; log = []; parts = refl; outcome = λ k d l. absurd (omega (arith, l)); read = tt });
+  record_done = subst (IsRecord cells []) (sym e) (record {
+    passed = [];
+    log = [];
+    parts = refl;
+    outcome =
+        λ k d l. absurd (omega (arith, l));
+    read = tt;
+  });
   bound = omega arith;
 }
 
-pub one_more : (cells : List Declaration) (text rest line following : List ℕ) (number : ℕ) (old new : List Event) → HasRead cells text rest number old
+pub one_more : (cells : List Declaration) (text rest line following : List ℕ) (number : ℕ) (old new : List Event)
+    → HasRead cells text rest number old
     → lines_of rest ≡ line ∷ lines_of following → length following < length rest
-    → ((lines : List (List ℕ)) → IsRecord cells lines old → IsRecord cells (lines ++ line ∷ []) new) → HasRead cells text following (number + 1) new
+    → ((lines : List (List ℕ)) → IsRecord cells lines old → IsRecord cells (lines ++ line ∷ []) new)
+    → HasRead cells text following (number + 1) new
 one_more cells text rest line following number old new h e shorter more =
     let count = h.count in
     let bound = h.bound in
@@ -77,15 +90,18 @@ one_more cells text rest line following number old new h e shorter more =
       bound = omega (arith, shorter, bound);
     }
 
-pub bad_line : (cells : List Declaration) (text rest line following : List ℕ) (number : ℕ) (events : List Event) → HasRead cells text rest number events
+pub bad_line : (cells : List Declaration) (text rest line following : List ℕ) (number : ℕ) (events : List Event)
+    → HasRead cells text rest number events
     → lines_of rest ≡ line ∷ lines_of following → CannotFollow cells events line → IsFirstBadLine cells (lines_of text) number
 bad_line cells text rest line following number events h e bad =
     let count = h.count in
     let whole : lines_of text ≡ h.done ++ line ∷ lines_of following = h.lines ∙ ap (λ ls. h.done ++ ls) e in
     let size = ap length whole in
-    let front : take number (lines_of text) ≡ h.done = ap (λ n. take n (lines_of text)) (sym count) ∙ ap (take (length h.done)) whole ∙ take-append_seam h.done (line ∷ lines_of following) in
+    let front : take number (lines_of text) ≡ h.done = ap (λ n. take n (lines_of text)) (sym count) ∙ ap (take (length h.done)) whole
+    ∙ take-append_seam h.done (line ∷ lines_of following) in
     let here : slice_index_or (lines_of text) number [] ≡ line =
-    ap (λ n. slice_index_or (lines_of text) n []) (sym count) ∙ ap (λ ls. slice_index_or ls (length h.done) []) whole ∙ get_or-append_seam h.done line (lines_of following) [] in
+    ap (λ n. slice_index_or (lines_of text) n []) (sym count) ∙ ap (λ ls. slice_index_or ls (length h.done) []) whole
+    ∙ get_or-append_seam h.done line (lines_of following) [] in
     record {
       within = omega (arith, size, count, length-append h.done (line ∷ lines_of following));
       before = events;
@@ -93,13 +109,15 @@ bad_line cells text rest line following number events h e bad =
       bad = subst (CannotFollow cells events) (sym here) bad;
     }
 
-pub all_read : (cells : List Declaration) (text rest : List ℕ) (number : ℕ) (events : List Event) → HasRead cells text rest number events → rest ≡ []
+pub all_read : (cells : List Declaration) (text rest : List ℕ) (number : ℕ) (events : List Event) → HasRead cells text rest number events
+    → rest ≡ []
     → IsRecord cells (lines_of text) events
 all_read cells text rest number events h e =
     subst (λ ls. IsRecord cells ls events) (sym (h.lines ∙ ap (λ r. h.done ++ lines_of r) e ∙ append-nil h.done)) h.record_done
 
 -- there are at most as many events as bytes
-pub events_are_few : (cells : List Declaration) (text rest : List ℕ) (number : ℕ) (events : List Event) → HasRead cells text rest number events
+pub events_are_few : (cells : List Declaration) (text rest : List ℕ) (number : ℕ) (events : List Event)
+    → HasRead cells text rest number events
     → length events ≤ length text
 events_are_few cells text rest number events h =
     let long = AllZip-long (IsLogLine cells) h.record_done.log events h.record_done.read in

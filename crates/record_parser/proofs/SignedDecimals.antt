@@ -14,11 +14,23 @@ no_minus n bs small e =
     (ap (λ ds. get_or ds 0 0) (sym e))
 
 -- the number after a `-` is not above 2^63, and is not 0
-pub negative_is : (z : ℤ) (bs : List ℕ) → FitsSigned w64 z → 45 ∷ bs ≡ signed_decimal z → (n : ℕ) × ((z ≡ negsuc n) × ((n + 1 ≤ 9223372036854775808) × (bs ≡ decimal (n + 1))))
+pub negative_is : (z : ℤ) (bs : List ℕ) → FitsSigned w64 z → 45 ∷ bs ≡ signed_decimal z → (n : ℕ)
+    × ((z ≡ negsuc n) × ((n + 1 ≤ 9223372036854775808) × (bs ≡ decimal (n + 1))))
 negative_is (pos n) bs fits e = absurd (no_minus n bs (let small = fits.sfits in omega (arith, small)) e)
-negative_is (negsuc n) bs fits e = (n, (refl, ((let small = fits.sfits in omega (arith, small)), tail_is e ∙ ap decimal (let s : suc n ≡ n + 1 = omega arith in s))))
+negative_is (negsuc n) bs fits e = (
+  n,
+  (
+    refl,
+    (
+      (let small = fits.sfits in omega (arith, small)),
+      tail_is e
+          ∙ ap decimal (let s : suc n ≡ n + 1 = omega arith in s),
+    ),
+  ),
+)
 
 -- without a `-` it is below 2^63
-pub positive_is : (z : ℤ) (bs : List ℕ) → FitsSigned w64 z → (get_or bs 0 0 ≡ 45 → ⊥) → bs ≡ signed_decimal z → (n : ℕ) × ((n ≤ 9223372036854775807) × (bs ≡ decimal n))
+pub positive_is : (z : ℤ) (bs : List ℕ) → FitsSigned w64 z → (get_or bs 0 0 ≡ 45 → ⊥) → bs ≡ signed_decimal z
+    → (n : ℕ) × ((n ≤ 9223372036854775807) × (bs ≡ decimal n))
 positive_is (pos n) bs fits none e = (n, ((let small = fits.sfits in omega (arith, small)), e))
 positive_is (negsuc n) bs fits none e = absurd (none (ap (λ ds. get_or ds 0 0) e))

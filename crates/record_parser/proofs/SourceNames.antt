@@ -1,5 +1,6 @@
 -- The names of the cells of an accepted source: words that are not reserved, each declared once.
-use Rattle.std.proofs.Common.{◌≡◌, ◌∙◌, ap, sym, subst, refl, arith, inl, inr, ℕ, ℤ, pos, zero, suc, ◌-◌, ◌<◌, ◌≤◌, ◌^◌, List, [], ◌∷◌, ◌++◌, Bool, true, false, Option, Some, None, nat_lt, if◌then◌else◌}
+use Rattle.std.proofs.Common.{◌≡◌, ◌∙◌, ap, sym, subst, refl, arith, inl, inr, ℕ, ℤ, pos, zero, suc, ◌-◌, ◌<◌, ◌≤◌, ◌^◌, List, [], ◌∷◌}
+use Rattle.std.proofs.Common.{◌++◌, Bool, true, false, Option, Some, None, nat_lt, if◌then◌else◌}
 use Rattle.std.specs.Prelude.{codes, is_some, position}
 use Rattle.std.specs.Fmt.{decimal}
 use Rattle.std.specs.List.{list_all}
@@ -12,7 +13,8 @@ use mathlib.Core.List.{append-nil}
 use Rattle.pipe_model.specs.declared.symbol.Symbol.TheVariants as symbols
 use Rattle.pipe_model.specs.declared.tree.Declaration.{Declaration}
 use Rattle.pipe_model.specs.Language.CheckingRules.{cell_total, is_cell, size_in}
-use Rattle.pipe_model.specs.Language.Lexis.{is_digit, is_letter, is_name_byte, number_of, operators, punctuation_symbol, symbol_of, word_symbol}
+use Rattle.pipe_model.specs.Language.Lexis.{is_digit, is_letter, is_name_byte, number_of, operators, punctuation_symbol, symbol_of}
+use Rattle.pipe_model.specs.Language.Lexis.{word_symbol}
 use Rattle.pipe_model.specs.Language.Programs.{declared_size}
 use Rattle.pipe_model.specs.Language.SourceRefusals.{IsAccepted}
 use Rattle.pipe_model.specs.Language.SyntaxTree.{SyntaxTree}
@@ -50,10 +52,12 @@ name_bytes (b ∷ bs) t = by (is_letter b) refl (list_all is_name_byte bs) refl 
     by false e named f false n h = absurd (no_name (position (λ operator. bytes_eq operator (b ∷ bs)) operators) (b ∷ bs) (b ∷ bs) h)
 
 no_input : (x : List ℕ) → symbol_of x ≡ Some (symbols.Name x) → x ≡ codes "input" → ⊥
-no_input x h e = (let word : symbol_of (codes "input") ≡ Some (symbols.Word 20) = refl in let z : Some (symbols.Word 20) ≡ Some (symbols.Name x) = sym word ∙ ap symbol_of (sym e) ∙ h in absurd (cc))
+no_input x h e = (let word : symbol_of (codes "input") ≡ Some (symbols.Word 20) = refl in let z : Some (symbols.Word 20) ≡ Some
+    (symbols.Name x) = sym word ∙ ap symbol_of (sym e) ∙ h in absurd (cc))
 
 no_output : (x : List ℕ) → symbol_of x ≡ Some (symbols.Name x) → x ≡ codes "output" → ⊥
-no_output x h e = (let word : symbol_of (codes "output") ≡ Some (symbols.Word 21) = refl in let z : Some (symbols.Word 21) ≡ Some (symbols.Name x) = sym word ∙ ap symbol_of (sym e) ∙ h in absurd (cc))
+no_output x h e = (let word : symbol_of (codes "output") ≡ Some (symbols.Word 21) = refl in
+    let z : Some (symbols.Word 21) ≡ Some (symbols.Name x) = sym word ∙ ap symbol_of (sym e) ∙ h in absurd (cc))
 
 name_free : (b : ℕ) (x : List ℕ) → is_name_byte b ≡ false → IsName x → IsFreeOf b x
 name_free b x other h = free_by is_name_byte b x other (name_bytes x h.symbol)
@@ -66,10 +70,12 @@ element_free d k small h = free_append line_feed d.name (element_index d.size k)
     by : (size : Option ℤ) → IsFreeOf line_feed (element_index size k)
     by None = free_by_test line_feed [] refl
     by (Some n) = free_cons line_feed 91 (decimal k ++ codes "]") (λ e. omega (arith, e))
-        (free_append line_feed (decimal k) (codes "]") (decimal_free line_feed k small (λ r. (let low = r.0 in omega (arith, low)))) (free_by_test line_feed (codes "]") refl))
+        (free_append line_feed (decimal k) (codes "]") (decimal_free line_feed k small (λ r. (let low = r.0 in omega (arith, low))))
+        (free_by_test line_feed (codes "]") refl))
 
 -- no element is named by a reserved word
-no_word : (word : List ℕ) → IsFreeOf 91 word → (x : List ℕ) → (x ≡ word → ⊥) → (size : Option ℤ) (k : ℕ) → x ++ element_index size k ≡ word → ⊥
+no_word : (word : List ℕ) → IsFreeOf 91 word → (x : List ℕ) → (x ≡ word → ⊥) → (size : Option ℤ) (k : ℕ) → x ++ element_index size k ≡ word
+    → ⊥
 no_word word free x apart None k e = apart (sym (append-nil x) ∙ e)
 no_word word free x apart (Some n) k e = never_divided 91 word x (decimal k ++ codes "]") free (sym e)
 
@@ -77,7 +83,8 @@ record SameElement (x y : List ℕ) (k l : ℕ) : Type 0 where
   names : x ≡ y
   places : k ≡ l
 
-one_element : (x y : List ℕ) (s t : Option ℤ) (k l : ℕ) → IsFreeOf 91 x → IsFreeOf 91 y → k < declared_size s → l < declared_size t → k < 2 ^ 64 → l < 2 ^ 64
+one_element : (x y : List ℕ) (s t : Option ℤ) (k l : ℕ) → IsFreeOf 91 x → IsFreeOf 91 y → k < declared_size s → l < declared_size t
+    → k < 2 ^ 64 → l < 2 ^ 64
     → x ++ element_index s k ≡ y ++ element_index t l → SameElement x y k l
 one_element x y None None k l f g w v p q e = record { names = sym (append-nil x) ∙ e ∙ append-nil y; places = omega (arith, w, v) }
 one_element x y None (Some n) k l f g w v p q e = absurd (never_divided 91 x y (decimal l ++ codes "]") f (sym (append-nil x) ∙ e))
@@ -88,7 +95,8 @@ one_element x y (Some m) (Some n) k l f g w v p q e =
 
 -- ---- declarations
 
-later_name : (d : Declaration) (ds : List Declaration) (k : ℕ) → declared_size d.size ≤ k → declared_name (d ∷ ds) k ≡ declared_name ds (k - declared_size d.size)
+later_name : (d : Declaration) (ds : List Declaration) (k : ℕ) → declared_size d.size ≤ k → declared_name (d ∷ ds) k ≡ declared_name ds
+    (k - declared_size d.size)
 later_name d ds k l =
     let t : nat_lt k (declared_size d.size) ≡ false = grind (arith, l) in
     rw t refl
@@ -114,12 +122,14 @@ is_cell_own (b ∷ bs) d = by (bytes_eq b.name d.name) (is_cell_own bs d)
     by false more = more
 
 -- no later cell has the name of an element of an earlier declaration
-no_later : (before ds : List Declaration) (d : Declaration) (k l : ℕ) → AreNew before ds → AreWritableCells ds → IsName d.name → is_cell before d.name ≡ true
+no_later : (before ds : List Declaration) (d : Declaration) (k l : ℕ) → AreNew before ds → AreWritableCells ds → IsName d.name
+    → is_cell before d.name ≡ true
     → k < declared_size d.size → k < 2 ^ 64 → l < cell_total ds → cell_total ds < 2 ^ 64 → element_name d k ≡ declared_name ds l → ⊥
 no_later before [] d k l new names h own w small v few e = omega (arith, v)
 no_later before (x ∷ ds) d k l new names h own w small v few e = elim (cases_lt l (declared_size x.size)) [
   | inl less ↦ (
-      let same = one_element d.name x.name d.size x.size k l (name_free 91 d.name refl h) (name_free 91 x.name refl names.0) w less small (omega (arith, v, few))
+      let same = one_element d.name x.name d.size x.size k l (name_free 91 d.name refl h) (name_free 91 x.name refl names.0) w less small
+      (omega (arith, v, few))
       (e ∙ own_name x ds l less) in
       let z : true ≡ false = sym own ∙ ap (is_cell before) same.names ∙ new.0 in
       absurd (cc))
@@ -127,34 +137,42 @@ no_later before (x ∷ ds) d k l new names h own w small v few e = elim (cases_l
       (omega (arith, v, past)) (omega (arith, few)) (e ∙ later_name x ds l past)
 ]
 
-one_declared : (before ds : List Declaration) (k l : ℕ) → AreNew before ds → AreWritableCells ds → k < cell_total ds → l < cell_total ds → cell_total ds < 2 ^ 64
+one_declared : (before ds : List Declaration) (k l : ℕ) → AreNew before ds → AreWritableCells ds → k < cell_total ds → l < cell_total ds
+    → cell_total ds < 2 ^ 64
     → declared_name ds k ≡ declared_name ds l → k ≡ l
 one_declared before [] k l new names w v few e = absurd (omega (arith, w))
 one_declared before (d ∷ ds) k l new names w v few e = elim (cases_lt k (declared_size d.size)) [
   | inl less ↦ elim (cases_lt l (declared_size d.size)) [
-    | inl also ↦ (one_element d.name d.name d.size d.size k l (name_free 91 d.name refl names.0) (name_free 91 d.name refl names.0) less also
+    | inl also ↦ (one_element d.name d.name d.size d.size k l (name_free 91 d.name refl names.0)
+        (name_free 91 d.name refl names.0) less also
         (omega (arith, w, few)) (omega (arith, v, few)) (sym (own_name d ds k less) ∙ e ∙ own_name d ds l also)).places
-    | inr past ↦ absurd (no_later (before ++ d ∷ []) ds d k (l - declared_size d.size) new.1 names.3 names.0 (is_cell_own before d) less (omega (arith, w, few))
+    | inr past ↦ absurd (no_later (before ++ d ∷ []) ds d k (l - declared_size d.size) new.1 names.3 names.0 (is_cell_own before d) less
+        (omega (arith, w, few))
         (omega (arith, v, past)) (omega (arith, few)) (sym (own_name d ds k less) ∙ e ∙ later_name d ds l past))
   ]
   | inr past ↦ elim (cases_lt l (declared_size d.size)) [
-    | inl also ↦ absurd (no_later (before ++ d ∷ []) ds d l (k - declared_size d.size) new.1 names.3 names.0 (is_cell_own before d) also (omega (arith, v, few))
+    | inl also ↦ absurd (no_later (before ++ d ∷ []) ds d l (k - declared_size d.size) new.1 names.3 names.0 (is_cell_own before d) also
+        (omega (arith, v, few))
         (omega (arith, w, past)) (omega (arith, few)) (sym (own_name d ds l also) ∙ sym e ∙ later_name d ds k past))
     | inr beyond ↦ (
-        let rest = one_declared (before ++ d ∷ []) ds (k - declared_size d.size) (l - declared_size d.size) new.1 names.3 (omega (arith, w, past)) (omega (arith, v, beyond))
+        let rest = one_declared (before ++ d ∷ []) ds (k - declared_size d.size) (l - declared_size d.size) new.1 names.3
+        (omega (arith, w, past)) (omega (arith, v, beyond))
         (omega (arith, few)) (sym (later_name d ds k past) ∙ e ∙ later_name d ds l beyond) in
         omega (arith, rest, past, beyond))
   ]
 ]
 
-declared_free : (ds : List Declaration) (k : ℕ) → AreWritableCells ds → k < cell_total ds → cell_total ds < 2 ^ 64 → IsFreeOf line_feed (declared_name ds k)
+declared_free : (ds : List Declaration) (k : ℕ) → AreWritableCells ds → k < cell_total ds → cell_total ds < 2 ^ 64
+    → IsFreeOf line_feed (declared_name ds k)
 declared_free [] k names w few = absurd (omega (arith, w))
 declared_free (d ∷ ds) k names w few = elim (cases_lt k (declared_size d.size)) [
   | inl less ↦ subst (IsFreeOf line_feed) (sym (own_name d ds k less)) (element_free d k (omega (arith, w, few)) names.0)
-  | inr past ↦ subst (IsFreeOf line_feed) (sym (later_name d ds k past)) (declared_free ds (k - declared_size d.size) names.3 (omega (arith, w, past)) (omega (arith, few)))
+  | inr past ↦ subst (IsFreeOf line_feed) (sym (later_name d ds k past))
+      (declared_free ds (k - declared_size d.size) names.3 (omega (arith, w, past)) (omega (arith, few)))
 ]
 
-no_reserved : (word : List ℕ) → IsFreeOf 91 word → ((x : List ℕ) → symbol_of x ≡ Some (symbols.Name x) → x ≡ word → ⊥) → (ds : List Declaration) (k : ℕ) → AreWritableCells ds
+no_reserved : (word : List ℕ) → IsFreeOf 91 word → ((x : List ℕ) → symbol_of x ≡ Some (symbols.Name x) → x ≡ word → ⊥)
+    → (ds : List Declaration) (k : ℕ) → AreWritableCells ds
     → k < cell_total ds → declared_name ds k ≡ word → ⊥
 no_reserved word free apart [] k names w e = omega (arith, w)
 no_reserved word free apart (d ∷ ds) k names w e = elim (cases_lt k (declared_size d.size)) [
@@ -182,7 +200,8 @@ plain_names ds new names few = record { distinct = distinct; free = free }
     distinct zero (suc (suc l)) p q e = absurd (no_reserved (codes "input") input_free no_input ds l names (omega (arith, q)) (sym e))
     distinct (suc zero) zero p q e = absurd (input_differs (sym e))
     distinct (suc zero) (suc zero) p q e = refl
-    distinct (suc zero) (suc (suc l)) p q e = absurd (no_reserved (codes "output") output_free no_output ds l names (omega (arith, q)) (sym e))
+    distinct (suc zero) (suc (suc l)) p q e = absurd (no_reserved (codes "output") output_free no_output ds l names (omega (arith, q))
+        (sym e))
     distinct (suc (suc k)) zero p q e = absurd (no_reserved (codes "input") input_free no_input ds k names (omega (arith, p)) e)
     distinct (suc (suc k)) (suc zero) p q e = absurd (no_reserved (codes "output") output_free no_output ds k names (omega (arith, p)) e)
     distinct (suc (suc k)) (suc (suc l)) p q e =

@@ -55,7 +55,8 @@ pub data HasFields (cells : List Declaration) (fields : List ℕ) : LogWord → 
   Traps : (i : ℕ) (t : Trap_name) → IsTrapText fields i t → HasFields cells fields Trap (events.Finish i (ends.Trapped t))
   Accesses : (kind : AccessKind) (i c : ℕ) (v : ℤ) → IsAccessText cells fields i c v
       → HasFields cells fields (Access kind) (events.Access i (record { cell = record { 0 = c }; kind = kind; value = v }))
-  Advances : (kind : StageKind) (i : ℕ) (n : ℤ) → IsStageText fields i n → HasFields cells fields (Stage kind) (events.Advance i (kind_of_stage kind) n)
+  Advances : (kind : StageKind) (i : ℕ) (n : ℤ) → IsStageText fields i n → HasFields cells fields (Stage kind)
+      (events.Advance i (kind_of_stage kind) n)
 
 -- the word has an iteration after it and nothing else
 abbrev pub IsAlone : LogWord → Type 0

@@ -28,25 +28,29 @@ HasLine Stop = Unit {0}
 -- the text of a run log of an accepted program is read as its events
 abbrev pub LogsAreReadAsTheirEvents : Type 0
 LogsAreReadAsTheirEvents =
-    (source : List ℕ) (tree : SyntaxTree) (events others : List Event) → IsAccepted source tree → All (IsInRanges tree.cells) events → All HasLine events
+    (source : List ℕ) (tree : SyntaxTree) (events others : List Event) → IsAccepted source tree → All (IsInRanges tree.cells) events
+    → All HasLine events
     → IsRecord tree.cells (lines_of (log_text tree.cells events)) others → others ≡ events
 
 -- it has no bad line
 abbrev pub LogsHaveNoBadLine : Type 0
 LogsHaveNoBadLine =
-    (source : List ℕ) (tree : SyntaxTree) (events : List Event) (n : ℕ) → IsAccepted source tree → All (IsInRanges tree.cells) events → All HasLine events
+    (source : List ℕ) (tree : SyntaxTree) (events : List Event) (n : ℕ) → IsAccepted source tree → All (IsInRanges tree.cells) events
+    → All HasLine events
     → IsFirstBadLine tree.cells (lines_of (log_text tree.cells events)) n → ⊥
 
 -- a record of an accepted program is a record of one list of events
 abbrev pub RecordsHaveOneReading : Type 0
 RecordsHaveOneReading =
-    (source : List ℕ) (tree : SyntaxTree) (lines : List (List ℕ)) (events others : List Event) → IsAccepted source tree → IsRecord tree.cells lines events
+    (source : List ℕ) (tree : SyntaxTree) (lines : List (List ℕ)) (events others : List Event) → IsAccepted source tree
+    → IsRecord tree.cells lines events
     → IsRecord tree.cells lines others → events ≡ others
 
 -- a record has no bad line
 abbrev pub RecordsHaveNoBadLine : Type 0
 RecordsHaveNoBadLine =
-    (cells : List Declaration) (lines : List (List ℕ)) (events : List Event) (n : ℕ) → IsRecord cells lines events → IsFirstBadLine cells lines n → ⊥
+    (cells : List Declaration) (lines : List (List ℕ)) (events : List Event) (n : ℕ) → IsRecord cells lines events
+    → IsFirstBadLine cells lines n → ⊥
 
 -- a text has one first bad line at most
 abbrev pub TextsHaveOneBadLine : Type 0

@@ -1,5 +1,6 @@
 -- The lines of a record: lines of the run's outcome, and then a line for each event.
-use Rattle.std.specs.Prelude.{◌≡◌, ℕ, ℤ, List, [], ◌∷◌, ◌++◌, ◌+◌, ◌<◌, ◌≤◌, ◌==◌, All, FitsSigned, if◌then◌else◌, length, slice_index_or, take}
+use Rattle.std.specs.Prelude.{◌≡◌, ℕ, ℤ, List, [], ◌∷◌, ◌++◌, ◌+◌, ◌<◌, ◌≤◌, ◌==◌, All, FitsSigned, if◌then◌else◌, length, slice_index_or}
+use Rattle.std.specs.Prelude.{take}
 use Rattle.std.specs.Fmt.{signed_decimal}
 use Rattle.std.specs.List.{AllZip}
 use mir.Syntax.{w64}

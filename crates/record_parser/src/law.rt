@@ -1,6 +1,7 @@
 //! Laws of the reading of records.
 
-ghost use Rattle.record_parser.specs.ReadingLaws.{LogsAreReadAsTheirEvents, LogsHaveNoBadLine, RecordsHaveNoBadLine, RecordsHaveOneReading, TextsHaveOneBadLine};
+ghost use Rattle.record_parser.specs.ReadingLaws.{LogsAreReadAsTheirEvents, LogsHaveNoBadLine, RecordsHaveNoBadLine, RecordsHaveOneReading};
+ghost use Rattle.record_parser.specs.ReadingLaws.{TextsHaveOneBadLine};
 
 /// If a record is the text of a run log, its events are those of the log.
 pub fn logs_are_read_as_their_events()

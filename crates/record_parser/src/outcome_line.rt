@@ -5,7 +5,8 @@ ghost use Rattle.record_parser.specs.LogForms.{space};
 ghost use Rattle.std.specs.Bool.{OnFalse, OnTrue};
 ghost use Rattle.pipe_model.specs.Language.CheckingRules.{cell_total};
 ghost use Rattle.pipe_model.specs.declared.bounds.TheConstants.{MOST_CELLS};
-ghost use Rattle.record_parser.specs.OutcomeForms.{EndsInAccess, IsInstanceText, IsOutcomeTrapText, IsPlaceText, IsRaceText, IsWordedOutcome};
+ghost use Rattle.record_parser.specs.OutcomeForms.{EndsInAccess, IsInstanceText, IsOutcomeTrapText, IsPlaceText, IsRaceText};
+ghost use Rattle.record_parser.specs.OutcomeForms.{IsWordedOutcome};
 ghost use Rattle.record_parser.specs.RecordLines.{IsOutcomeLine};
 
 use crate::names::{cell_field, kind_field, trap_field};

@@ -2,7 +2,8 @@
 -- Interaction trees are those of Xia et al. 2020.
 use Rattle.std.specs.Prelude.{List, ℕ, ◌≡◌, ◌++◌, ℤ}
 use Rattle.pipe_model.specs.Pipelines.Behaviour.{accesses_in, Behaviour, Performs, actions_with, Action, HasNoEnd}
-use Rattle.pipe_model.specs.Language.Interaction.{bind, interpreted_bind, Interaction, Progress, interpreted_actions, interpret, with_budget, replies_in}
+use Rattle.pipe_model.specs.Language.Interaction.{bind, interpreted_bind, Interaction, Progress, interpreted_actions, interpret}
+use Rattle.pipe_model.specs.Language.Interaction.{with_budget, replies_in}
 use Rattle.pipe_model.specs.Pipelines.Pipeline.{Pipeline}
 use Rattle.pipe_model.specs.Pipelines.SerialElision.{serial_trace}
 use Rattle.pipe_model.specs.declared.access.Access.{Access}

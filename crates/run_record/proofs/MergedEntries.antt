@@ -1,5 +1,6 @@
 -- A stable sort by tickets of all entries is their merge.
-use Rattle.std.proofs.Common.{◌≡◌, ◌∙◌, refl, sym, ap, subst, ℕ, ◌<◌, ◌≤◌, List, [], ◌∷◌, map, length, get_or, Bool, true, false, not, cond, eqb, ◌&&◌, arith, inl, inr, All}
+use Rattle.std.proofs.Common.{◌≡◌, ◌∙◌, refl, sym, ap, subst, ℕ, ◌<◌, ◌≤◌, List, [], ◌∷◌, map, length, get_or, Bool, true, false, not, cond}
+use Rattle.std.proofs.Common.{eqb, ◌&&◌, arith, inl, inr, All}
 use Rattle.std.proofs.lemmas.Bool.{cases_lt}
 use Rattle.std.proofs.lemmas.Bool.Decides.{nat_tests}
 use Rattle.std.proofs.lemmas.List.{get_or-map, get_or_past, length-map}
@@ -14,8 +15,10 @@ use Rattle.pipe_model.specs.Runs.TicketLogs.{InOrder, IsMerge, LogEntry, rank_of
 use Rattle.run_record.specs.declared.merge.LogItem.{LogItem}
 use Rattle.run_record.specs.declared.merge.LogItem.TheVariants as items
 use Rattle.run_record.specs.MergedLogs.{BookRises, ShardRises, all_entries, entry_of, shard_at}
-use Rattle.run_record.proofs.RisingLists.{Climbs, Climbs-from_sorted, Leads, Leads-from_pairs, Leads-from_ties, Leads-tied, Leads-weaker, kept_part, with_number}
-use Rattle.run_record.proofs.SortedEntries.{RanksRise, all_rise, book_in-all, book_in-filter_map, book_of, book_ticket, shard_in-all, shard_in-filter_map, shard_of, shard_ticket}
+use Rattle.run_record.proofs.RisingLists.{Climbs, Climbs-from_sorted, Leads, Leads-from_pairs, Leads-from_ties, Leads-tied, Leads-weaker}
+use Rattle.run_record.proofs.RisingLists.{kept_part, with_number}
+use Rattle.run_record.proofs.SortedEntries.{RanksRise, all_rise, book_in-all, book_in-filter_map, book_of, book_ticket, shard_in-all}
+use Rattle.run_record.proofs.SortedEntries.{shard_in-filter_map, shard_of, shard_ticket}
 
 -- ---- merges
 
@@ -85,7 +88,8 @@ item_with t = items.OfBook (record { ticket = t; event = Stop })
 tied_is_same : (a b : ℕ) → eqb b a ≡ (not (is_lt (nat_cmp a b)) && not (is_lt (nat_cmp b a)))
 tied_is_same a b = grind (arith, nat_tests)
 
-with_ticket : (t : ℕ) (zs : List LogItem) → with_number ticket_of t (map entry_of zs) ≡ map entry_of (filter (λ z. eqb (ticket_of (entry_of z)) t) zs)
+with_ticket : (t : ℕ) (zs : List LogItem) → with_number ticket_of t (map entry_of zs) ≡ map entry_of
+    (filter (λ z. eqb (ticket_of (entry_of z)) t) zs)
 with_ticket t [] = refl
 with_ticket t (z ∷ zs) = by_test (eqb (ticket_of (entry_of z)) t) (with_ticket t zs)
   where

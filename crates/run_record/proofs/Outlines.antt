@@ -90,7 +90,8 @@ stage_entered (it ∷ its) zero =
 stage_entered (it ∷ its) (suc i) = ap (λ l. frame_of it ∷ l) (stage_entered its i)
 
 -- an iteration is written
-pub update_at : (its : List Iteration) (i : ℕ) (it : Iteration) (g : Frame → Frame) (now : Iteration) → i < length its → it ≡ get_or its i it
+pub update_at : (its : List Iteration) (i : ℕ) (it : Iteration) (g : Frame → Frame) (now : Iteration) → i < length its
+    → it ≡ get_or its i it
     → g (frame_of it) ≡ frame_of now → frames_of (set its i now) ≡ update_frame (frames_of its) i g
 update_at [] i it g now l is made = absurd (omega (arith, l))
 update_at (x ∷ its) zero it g now l is made =

@@ -1,5 +1,6 @@
 -- Lists in which each element is in a relation to all after it, and what a stable sort by numbers keeps of them.
-use Rattle.std.proofs.Common.{◌≡◌, ◌∙◌, refl, sym, ap, subst, ℕ, suc, ◌<◌, ◌≤◌, List, [], ◌∷◌, ◌++◌, length, map, get_or, Bool, true, false, cond, eqb, arith, inl, inr, Option, Some, None, AllPairs, eq-eqb}
+use Rattle.std.proofs.Common.{◌≡◌, ◌∙◌, refl, sym, ap, subst, ℕ, suc, ◌<◌, ◌≤◌, List, [], ◌∷◌, ◌++◌, length, map, get_or, Bool, true, false}
+use Rattle.std.proofs.Common.{cond, eqb, arith, inl, inr, Option, Some, None, AllPairs, eq-eqb}
 use Rattle.std.proofs.lemmas.Bool.{eqb-true}
 use Rattle.std.specs.List.{filter, filter_map, cons_option}
 use Rattle.std.specs.List.Sorted.{IsNonDecreasingBy}

@@ -1,5 +1,6 @@
 -- The entries of a book and its shards, in the order in which they are put together before they are sorted.
-use Rattle.std.proofs.Common.{◌≡◌, ◌∙◌, refl, sym, ap, subst, ℕ, zero, suc, ◌+◌, ◌<◌, List, [], ◌∷◌, ◌++◌, map, get_or, length, Bool, true, false, cond, eqb, arith, inl, inr, Option, Some, None, eq-eqb, append-nil, append_assoc, take, All}
+use Rattle.std.proofs.Common.{◌≡◌, ◌∙◌, refl, sym, ap, subst, ℕ, zero, suc, ◌+◌, ◌<◌, List, [], ◌∷◌, ◌++◌, map, get_or, length, Bool, true}
+use Rattle.std.proofs.Common.{false, cond, eqb, arith, inl, inr, Option, Some, None, eq-eqb, append-nil, append_assoc, take, All}
 use Rattle.std.proofs.lemmas.Bool.{ne_eqb}
 use Rattle.std.proofs.lemmas.List.{length-take-le, take_more}
 use Rattle.std.proofs.lemmas.List.Elements.{All-head, All-tail}
@@ -146,7 +147,8 @@ books_rise book h =
 shard_rises : (k : ℕ) (shard : List ShardEntry) → ShardRises shard → Leads RanksRise (map (OfShard k) shard)
 shard_rises k shard h =
     Leads-map (OfShard k) RanksRise shard
-    (Leads-weaker (λ a b. a.ticket < b.ticket) (λ a b. RanksRise (OfShard k a) (OfShard k b)) (λ a b less e. absurd (omega (arith, less, e))) shard
+    (Leads-weaker (λ a b. a.ticket < b.ticket) (λ a b. RanksRise (OfShard k a) (OfShard k b))
+    (λ a b less e. absurd (omega (arith, less, e))) shard
     (Leads-from_pairs (λ (a : ShardEntry) (b : ShardEntry). a.ticket < b.ticket) shard h))
 
 rank_in_shard : (k : ℕ) (shard : List ShardEntry) (x : LogEntry) → Among x (map (OfShard k) shard) → rank_of x ≡ suc k

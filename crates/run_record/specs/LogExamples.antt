@@ -37,7 +37,12 @@ ClosedText = log_text [] (Begin 0 ∷ Finish 0 Closed ∷ []) ≡ codes "begin 0
 
 -- an array of three cells and a plain cell
 abbrev pub array_cells : List Declaration
-array_cells = record { name = codes "a"; size = Some (pos 3); value = pos 0 } ∷ record { name = codes "last"; size = None; value = pos 0 } ∷ []
+array_cells = record { name = codes "a"; size = Some (pos 3); value = pos 0 } ∷ record {
+  name = codes "last";
+  size = None;
+  value =
+      pos 0;
+} ∷ []
 
 -- the input's cursor, an element, the cell after the array, negative numbers, and the lines that the other examples do not have
 abbrev pub OtherLines : Type 0

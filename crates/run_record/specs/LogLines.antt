@@ -20,7 +20,8 @@ iteration_line word i = word ++ (codes " " ++ (decimal i ++ codes "\n"))
 -- an access: its kind, iteration, cell and value
 abbrev pub access_line : (ℕ → List ℕ) → ℕ → Cell_access → List ℕ
 access_line cell_name i a =
-    kind_text a.kind ++ (codes " " ++ (decimal i ++ (codes " " ++ (cell_name a.cell.0 ++ (codes " " ++ (signed_decimal a.value ++ codes "\n"))))))
+    kind_text a.kind ++ (codes " " ++ (decimal i ++ (codes " "
+    ++ (cell_name a.cell.0 ++ (codes " " ++ (signed_decimal a.value ++ codes "\n"))))))
 
 -- a next stage: its kind, the iteration and the stage number. No run names a stage of kind Zero, and there is no line for it.
 abbrev pub stage_line : ℕ → Kind → ℤ → List ℕ

@@ -16,7 +16,8 @@ made_columns events = map column_of_frame (control_after events).frames
 -- a run makes the columns of its state
 abbrev pub RunsMakeTheirColumns : Type 0
 RunsMakeTheirColumns =
-    (p : Pipeline) (limit : ℕ) (events : List Event) → Run p limit events (state_after events) → made_columns events ≡ ended_columns_after events
+    (p : Pipeline) (limit : ℕ) (events : List Event) → Run p limit events (state_after events)
+    → made_columns events ≡ ended_columns_after events
 
 -- ---- iterations, as the code keeps them
 

@@ -50,7 +50,8 @@ fn set_status(iterations: &mut Vec<Iteration>, iteration: u32, status: Status)
 
 // Enters the stage that an iteration has named, if it has named one.
 fn enter(iterations: &mut Vec<Iteration>, iteration: u32) -> Result<(), NoMemory>
-    ensures { OnOk result (frames_of iterations.new.items ≡ update_frame (frames_of iterations.old.items) iteration (λ f. enter_pending f.status f)) }
+    ensures { OnOk result (frames_of iterations.new.items ≡ update_frame (frames_of iterations.old.items) iteration
+        (λ f. enter_pending f.status f)) }
 {
     let index = iteration as usize;
     if index < iterations.len() {

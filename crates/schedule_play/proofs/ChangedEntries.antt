@@ -1,5 +1,7 @@
 -- What is kept of the iterations follows the events of a run.
-use Rattle.std.proofs.Common.{◌≡◌, ◌≢◌, ◌∙◌, ap, ap₂, sym, subst, refl, arith, ℕ, ℤ, pos, zero, suc, ◌+◌, ◌<◌, ◌≤◌, ◌<ℤ◌, List, [], ◌∷◌, ◌++◌, append_assoc, Bool, true, false, not, ◌&&◌, ◌||◌, if◌then◌else◌, Option, Some, None, length, map, filter, inl, inr, eqb, cond}
+use Rattle.std.proofs.Common.{◌≡◌, ◌≢◌, ◌∙◌, ap, ap₂, sym, subst, refl, arith, ℕ, ℤ, pos, zero, suc, ◌+◌, ◌<◌, ◌≤◌, ◌<ℤ◌, List, [], ◌∷◌}
+use Rattle.std.proofs.Common.{◌++◌, append_assoc, Bool, true, false, not, ◌&&◌, ◌||◌, if◌then◌else◌, Option, Some, None, length, map}
+use Rattle.std.proofs.Common.{filter, inl, inr, eqb, cond}
 use Rattle.std.proofs.lemmas.Bool.{cases_eq, eq-eqb, eqb-true}
 use Rattle.std.proofs.lemmas.List.{length-append, map-append}
 use Rattle.std.proofs.lemmas.List.Elements.{filter-append}
@@ -47,11 +49,13 @@ by_entries act apart all all' (f ∷ fs) (g ∷ gs) i e h =
     subst (λ n. act (alive_entry all n f.status f.nodes) ≡ alive_entry all' n g.status g.nodes) first (h 0) in
     let rest : act (alive_from all (i + 1) fs) ≡ alive_from all' (i + 1) gs =
     by_entries act apart all all' fs gs (i + 1) (omega (arith, e))
-    (λ k. let z : i + suc k ≡ i + 1 + k = omega arith in subst (λ n. act (entry_at all n (frame_at fs k)) ≡ entry_at all' n (frame_at gs k)) z (h (suc k))) in
+    (λ k. let z : i + suc k ≡ i + 1 + k = omega arith in
+    subst (λ n. act (entry_at all n (frame_at fs k)) ≡ entry_at all' n (frame_at gs k)) z (h (suc k))) in
     apart.parts (alive_entry all i f.status f.nodes) (alive_from all (i + 1) fs) ∙ ap₂ (λ a b. a ++ b) here rest
 
 -- one frame was updated
-updated : (act : List Alive → List Alive) → IsByParts act → (all : List Frame) (j : ℕ) (f : Frame) (u : Frame → Frame) → frame_at all j ≡ Some f
+updated : (act : List Alive → List Alive) → IsByParts act → (all : List Frame) (j : ℕ) (f : Frame) (u : Frame → Frame)
+    → frame_at all j ≡ Some f
     → act (alive_entry all j f.status f.nodes) ≡ alive_entry (update_frame all j u) j (u f).status (u f).nodes
     → ((k : ℕ) (w : Status) (nodes : List Node) → k ≢ j → act (alive_entry all k w nodes) ≡ alive_entry (update_frame all j u) k w nodes)
     → act (alive_from all 0 all) ≡ alive_from (update_frame all j u) 0 (update_frame all j u)
@@ -96,7 +100,8 @@ entry_other : (all : List Frame) (j : ℕ) (u : Frame → Frame) (k : ℕ) → k
     → alive_entry all k w nodes ≡ alive_entry (update_frame all j u) k w nodes
 entry_other all j u k ne statuses.Running nodes = refl
 entry_other all j u k ne (statuses.Pending kind n) nodes =
-    ap (λ b. record { iteration = k; number = n; standing = if b then MayEnter else MustWait } ∷ []) (sym (may_enter_other all j u k ne kind n))
+    ap (λ b. record { iteration = k; number = n; standing = if b then MayEnter else MustWait } ∷ [])
+    (sym (may_enter_other all j u k ne kind n))
 entry_other all j u k ne (statuses.Completed e) nodes = refl
 
 released_up : (a b : Bool) → (a ≡ true → b ≡ true) → released b (if a then MayEnter else MustWait) ≡ (if b then MayEnter else MustWait)
@@ -112,21 +117,25 @@ release new a = record a { standing = released (new a.number) a.standing }
 -- the entry of the right neighbour, if the updated iteration has passed what it had passed before
 entry_right : (all : List Frame) (j : ℕ) (f : Frame) (u : Frame → Frame) (new : ℤ → Bool) → frame_at all j ≡ Some f
     → ((n : ℤ) → has_passed (u f).status (u f).nodes n ≡ new n) → ((n : ℤ) → has_passed f.status f.nodes n ≡ true → new n ≡ true)
-    → (w : Status) (nodes : List Node) → map (release new) (alive_entry all (j + 1) w nodes) ≡ alive_entry (update_frame all j u) (j + 1) w nodes
+    → (w : Status) (nodes : List Node) → map (release new) (alive_entry all (j + 1) w nodes) ≡ alive_entry (update_frame all j u)
+    (j + 1) w nodes
 entry_right all j f u new is now grows statuses.Running nodes = refl
 entry_right all j f u new is now grows (statuses.Pending kinds.Zero n) nodes = refl
 entry_right all j f u new is now grows (statuses.Pending kinds.Continue n) nodes = refl
 entry_right all j f u new is now grows (statuses.Pending kinds.Wait n) nodes =
     let z : j + 1 ≡ suc j = omega arith in
-    let before : left_has_passed all (j + 1) n ≡ has_passed f.status f.nodes n = ap (λ i. left_has_passed all i n) z ∙ ap (λ o. frame_has_passed o n) is in
+    let before : left_has_passed all (j + 1) n ≡ has_passed f.status f.nodes n = ap (λ i. left_has_passed all i n) z
+    ∙ ap (λ o. frame_has_passed o n) is in
     let after : left_has_passed (update_frame all j u) (j + 1) n ≡ new n =
     ap (λ i. left_has_passed (update_frame all j u) i n) z ∙ ap (λ o. frame_has_passed o n) (frame_at_updated all j f u is) ∙ now n in
     ap (λ x. record { iteration = j + 1; number = n; standing = x } ∷ [])
-    (released_up (left_has_passed all (j + 1) n) (new n) (λ e. grows n (sym before ∙ e)) ∙ ap (λ b. if b then MayEnter else MustWait) (sym after))
+    (released_up (left_has_passed all (j + 1) n) (new n) (λ e. grows n (sym before ∙ e)) ∙ ap (λ b. if b then MayEnter else MustWait)
+    (sym after))
 entry_right all j f u new is now grows (statuses.Completed e) nodes = refl
 
 -- changes that do the same to an entry of iteration i
-same_on : (one other : Alive → Alive) (all : List Frame) (i : ℕ) (w : Status) (nodes : List Node) → ((a : Alive) → a.iteration ≡ i → one a ≡ other a)
+same_on : (one other : Alive → Alive) (all : List Frame) (i : ℕ) (w : Status) (nodes : List Node)
+    → ((a : Alive) → a.iteration ≡ i → one a ≡ other a)
     → map one (alive_entry all i w nodes) ≡ map other (alive_entry all i w nodes)
 same_on one other all i statuses.Running nodes h = ap (λ a. a ∷ []) (h _ refl)
 same_on one other all i (statuses.Pending k n) nodes h = ap (λ a. a ∷ []) (h _ refl)
@@ -143,7 +152,8 @@ map_parts one = record { none = refl; parts = λ xs ys. map-append one xs ys }
 
 -- ---- a stage is named
 
-named_right : (j : ℕ) (n : ℤ) (free : Bool) (a : Alive) → a.iteration ≡ j + 1 → after_change (Named j n free) a ≡ release (λ m. int_lt m n) a
+named_right : (j : ℕ) (n : ℤ) (free : Bool) (a : Alive) → a.iteration ≡ j + 1 → after_change (Named j n free) a ≡ release
+    (λ m. int_lt m n) a
 named_right j n free a e =
     let apart : eqb a.iteration j ≡ false = apart_eqb a.iteration j (λ q. absurd (omega (arith, e, q))) in
     let right : eqb a.iteration (j + 1) ≡ true = eq-eqb a.iteration (j + 1) e in
@@ -160,7 +170,8 @@ named_other j n free a ne far =
 passed_up : (m q n : ℤ) → q <ℤ n → int_lt m q ≡ true → int_lt m n ≡ true
 passed_up m q n above e = grind (arith, above, e)
 
-pub named : (all : List Frame) (j : ℕ) (f : Frame) (kind : Kind) (n : ℤ) (free : Bool) → frame_at all j ≡ Some f → f.status ≡ statuses.Running
+pub named : (all : List Frame) (j : ℕ) (f : Frame) (kind : Kind) (n : ℤ) (free : Bool) → frame_at all j ≡ Some f
+    → f.status ≡ statuses.Running
     → (last_node f.nodes).number <ℤ n → free ≡ may_enter all j kind n
     → map (after_change (Named j n free)) (alive_from all 0 all)
     ≡ alive_from (update_frame all j (with_action (Staged kind n) (statuses.Pending kind n))) 0
@@ -178,7 +189,8 @@ named all j f kind n free is runs above may = updated (map change) (map_parts ch
         let same : j ≢ j + 1 = λ q. absurd (omega (arith, q)) in
         ap (λ w. map change (alive_entry all j w f.nodes)) runs
         ∙ ap (λ b. (if b then record { iteration = j; number = n; standing = if free then MayEnter else MustWait }
-        else (if j == j + 1 then release (λ m. int_lt m n) (record { iteration = j; number = (last_node f.nodes).number; standing = Running })
+        else (if j == j + 1 then release (λ m. int_lt m n)
+        (record { iteration = j; number = (last_node f.nodes).number; standing = Running })
         else record { iteration = j; number = (last_node f.nodes).number; standing = Running })) ∷ []) (eq-eqb j j refl)
         ∙ ap (λ b. record { iteration = j; number = n; standing = if b then MayEnter else MustWait } ∷ [])
         (may ∙ sym (may_enter_other all j u j same kind n))
@@ -186,7 +198,8 @@ named all j f kind n free is runs above may = updated (map change) (map_parts ch
     grows : (m : ℤ) → has_passed f.status f.nodes m ≡ true → int_lt m n ≡ true
     grows m e = passed_up m (last_node f.nodes).number n above (ap (λ w. has_passed w f.nodes m) (sym runs) ∙ e)
 
-    other : (k : ℕ) (w : Status) (nodes : List Node) → k ≢ j → map change (alive_entry all k w nodes) ≡ alive_entry (update_frame all j u) k w nodes
+    other : (k : ℕ) (w : Status) (nodes : List Node) → k ≢ j → map change (alive_entry all k w nodes) ≡ alive_entry
+        (update_frame all j u) k w nodes
     other k w nodes ne = elim (cases_eq k (j + 1)) [
       | inl right ↦ subst (λ i. map change (alive_entry all i w nodes) ≡ alive_entry (update_frame all j u) i w nodes) (sym right)
           (same_on change (release (λ m. int_lt m n)) all (j + 1) w nodes (named_right j n free)
@@ -247,9 +260,11 @@ entered all j f kind n is named' = updated (map change) (map_parts change) all j
         ∙ ap (λ (g : Frame). alive_entry (update_frame all j u) j g.status g.nodes) (sym now)
 
     passed : (m : ℤ) → has_passed (u f).status (u f).nodes m ≡ has_passed f.status f.nodes m
-    passed m = ap (λ (g : Frame). has_passed g.status g.nodes m) now ∙ ap (λ q. int_lt m q) number ∙ ap (λ w. has_passed w f.nodes m) (sym named')
+    passed m = ap (λ (g : Frame). has_passed g.status g.nodes m) now ∙ ap (λ q. int_lt m q) number
+        ∙ ap (λ w. has_passed w f.nodes m) (sym named')
 
-    other : (k : ℕ) (w : Status) (nodes : List Node) → k ≢ j → map change (alive_entry all k w nodes) ≡ alive_entry (update_frame all j u) k w nodes
+    other : (k : ℕ) (w : Status) (nodes : List Node) → k ≢ j → map change (alive_entry all k w nodes) ≡ alive_entry
+        (update_frame all j u) k w nodes
     other k w nodes ne = unchanged change all k w nodes (λ a e. entered_other j a (λ q. ne (sym e ∙ q)))
         ∙ entry_same all (update_frame all j u) k (may_enter_same all j f u is passed k) w nodes
 
@@ -265,7 +280,8 @@ ended_right j a e = ap (λ b. if b then release (λ m. true) a else a) (eq-eqb a
 ended_other : (j : ℕ) (a : Alive) → a.iteration ≢ j + 1 → after_change (Ended j) a ≡ a
 ended_other j a far = ap (λ b. if b then release (λ m. true) a else a) (apart_eqb a.iteration (j + 1) far)
 
-others_stay : (all : List Frame) (j k : ℕ) (w : Status) (nodes : List Node) → k ≢ j → filter (is_other j) (alive_entry all k w nodes) ≡ alive_entry all k w nodes
+others_stay : (all : List Frame) (j k : ℕ) (w : Status) (nodes : List Node) → k ≢ j → filter (is_other j)
+    (alive_entry all k w nodes) ≡ alive_entry all k w nodes
 others_stay all j k statuses.Running nodes ne =
     let a : Alive = record { iteration = k; number = (last_node nodes).number; standing = Running } in
     ap (λ b. cond (not b) (a ∷ []) []) (apart_eqb k j ne)
@@ -276,7 +292,8 @@ others_stay all j k (statuses.Completed e) nodes ne = refl
 
 pub ended : (all : List Frame) (j : ℕ) (f : Frame) (e : ColumnEnd) → frame_at all j ≡ Some f → f.status ≡ statuses.Running
     → filter (is_other j) (map (after_change (Ended j)) (alive_from all 0 all))
-    ≡ alive_from (update_frame all j (with_action (Over e) (statuses.Completed e))) 0 (update_frame all j (with_action (Over e) (statuses.Completed e)))
+    ≡ alive_from (update_frame all j (with_action (Over e) (statuses.Completed e))) 0
+    (update_frame all j (with_action (Over e) (statuses.Completed e)))
 ended all j f e is runs = updated act parts all j f u is own other
   where
     u : Frame → Frame
@@ -301,7 +318,8 @@ ended all j f e is runs = updated act parts all j f u is own other
         ap (λ w. act (alive_entry all j w f.nodes)) runs ∙ ap (λ x. filter (is_other j) (x ∷ [])) stays
         ∙ ap (λ b. cond (not b) (a ∷ []) []) (eq-eqb j j refl)
 
-    changed : (k : ℕ) (w : Status) (nodes : List Node) → k ≢ j → map change (alive_entry all k w nodes) ≡ alive_entry (update_frame all j u) k w nodes
+    changed : (k : ℕ) (w : Status) (nodes : List Node) → k ≢ j → map change (alive_entry all k w nodes) ≡ alive_entry
+        (update_frame all j u) k w nodes
     changed k w nodes ne = elim (cases_eq k (j + 1)) [
       | inl right ↦ subst (λ i. map change (alive_entry all i w nodes) ≡ alive_entry (update_frame all j u) i w nodes) (sym right)
           (same_on change (release (λ m. true)) all (j + 1) w nodes (ended_right j)
@@ -309,16 +327,19 @@ ended all j f e is runs = updated act parts all j f u is own other
       | inr far ↦ unchanged change all k w nodes (λ a q. ended_other j a (λ r. far (sym q ∙ r))) ∙ entry_other all j u k far w nodes
     ]
 
-    other : (k : ℕ) (w : Status) (nodes : List Node) → k ≢ j → act (alive_entry all k w nodes) ≡ alive_entry (update_frame all j u) k w nodes
+    other : (k : ℕ) (w : Status) (nodes : List Node) → k ≢ j → act (alive_entry all k w nodes) ≡ alive_entry
+        (update_frame all j u) k w nodes
     other k w nodes ne = ap (filter (is_other j)) (changed k w nodes ne) ∙ others_stay (update_frame all j u) j k w nodes ne
 
 -- ---- an iteration begins
 
-alive_append : (all : List Frame) (i : ℕ) (fs gs : List Frame) → alive_from all i (fs ++ gs) ≡ alive_from all i fs ++ alive_from all (i + length fs) gs
+alive_append : (all : List Frame) (i : ℕ) (fs gs : List Frame) → alive_from all i (fs ++ gs) ≡ alive_from all i fs ++ alive_from all
+    (i + length fs) gs
 alive_append all i [] gs = let z : i ≡ i + 0 = omega arith in ap (λ n. alive_from all n gs) z
 alive_append all i (f ∷ fs) gs =
     let z : i + 1 + length fs ≡ i + suc (length fs) = omega arith in
-    ap (λ l. alive_entry all i f.status f.nodes ++ l) (alive_append all (i + 1) fs gs ∙ ap (λ n. alive_from all (i + 1) fs ++ alive_from all n gs) z)
+    ap (λ l. alive_entry all i f.status f.nodes ++ l) (alive_append all (i + 1) fs gs
+    ∙ ap (λ n. alive_from all (i + 1) fs ++ alive_from all n gs) z)
     ∙ sym (append_assoc (alive_entry all i f.status f.nodes) (alive_from all (i + 1) fs) (alive_from all (i + suc (length fs)) gs))
 
 pub begun : (all : List Frame) → alive_from (all ++ fresh_frame ∷ []) 0 (all ++ fresh_frame ∷ [])
@@ -340,10 +361,12 @@ begun all = alive_append all' 0 all (fresh_frame ∷ []) ∙ ap₂ (λ a b. a ++
 
     front : alive_from all 0 all ≡ alive_from all' 0 all
     front = by_entries (λ l. l) (record { none = refl; parts = λ xs ys. refl }) all all' all all 0 refl
-        (λ k. let z : 0 + k ≡ k = omega arith in subst (λ n. entry_at all n (frame_at all k) ≡ entry_at all' n (frame_at all k)) (sym z) (at k (frame_at all k) refl))
+        (λ k. let z : 0 + k ≡ k = omega arith in subst (λ n. entry_at all n (frame_at all k) ≡ entry_at all' n (frame_at all k)) (sym z)
+        (at k (frame_at all k) refl))
 
     last : alive_from all' (0 + length all) (fresh_frame ∷ []) ≡ record { iteration = length all; number = pos 0; standing = Running } ∷ []
-    last = let z : 0 + length all ≡ length all = omega arith in ap (λ i. record { iteration = i; number = pos 0; standing = Running } ∷ []) z
+    last = let z : 0 + length all ≡ length all = omega arith in ap (λ i. record { iteration = i; number = pos 0; standing = Running } ∷ [])
+        z
 
 -- ---- the left neighbour
 
@@ -352,7 +375,8 @@ and_true true = refl
 and_true false = refl
 
 -- the entries of an iteration that is not the left neighbour pass
-no_left : (j : ℕ) (n : ℤ) (all : List Frame) (i : ℕ) (w : Status) (nodes : List Node) → i + 1 ≢ j → list_all (passes_left j n) (alive_entry all i w nodes) ≡ true
+no_left : (j : ℕ) (n : ℤ) (all : List Frame) (i : ℕ) (w : Status) (nodes : List Node) → i + 1 ≢ j
+    → list_all (passes_left j n) (alive_entry all i w nodes) ≡ true
 no_left j n all i statuses.Running nodes ne = ap (λ b. (not b || int_lt n (last_node nodes).number) && true) (apart_eqb (i + 1) j ne)
 no_left j n all i (statuses.Pending kind m) nodes ne = ap (λ b. (not b || int_lt n m) && true) (apart_eqb (i + 1) j ne)
 no_left j n all i (statuses.Completed e) nodes ne = refl
@@ -369,7 +393,8 @@ past_left : (j : ℕ) (n : ℤ) (all : List Frame) (i : ℕ) (fs : List Frame) �
 past_left j n all i [] le = refl
 past_left j n all i (f ∷ fs) le =
     list_all-append (passes_left j n) (alive_entry all i f.status f.nodes) (alive_from all (i + 1) fs)
-    ∙ ap₂ (λ a b. a && b) (no_left j n all i f.status f.nodes (λ q. absurd (omega (arith, q, le)))) (past_left j n all (i + 1) fs (omega (arith, le)))
+    ∙ ap₂ (λ a b. a && b) (no_left j n all i f.status f.nodes (λ q. absurd (omega (arith, q, le))))
+    (past_left j n all (i + 1) fs (omega (arith, le)))
 
 left_from : (j : ℕ) (n : ℤ) (all : List Frame) (i k : ℕ) (fs : List Frame) → j ≡ i + k + 1
     → list_all (passes_left j n) (alive_from all i fs) ≡ frame_has_passed (frame_at fs k) n
@@ -380,7 +405,8 @@ left_from j n all i zero (f ∷ fs) e =
     ∙ and_true (has_passed f.status f.nodes n)
 left_from j n all i (suc k) (f ∷ fs) e =
     list_all-append (passes_left j n) (alive_entry all i f.status f.nodes) (alive_from all (i + 1) fs)
-    ∙ ap₂ (λ a b. a && b) (no_left j n all i f.status f.nodes (λ q. absurd (omega (arith, q, e)))) (left_from j n all (i + 1) k fs (omega (arith, e)))
+    ∙ ap₂ (λ a b. a && b) (no_left j n all i f.status f.nodes (λ q. absurd (omega (arith, q, e))))
+    (left_from j n all (i + 1) k fs (omega (arith, e)))
 
 -- the left neighbour has passed the number
 pub left_is : (all : List Frame) (j : ℕ) (n : ℤ) → list_all (passes_left j n) (alive_from all 0 all) ≡ left_has_passed all j n
@@ -392,7 +418,8 @@ left_is all (suc k) n = left_from (suc k) n all 0 k all (omega arith)
 pub alive_count : (all : List Frame) (i : ℕ) (fs : List Frame) → length (alive_from all i fs) ≡ alive_in fs
 alive_count all i [] = refl
 alive_count all i (f ∷ fs) =
-    length-append (alive_entry all i f.status f.nodes) (alive_from all (i + 1) fs) ∙ ap₂ (λ a b. a + b) (one f.status) (alive_count all (i + 1) fs)
+    length-append (alive_entry all i f.status f.nodes) (alive_from all (i + 1) fs) ∙ ap₂ (λ a b. a + b) (one f.status)
+    (alive_count all (i + 1) fs)
   where
     one : (w : Status) → length (alive_entry all i w f.nodes) ≡ alive_one w
     one statuses.Running = refl

@@ -1,5 +1,6 @@
 -- Which iterations have a next event, by what a schedule keeps.
-use Rattle.std.proofs.Common.{◌≡◌, ◌∙◌, ap, sym, subst, refl, arith, inl, inr, ℕ, zero, suc, ◌+◌, ◌<◌, List, [], ◌∷◌, ◌++◌, Bool, true, false, ◌&&◌, ◌||◌, if◌then◌else◌, Option, None, nat_eq, length}
+use Rattle.std.proofs.Common.{◌≡◌, ◌∙◌, ap, sym, subst, refl, arith, inl, inr, ℕ, zero, suc, ◌+◌, ◌<◌, List, [], ◌∷◌, ◌++◌, Bool, true}
+use Rattle.std.proofs.Common.{false, ◌&&◌, ◌||◌, if◌then◌else◌, Option, None, nat_eq, length}
 use Rattle.std.specs.Prelude.{is_some}
 use Rattle.std.specs.List.{list_any}
 use Rattle.std.proofs.lemmas.Bool.{cases_lt}
@@ -50,7 +51,8 @@ own_entry p s i (statuses.Pending k n) nodes t = by (may_enter s.frames i k n)
     same : nat_eq i i ≡ true
     same = grind arith
 
-    by : (b : Bool) → list_any (goes i) (record { iteration = i; number = n; standing = if b then MayEnter else MustWait } ∷ []) ≡ is_some (event_if b (events.Enter i))
+    by : (b : Bool) → list_any (goes i) (record { iteration = i; number = n; standing = if b then MayEnter else MustWait } ∷ []) ≡ is_some
+        (event_if b (events.Enter i))
     by true = rw same refl
     by false = rw same refl
 own_entry p s i (statuses.Completed e) nodes t = refl
@@ -96,7 +98,8 @@ has_next_is p s i kept e =
 
 -- ---- running instances
 
-by_status : (code : FlatCode) (cells : ℕ) (b : BookState) (p : Pipeline) (s : State) (i : ℕ) (w : Status) (trace : List Action) (kept : Option RunningIterationState)
+by_status : (code : FlatCode) (cells : ℕ) (b : BookState) (p : Pipeline) (s : State) (i : ℕ) (w : Status) (trace : List Action)
+    (kept : Option RunningIterationState)
     → FitsStatus code cells b i w trace kept → is_some kept ≡ true → is_some (event_of_status p s i w trace) ≡ true
 by_status code cells b p s i statuses.Running trace kept h e = refl
 by_status code cells b p s i (statuses.Pending k n) trace kept h e = absurd (no_none (h.0) e)
@@ -109,7 +112,8 @@ by_status code cells b p s i (statuses.Completed x) trace kept h e = absurd (no_
     no_none n t = let z : false ≡ true = ap is_some (sym n) ∙ t in cc
 
 -- an iteration whose instance runs has a next event
-pub running_has_next : (code : FlatCode) (cells : ℕ) (v : PlayState) (i : ℕ) → IsPlay code cells v → is_some (item_or None v.running i) ≡ true
+pub running_has_next : (code : FlatCode) (cells : ℕ) (v : PlayState) (i : ℕ) → IsPlay code cells v
+    → is_some (item_or None v.running i) ≡ true
     → is_some (next_event (pipeline_played v) (run_state v) i) ≡ true
 running_has_next code cells v i h e = elim (cases_lt i (length (run_state v).frames)) [
   | inl less ↦ (

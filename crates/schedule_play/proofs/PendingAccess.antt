@@ -55,7 +55,8 @@ begins_within p budget n m left count t a w =
     begins_by p budget left w.steps m w.tree t a (subst (λ x. Follows p w.steps x w.tree) is w.follows) w.behaviour
 
 -- an instance that was stopped makes an access next
-pub stopped_begins : (code : FlatCode) (cells : ℕ) (input : List ℤ) (run : RunState) (t : Behaviour) → IsStopped code cells input run t → BeginsWithAccess t
+pub stopped_begins : (code : FlatCode) (cells : ℕ) (input : List ℤ) (run : RunState) (t : Behaviour) → IsStopped code cells input run t
+    → BeginsWithAccess t
 stopped_begins code cells input r t h = by r.pending h.access h.pending
   where
     p : CodeSetting
@@ -91,11 +92,13 @@ no_end code cells input r t (stage_ends.Trap w) stopped b ends stops = elim (sub
 no_end code cells input r t stage_ends.Stopped stopped b ends stops = stops
 
 -- a stopped instance that goes on makes an access, over a memory that refuses none before it
-pub makes_access : (code : FlatCode) (cells : ℕ) (input : List ℤ) (r r' : RunState) (t : Behaviour) (e : StageEnd) (stopped : Bool) (made : Option Access)
+pub makes_access : (code : FlatCode) (cells : ℕ) (input : List ℤ) (r r' : RunState) (t : Behaviour) (e : StageEnd) (stopped : Bool)
+    (made : Option Access)
     → IsStopped code cells input r t → RanInstance code cells input t [] (access_list made) r' e → StopsOnly (Some e) stopped
     → (stopped ≡ true → is_some made ≡ true) → is_some made ≡ true
 makes_access code cells input r r' t e stopped (Some a) h ran stops some = refl
 makes_access code cells input r r' t e stopped None h ran stops some =
     let none : [] ≡ ran.accesses = ran.log_is in
-    let ends : EndsAs code cells input e r' t = subst (λ l. EndsAs code cells input e r' (behaviour_after_all t (map Accessed l))) (sym none) ran.ends_as in
+    let ends : EndsAs code cells input e r' t = subst (λ l. EndsAs code cells input e r' (behaviour_after_all t (map Accessed l)))
+    (sym none) ran.ends_as in
     some (no_end code cells input r' t e stopped (stopped_begins code cells input r t h) ends stops)

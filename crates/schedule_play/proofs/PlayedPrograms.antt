@@ -57,7 +57,8 @@ trapped_in_init tree input limits choices r trapped results =
         events = sym (ap (λ b. unless b (played p limits.throttle limits.workers choices limits.turns)) trapped);
         run = NoLoop trapped;
         columns = refl;
-        workers = λ before after e. subst (λ l. running_instances (state_after l) ≤ limits.workers) (sym (nothing_before before after e)) (omega arith);
+        workers = λ before after e. subst (λ l. running_instances (state_after l) ≤ limits.workers) (sym (nothing_before before after e))
+            (omega arith);
         throttled = (runs_keep_rules p limits.throttle [] initial_state EmptyRun).throttled;
         finished = ((λ t. WithoutLoop trapped), (λ f. refl));
         turns = λ no. absurd (no refl);
@@ -77,7 +78,8 @@ result_with r log reports finished = record { run_log = log; reports = reports; 
 
 -- the play of a program whose loop was played
 pub loop_was_played : (tree : SyntaxTree) (input : List ℤ) (limits : PlayLimits) (choices : List ℕ) (play : LoopPlay) (r : Played)
-    → is_some (init_trap (whole_of tree input)) ≡ false → IsLoopPlay tree input limits choices play → IsEndOfLoop (whole_of tree input) play r
+    → is_some (init_trap (whole_of tree input)) ≡ false → IsLoopPlay tree input limits choices play
+    → IsEndOfLoop (whole_of tree input) play r
     → IsPlayed tree input limits choices r
 loop_was_played tree input limits choices play r no_trap loop end =
     let w = whole_of tree input in
@@ -99,7 +101,8 @@ loop_was_played tree input limits choices play r no_trap loop end =
         turns = loop.turns;
       };
       reports = record {
-        found = loop.reports ∙ ap (found_reports (columns_after play.run_log.events) (starts_of play.run_log.events)) loop.scheduled.accesses;
+        found = loop.reports ∙ ap (found_reports (columns_after play.run_log.events) (starts_of play.run_log.events))
+            loop.scheduled.accesses;
         right = loop.right;
       };
       results = record {
@@ -117,7 +120,8 @@ agrees tree input limits choices r accepted h over =
     let w = whole_of tree input in
     let s = state_after r.run_log.events in
     let ran : reaches_final r.finished r.reports ≡ reaches_final true r.reports = ap (λ f. reaches_final f r.reports) over in
-    let a = finished_runs_agree_with_elisions tree input limits.throttle r.run_log r.reports (record { output = r.output; trap = r.trap }) accepted
+    let a = finished_runs_agree_with_elisions tree input limits.throttle r.run_log r.reports
+    (record { output = r.output; trap = r.trap }) accepted
     (record { run = h.log.run; finished = h.log.finished.0 over; columns = h.log.columns }) h.reports.right
     (record { output = h.results.output ∙ ap (λ b. played_output w b s) ran; trap = h.results.trap ∙ ap (λ b. played_trap w b s) ran }) in
     record { silent = a.silent; columns = a.columns; output = a.output; trap = a.trap }
@@ -135,7 +139,8 @@ going_at_first : (s : State) (events : List Event) → (state_from s events).sto
 going_at_first s [] h = h
 going_at_first s (e ∷ events) h = was_going s e (going_at_first (next_state s e) events h)
 
-going_before : (s : State) (before after : List Event) → (state_from s (before ++ after)).stopped ≡ false → (state_from s before).stopped ≡ false
+going_before : (s : State) (before after : List Event) → (state_from s (before ++ after)).stopped ≡ false
+    → (state_from s before).stopped ≡ false
 going_before s [] after h = going_at_first s after h
 going_before s (e ∷ before) after h = going_before (next_state s e) before after h
 
@@ -164,13 +169,15 @@ finishes tree input limits choices r accepted throttle workers h enough = by (is
     by true some = h.log.finished.1 (WithoutLoop some)
     by false none =
         let events : r.run_log.events ≡ played (pipeline_after_init tree input) limits.throttle limits.workers choices limits.turns =
-        h.log.events ∙ ap (λ b. unless b (played (pipeline_after_init tree input) limits.throttle limits.workers choices limits.turns)) none in
+        h.log.events ∙ ap (λ b. unless b (played (pipeline_after_init tree input) limits.throttle limits.workers choices limits.turns))
+        none in
         h.log.finished.1 (WithLoop none (subst (λ es. IsFinished (state_after es)) (sym events)
         (schedules_finish tree input limits.throttle limits.workers choices limits.turns accepted throttle workers enough)))
 
 -- each state of a play that is not finished can go on
 goes_on : (tree : SyntaxTree) (input : List ℤ) (limits : PlayLimits) (choices : List ℕ) (r : Played) → BreaksNoRule tree
-    → 0 < limits.throttle → 0 < limits.workers → IsPlayed tree input limits choices r → (before after : List Event) → r.run_log.events ≡ before ++ after
+    → 0 < limits.throttle → 0 < limits.workers → IsPlayed tree input limits choices r → (before after : List Event)
+    → r.run_log.events ≡ before ++ after
     → (ProgramIsFinished (whole_of tree input) (state_after before) → ⊥)
     → candidates (pipeline_after_init tree input) limits.throttle limits.workers (state_after before) ≢ []
 goes_on tree input limits choices r accepted throttle workers h before after are unfinished = by (is_some (init_trap w)) refl
@@ -190,7 +197,8 @@ goes_on tree input limits choices r accepted throttle workers h before after are
         let front = front_is_run p limits.throttle before after s (subst (λ l. Run p limits.throttle l s) are run.run) in
         let going = going_before initial_state before after (subst (λ l. (state_after l).stopped ≡ false) are run.not_stopped) in
         unfinished (WithLoop none
-        ((finished_runs_have_no_candidate p limits.throttle limits.workers before (state_after before) front well throttle workers going).1 empty))
+        ((finished_runs_have_no_candidate p limits.throttle limits.workers before (state_after before) front well throttle workers going).1
+        empty))
 
 record IsBounded (tree : SyntaxTree) (events : List Event) : Type 0 where
   most : length events ≤ enough_turns tree
@@ -209,7 +217,8 @@ bounded tree input limits choices r accepted throttle workers h = by (is_some (i
 
     by : (b : Bool) → is_some (init_trap w) ≡ b → IsBounded tree r.run_log.events
     by true some =
-        let nothing : r.run_log.events ≡ [] = h.log.events ∙ ap (λ b. unless b (played p limits.throttle limits.workers choices limits.turns)) some in
+        let nothing : r.run_log.events ≡ [] = h.log.events
+        ∙ ap (λ b. unless b (played p limits.throttle limits.workers choices limits.turns)) some in
         subst (IsBounded tree) (sym nothing) (record { most = omega arith; starts = omega arith })
     by false none =
         let run = loop_run tree input limits choices r accepted throttle workers h none in
@@ -222,7 +231,8 @@ bounded tree input limits choices r accepted throttle workers h = by (is_some (i
         }
 
 pub plays_meet_the_headline : (tree : SyntaxTree) (input : List ℤ) (limits : PlayLimits) (choices : List ℕ) (r : Played)
-    → BreaksNoRule tree → 0 < limits.throttle → 0 < limits.workers → IsPlayed tree input limits choices r → MeetsPlayGuarantees tree input limits r
+    → BreaksNoRule tree → 0 < limits.throttle → 0 < limits.workers → IsPlayed tree input limits choices r
+    → MeetsPlayGuarantees tree input limits r
 plays_meet_the_headline tree input limits choices r accepted throttle workers h = record {
   elision = agrees tree input limits choices r accepted h;
   enough = finishes tree input limits choices r accepted throttle workers h;

@@ -1,5 +1,6 @@
 -- Runs of accepted programs, as they are played: their races can be detected, and they have the schedules of the definition.
-use Rattle.std.proofs.Common.{◌≡◌, ◌∙◌, inl, inr, ap, ap₂, sym, subst, refl, arith, ℕ, zero, suc, ℤ, ◌<◌, ◌≤◌, ◌++◌, All, List, [], ◌∷◌, false, Option, Some, None, length, map, get_or}
+use Rattle.std.proofs.Common.{◌≡◌, ◌∙◌, inl, inr, ap, ap₂, sym, subst, refl, arith, ℕ, zero, suc, ℤ, ◌<◌, ◌≤◌, ◌++◌, All, List, [], ◌∷◌}
+use Rattle.std.proofs.Common.{false, Option, Some, None, length, map, get_or}
 use Rattle.std.specs.Prelude.{◌↔◌, option_map}
 use Rattle.std.proofs.Common.{Ok, Err, Result}
 use Rattle.std.specs.Result.{IfOk}
@@ -61,7 +62,8 @@ pub record IsDetectable (columns : List Column) (events : List Event) (accesses 
   pub own : IsOwnLog (record { columns = columns; events = events })
   pub few : length (log_starts events) ≤ MOST_STARTS
   pub inside : All (λ (a : NodeAccess). IsNodeOf (log_columns events) a.node) accesses
-  pub found : found_reports (log_columns events) (log_starts events) accesses ≡ found_reports (own_columns (state_after events)) (starts_of events) accesses
+  pub found : found_reports (log_columns events) (log_starts events) accesses ≡ found_reports (own_columns (state_after events))
+      (starts_of events) accesses
 
 pub detectable : (tree : SyntaxTree) (input : List ℤ) (limit : ℕ) (events : List Event) (columns : List Column) (accesses : List NodeAccess)
     → BreaksNoRule tree → Run (pipeline_after_init tree input) limit events (state_after events) → columns ≡ made_columns events
@@ -96,7 +98,8 @@ reports_right p limit events run = (runs_are_detected p limit events (state_afte
 -- ---- the end of a run
 
 -- no turn is found exactly if the run is finished
-pub finished_by : {T : Type 0} (f : T → Option Event) (t : Option T) (p : Pipeline) (limit : ℕ) (events : List Event) (s : State) → Run p limit events s
+pub finished_by : {T : Type 0} (f : T → Option Event) (t : Option T) (p : Pipeline) (limit : ℕ) (events : List Event) (s : State)
+    → Run p limit events s
     → IsWellFormed p → 0 < limit → s.stopped ≡ false → option_map f t ≡ option_map Some (chosen 0 (candidates p limit 1 s))
     → (t ≡ None) ↔ IsFinished s
 finished_by {T} f t p limit events s run well some going is = by (candidates p limit 1 s) refl t is
@@ -104,7 +107,8 @@ finished_by {T} f t p limit events s run well some going is = by (candidates p l
     finished : IsFinished s ↔ (candidates p limit 1 s ≡ [])
     finished = finished_runs_have_no_candidate p limit 1 events s run well some (omega arith) going
 
-    by : (es : List Event) → candidates p limit 1 s ≡ es → (o : Option T) → option_map f o ≡ option_map Some (chosen 0 es) → (o ≡ None) ↔ IsFinished s
+    by : (es : List Event) → candidates p limit 1 s ≡ es → (o : Option T) → option_map f o ≡ option_map Some (chosen 0 es)
+        → (o ≡ None) ↔ IsFinished s
     by [] none None q = ((λ e. finished.1 none), (λ h. refl))
     by [] none (Some x) q = absurd (cc)
     by (e ∷ es) more None q = absurd (cc)
@@ -119,7 +123,8 @@ pub record IsPlayedRun (p : Pipeline) (limit workers turns : ℕ) (events : List
   pub throttled : IsThrottled limit events
   pub all_turns : (IsFinished (state_after events) → ⊥) → length events ≡ turns
 
-pub schedule_is_run : (p : Pipeline) (limit workers : ℕ) (choices : List ℕ) (turns : ℕ) (events : List Event) → IsWellFormed p → 0 < limit → 0 < workers
+pub schedule_is_run : (p : Pipeline) (limit workers : ℕ) (choices : List ℕ) (turns : ℕ) (events : List Event) → IsWellFormed p → 0 < limit
+    → 0 < workers
     → events ≡ played p limit workers choices turns → IsPlayedRun p limit workers turns events
 schedule_is_run p limit workers choices turns events well some busy are =
     subst (IsPlayedRun p limit workers turns) (sym are) here
@@ -127,12 +132,14 @@ schedule_is_run p limit workers choices turns events well some busy are =
     here : IsPlayedRun p limit workers turns (played p limit workers choices turns)
     here =
         let h = schedules_play_runs p limit workers choices turns well some busy in
-        let r = played_runs_are_runs p limit workers (played p limit workers choices turns) (state_after (played p limit workers choices turns)) h.run well in
+        let r = played_runs_are_runs p limit workers (played p limit workers choices turns)
+        (state_after (played p limit workers choices turns)) h.run well in
         let within = h.within in
         record {
           run = r.run;
           at_most_workers = r.at_most_workers;
-          throttled = (runs_keep_rules p limit (played p limit workers choices turns) (state_after (played p limit workers choices turns)) r.run).throttled;
+          throttled = (runs_keep_rules p limit (played p limit workers choices turns) (state_after (played p limit workers choices turns))
+              r.run).throttled;
           all_turns = λ unfinished. elim (cases_lt (length (played p limit workers choices turns)) turns) [
             | inl less ↦ absurd (unfinished (h.ended less))
             | inr ge ↦ omega (arith, within, ge)
@@ -147,19 +154,23 @@ map_ok (Ok x) h f = f x h
 map_ok (Err e) h f = tt
 
 -- a play of the loop is what its player has at the end
-pub loop_play : (tree : SyntaxTree) (input : List ℤ) (limits : PlayLimits) (choices : List ℕ) (v : PlayState) (code : FlatCode) (cells : ℕ) (r : LoopPlay) → IsPlay code cells v
+pub loop_play : (tree : SyntaxTree) (input : List ℤ) (limits : PlayLimits) (choices : List ℕ) (v : PlayState) (code : FlatCode) (cells : ℕ)
+    (r : LoopPlay) → IsPlay code cells v
     → 0 < limits.throttle → 0 < limits.workers → tree_of v.book.program ≡ tree → v.book.input ≡ input → v.book.limit ≡ limits.throttle
-    → v.events ≡ played (pipeline_played v) v.book.limit limits.workers choices limits.turns → IsEndOf v r → IsLoopPlay tree input limits choices r
+    → v.events ≡ played (pipeline_played v) v.book.limit limits.workers choices limits.turns → IsEndOf v r
+    → IsLoopPlay tree input limits choices r
 loop_play tree input limits choices v code cells r h some busy same_tree same_input same_limit are end =
     let p = pipeline_after_init tree input in
     let same : pipeline_played v ≡ p = ap₂ (λ t i. pipeline_after_init t i) same_tree same_input in
     let events : r.run_log.events ≡ played p limits.throttle limits.workers choices limits.turns =
     end.events ∙ are ∙ ap₂ (λ q l. played q l limits.workers choices limits.turns) same same_limit in
-    let run = schedule_is_run p limits.throttle limits.workers choices limits.turns r.run_log.events (subst IsWellFormed same h.proper) some busy events in
+    let run = schedule_is_run p limits.throttle limits.workers choices limits.turns r.run_log.events
+    (subst IsWellFormed same h.proper) some busy events in
     let accesses : r.accesses ≡ accesses_after r.run_log.events = end.accesses ∙ h.accesses ∙ ap accesses_after (sym end.events) in
     let reports : r.reports ≡ found_reports (columns_after r.run_log.events) (starts_of r.run_log.events) r.accesses =
     end.reports ∙ ap₂ (λ es l. found_reports (columns_after es) (starts_of es) l) (sym end.events) (sym end.accesses) in
-    let finished : IsTrue r.finished ↔ IsFinished (state_after r.run_log.events) = subst (λ es. IsTrue r.finished ↔ IsFinished (state_after es)) (sym end.events) end.finished in
+    let finished : IsTrue r.finished ↔ IsFinished (state_after r.run_log.events) =
+    subst (λ es. IsTrue r.finished ↔ IsFinished (state_after es)) (sym end.events) end.finished in
     record {
       scheduled = record {
         events = events;
@@ -176,7 +187,8 @@ loop_play tree input limits choices v code cells r h some busy same_tree same_in
           (sym (reports ∙ ap (found_reports (columns_after r.run_log.events) (starts_of r.run_log.events)) accesses))
           (reports_right p limits.throttle r.run_log.events run.run);
       state = subst (λ c. IsStateAfter (store_of tree) (init_accesses (whole_of tree input) ++ accesses_of r.accesses) c) (sym end.cells)
-          (subst (λ l. IsStateAfter (store_of tree) (init_accesses (whole_of tree input) ++ accesses_of l) v.cells) (sym (end.accesses ∙ h.accesses))
+          (subst (λ l. IsStateAfter (store_of tree) (init_accesses (whole_of tree input) ++ accesses_of l) v.cells)
+          (sym (end.accesses ∙ h.accesses))
           (subst (λ (q : Pipeline). IsStateAfter q.store (q.preamble ++ accesses_of (run_state v).accesses) v.cells) same h.state));
       all = subst HasAllCells (sym end.cells) h.all;
     }

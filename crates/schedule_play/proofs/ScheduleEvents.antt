@@ -1,5 +1,6 @@
 -- What a schedule keeps follows the events of its run.
-use Rattle.std.proofs.Common.{◌≡◌, ◌≢◌, ◌∙◌, ap, sym, subst, refl, arith, ℕ, ℤ, pos, ◌+◌, ◌-◌, ◌<◌, List, [], ◌∷◌, ◌++◌, Bool, true, false, not, ◌&&◌, ◌||◌, if◌then◌else◌, Some, length, map, filter, inl, inr, drop, eqb, nat_lt, take}
+use Rattle.std.proofs.Common.{◌≡◌, ◌≢◌, ◌∙◌, ap, sym, subst, refl, arith, ℕ, ℤ, pos, ◌+◌, ◌-◌, ◌<◌, List, [], ◌∷◌, ◌++◌, Bool, true, false}
+use Rattle.std.proofs.Common.{not, ◌&&◌, ◌||◌, if◌then◌else◌, Some, length, map, filter, inl, inr, drop, eqb, nat_lt, take}
 use Rattle.std.specs.Prelude.{is_some, ◌==◌}
 use Rattle.std.proofs.lemmas.Bool.{cases_eq, eq-eqb}
 use Rattle.std.proofs.lemmas.List.{length-map, length_push}
@@ -35,11 +36,13 @@ last_updated all j f u is =
       | inl last ↦ (
           let at : length all - 1 ≡ j = omega (arith, last) in
           ap (λ n. frame_continues_loop (frame_at (update_frame all j u) n)) at ∙ ap frame_continues_loop (frame_at_updated all j f u is)
-          ∙ ap (λ b. if b then continues_loop (u f).status (u f).nodes else frame_continues_loop (frame_at all (length all - 1))) (sym (eq-eqb (j + 1) (length all) last)))
+          ∙ ap (λ b. if b then continues_loop (u f).status (u f).nodes else frame_continues_loop (frame_at all (length all - 1)))
+          (sym (eq-eqb (j + 1) (length all) last)))
       | inr other ↦ (
           let apart : length all - 1 ≢ j = λ e. other (omega (arith, e, within)) in
           ap frame_continues_loop (frame_at_other all j (length all - 1) u apart)
-          ∙ ap (λ b. if b then continues_loop (u f).status (u f).nodes else frame_continues_loop (frame_at all (length all - 1))) (sym (apart_eqb (j + 1) (length all) other)))
+          ∙ ap (λ b. if b then continues_loop (u f).status (u f).nodes else frame_continues_loop (frame_at all (length all - 1)))
+          (sym (apart_eqb (j + 1) (length all) other)))
     ]
 
 -- the same, of the kept facts
@@ -52,10 +55,12 @@ last_kept all j f u before after is was own other = elim (cases_eq (j + 1) (leng
   | inl last ↦ (
       let at : length all - 1 ≡ j = omega (arith, last) in
       own last (was ∙ ap (λ n. frame_continues_loop (frame_at all n)) at ∙ ap frame_continues_loop is)
-      ∙ ap (λ b. if b then continues_loop (u f).status (u f).nodes else frame_continues_loop (frame_at all (length all - 1))) (sym (eq-eqb (j + 1) (length all) last))
+      ∙ ap (λ b. if b then continues_loop (u f).status (u f).nodes else frame_continues_loop (frame_at all (length all - 1)))
+      (sym (eq-eqb (j + 1) (length all) last))
       ∙ sym (last_updated all j f u is))
   | inr apart ↦ other apart ∙ was
-      ∙ ap (λ b. if b then continues_loop (u f).status (u f).nodes else frame_continues_loop (frame_at all (length all - 1))) (sym (apart_eqb (j + 1) (length all) apart))
+      ∙ ap (λ b. if b then continues_loop (u f).status (u f).nodes else frame_continues_loop (frame_at all (length all - 1)))
+      (sym (apart_eqb (j + 1) (length all) apart))
       ∙ sym (last_updated all j f u is)
 ]
 
@@ -71,7 +76,8 @@ instances_updated all j f u is keeps some i g e = elim (frame_at_moved all j i f
 
 -- ---- the events
 
-same_last : (j : ℕ) (s : State) (v : ScheduleState) → IsScheduleOf s v → (b : Bool) → eqb (j + 1) (length s.frames) ≡ b → (j + 1 == v.begun) ≡ b
+same_last : (j : ℕ) (s : State) (v : ScheduleState) → IsScheduleOf s v → (b : Bool) → eqb (j + 1) (length s.frames) ≡ b
+    → (j + 1 == v.begun) ≡ b
 same_last j s v h b e = ap (λ n. j + 1 == n) h.begun ∙ e
 
 or_true : (b : Bool) → b || true ≡ true
@@ -139,7 +145,11 @@ has_entered s v j h may =
 
 pub finished : (s : State) (v : ScheduleState) (j : ℕ) (e : ColumnEnd) → IsScheduleOf s v → IsRunning s j
     → IsScheduleOf (next_state s (events.Finish j e))
-    (record v { alive = filter (is_other j) (map (after_change (Ended j)) v.alive); continues = goes_on v.continues (j + 1 == v.begun) (closes_at_once e) })
+    (record v {
+      alive = filter (is_other j) (map (after_change (Ended j)) v.alive);
+      continues =
+          goes_on v.continues (j + 1 == v.begun) (closes_at_once e);
+    })
 finished s v j e h runs =
     let all = s.frames in
     let f = runs.frame in
@@ -157,7 +167,12 @@ finished s v j e h runs =
 
 pub has_begun : (s : State) (v : ScheduleState) (i : ℕ) → IsScheduleOf s v
     → IsScheduleOf (next_state s (events.Begin i))
-    (record v { alive = v.alive ++ record { iteration = v.begun; number = pos 0; standing = Running } ∷ []; begun = v.begun + 1; continues = false })
+    (record v {
+      alive = v.alive ++ record { iteration = v.begun; number = pos 0; standing = Running } ∷ [];
+      begun =
+          v.begun + 1;
+      continues = false;
+    })
 has_begun s v i h =
     let all = s.frames in
     let longer = length_push all fresh_frame in
@@ -166,7 +181,8 @@ has_begun s v i h =
       alive = ap (λ l. l ++ record { iteration = v.begun; number = pos 0; standing = Running } ∷ []) h.alive
           ∙ ap (λ n. alive_iterations s ++ record { iteration = n; number = pos 0; standing = Running } ∷ []) h.begun ∙ sym (begun all);
       begun = ap (λ n. n + 1) h.begun ∙ sym longer;
-      continues = sym (ap (λ n. frame_continues_loop (frame_at (all ++ fresh_frame ∷ []) n)) at ∙ ap frame_continues_loop (frame_at_last all fresh_frame));
+      continues = sym (ap (λ n. frame_continues_loop (frame_at (all ++ fresh_frame ∷ []) n)) at
+          ∙ ap frame_continues_loop (frame_at_last all fresh_frame));
       instances = λ k g e. elim (frame_at_begun all k g e) [
         | inl new ↦ subst (λ (x : Frame). 0 < length x.nodes) (sym new.1) (omega arith)
         | inr old ↦ h.instances k g old.1
@@ -174,11 +190,13 @@ has_begun s v i h =
     }
 
 -- whether the next iteration may begin
-pub may_begin_is : (s : State) (v : ScheduleState) → IsScheduleOf s v → nat_lt (length v.alive) v.limit && v.continues ≡ is_some (next_begin v.limit s)
+pub may_begin_is : (s : State) (v : ScheduleState) → IsScheduleOf s v → nat_lt (length v.alive) v.limit && v.continues ≡ is_some
+    (next_begin v.limit s)
 may_begin_is s v h =
     let count : length v.alive ≡ alive s = ap length h.alive ∙ alive_count s.frames 0 s.frames in
     ap (λ n. nat_lt n v.limit && v.continues) count ∙ ap (λ b. nat_lt (alive s) v.limit && b) h.continues
-    ∙ sym (some_if (nat_lt (alive s) v.limit && frame_continues_loop (frame_at s.frames (length s.frames - 1))) (events.Begin (length s.frames)))
+    ∙ sym (some_if (nat_lt (alive s) v.limit && frame_continues_loop (frame_at s.frames (length s.frames - 1)))
+    (events.Begin (length s.frames)))
   where
     some_if : (b : Bool) (e : Event) → is_some (event_if b e) ≡ b
     some_if true e = refl

@@ -1,5 +1,6 @@
 -- The turns are the candidates, in their order.
-use Rattle.std.proofs.Common.{◌≡◌, ◌∙◌, ap, sym, refl, arith, ℕ, ℤ, zero, suc, ◌+◌, ◌<◌, List, [], ◌∷◌, ◌++◌, Bool, true, false, not, ◌&&◌, ◌||◌, if◌then◌else◌, Option, Some, None, length, ◌-◌, map, filter, count_by, take, nat_lt, slice_index_or}
+use Rattle.std.proofs.Common.{◌≡◌, ◌∙◌, ap, sym, refl, arith, ℕ, ℤ, zero, suc, ◌+◌, ◌<◌, List, [], ◌∷◌, ◌++◌, Bool, true, false, not, ◌&&◌}
+use Rattle.std.proofs.Common.{◌||◌, if◌then◌else◌, Option, Some, None, length, ◌-◌, map, filter, count_by, take, nat_lt, slice_index_or}
 use Rattle.std.specs.Prelude.{◌%◌, cond, is_some, option_map, slice_get}
 use Rattle.std.proofs.lemmas.List.{length-append, length-map, map-append}
 use Rattle.std.proofs.lemmas.List.Elements.{filter-append}
@@ -13,14 +14,17 @@ use Rattle.pipe_model.specs.declared.status.Status.{Status}
 use Rattle.pipe_model.specs.declared.status.Status.TheVariants as statuses
 use Rattle.pipe_model.specs.Pipelines.Behaviour.{Action, Behaviour, Reading, Writing, Staging, Ending, behaviour_after_all}
 use Rattle.pipe_model.specs.Pipelines.Pipeline.{Pipeline}
-use Rattle.pipe_model.specs.Runs.NextEvents.{event_if, event_of_behaviour, event_of_frame, event_of_status, frame_continues_loop, may_enter, next_begin, next_event}
-use Rattle.pipe_model.specs.Runs.Schedules.{candidates, candidates_from, chosen, if_room, running_in_frames, running_instances, running_of_status, starts_instance}
+use Rattle.pipe_model.specs.Runs.NextEvents.{event_if, event_of_behaviour, event_of_frame, event_of_status, frame_continues_loop, may_enter}
+use Rattle.pipe_model.specs.Runs.NextEvents.{next_begin, next_event}
+use Rattle.pipe_model.specs.Runs.Schedules.{candidates, candidates_from, chosen, if_room, running_in_frames, running_instances}
+use Rattle.pipe_model.specs.Runs.Schedules.{running_of_status, starts_instance}
 use Rattle.pipe_model.specs.Runs.State.{Frame, State, accesses_of, alive, frame_at}
 use Rattle.schedule_play.specs.declared.turns.Alive.{Alive}
 use Rattle.schedule_play.specs.declared.turns.Standing.TheVariants.{MayEnter, MustWait}
 use Rattle.schedule_play.specs.declared.turns.Turn.{Turn}
 use Rattle.schedule_play.specs.declared.turns.Turn.TheVariants.{Next, Begin}
-use Rattle.schedule_play.specs.Turns.{alive_entry, alive_from, alive_iterations, chosen_turn, is_running, iteration_turns, may_go, turn_event, turns}
+use Rattle.schedule_play.specs.Turns.{alive_entry, alive_from, alive_iterations, chosen_turn, is_running, iteration_turns, may_go}
+use Rattle.schedule_play.specs.Turns.{turn_event, turns}
 
 -- ---- the iterations
 
@@ -94,7 +98,8 @@ running_kept all i (f ∷ fs) = by f.status (running_kept all (i + 1) fs)
 
     waiting : (b : Bool) → length (filter runs rest) ≡ running_in_frames fs
         → (n : ℤ)
-        → length (filter runs (record { iteration = i; number = n; standing = if b then MayEnter else MustWait } ∷ rest)) ≡ 0 + running_in_frames fs
+        → length (filter runs (record { iteration = i; number = n; standing = if b then MayEnter else MustWait } ∷ rest)) ≡ 0
+        + running_in_frames fs
     waiting true e n = e ∙ sym none
     waiting false e n = e ∙ sym none
 
@@ -105,7 +110,8 @@ running_kept all i (f ∷ fs) = by f.status (running_kept all (i + 1) fs)
     by (statuses.Completed x) e = e ∙ sym none
 
 -- the number of running instances
-pub running_are : (s : State) (kept : List Alive) → kept ≡ alive_iterations s → count_by (λ (a : Alive). is_running a.standing) kept ≡ running_instances s
+pub running_are : (s : State) (kept : List Alive) → kept ≡ alive_iterations s → count_by (λ (a : Alive). is_running a.standing) kept
+    ≡ running_instances s
 running_are s kept is = sym (length-filter runs kept) ∙ ap (λ l. length (filter runs l)) is ∙ running_kept s.frames 0 s.frames
 
 -- ---- all turns
@@ -116,7 +122,8 @@ events_of_iterations p limit s [] = refl
 events_of_iterations p limit s (a ∷ kept) = ap (λ l. next_event p s a.iteration ∷ l) (events_of_iterations p limit s kept)
 
 begin_event : (n : ℕ) (event : Turn → Option Event) (b room : Bool) → event Begin ≡ event_if b (events.Begin n)
-    → map event (if room && is_some (event_if b (events.Begin n)) then Begin ∷ [] else []) ≡ map Some (if_room room (event_if b (events.Begin n)))
+    → map event (if room && is_some (event_if b (events.Begin n)) then Begin ∷ [] else []) ≡ map Some
+    (if_room room (event_if b (events.Begin n)))
 begin_event n event true true q = ap (λ o. o ∷ []) q
 begin_event n event true false q = refl
 begin_event n event false true q = refl
@@ -146,7 +153,8 @@ pub turns_counted : (room begins : Bool) (kept : List Alive)
 turns_counted room begins kept =
     let own = filter (going room) kept in
     let last : List Turn = if room && begins then Begin ∷ [] else [] in
-    length-append (iteration_turns room kept) last ∙ ap (λ n. n + length last) (length-map own (λ (a : Alive). Next a.iteration) ∙ length-filter (going room) kept)
+    length-append (iteration_turns room kept) last ∙ ap (λ n. n + length last)
+    (length-map own (λ (a : Alive). Next a.iteration) ∙ length-filter (going room) kept)
     ∙ ap (λ n. count_by (going room) kept + n) (last_length (room && begins))
   where
     last_length : (b : Bool) → length (if b then Begin ∷ [] else []) ≡ (if b then 1 else 0)
@@ -155,7 +163,8 @@ turns_counted room begins kept =
 
 -- ---- choices
 
-event_at : (event : Turn → Option Event) (ts : List Turn) (es : List Event) (n : ℕ) (t : Turn) (e : Event) → map event ts ≡ map Some es → event t ≡ Some e
+event_at : (event : Turn → Option Event) (ts : List Turn) (es : List Event) (n : ℕ) (t : Turn) (e : Event) → map event ts ≡ map Some es
+    → event t ≡ Some e
     → event (slice_index_or ts n t) ≡ Some (slice_index_or es n e)
 event_at event [] [] n t e q d = d
 event_at event [] (x ∷ es) n t e q d = absurd (cc (q))
@@ -166,7 +175,8 @@ event_at event (y ∷ ts) (x ∷ es) (suc n) t e q d = event_at event ts es n t 
 same_length : (event : Turn → Option Event) (ts : List Turn) (es : List Event) → map event ts ≡ map Some es → length ts ≡ length es
 same_length event ts es q = sym (length-map ts event) ∙ ap length q ∙ length-map es Some
 
-pub count_is : (p : Pipeline) (limit workers : ℕ) (s : State) (ts : List Turn) → map (turn_event p limit s) ts ≡ map Some (candidates p limit workers s)
+pub count_is : (p : Pipeline) (limit workers : ℕ) (s : State) (ts : List Turn) → map (turn_event p limit s) ts ≡ map Some
+    (candidates p limit workers s)
     → length ts ≡ length (candidates p limit workers s)
 count_is p limit workers s ts q = same_length (turn_event p limit s) ts (candidates p limit workers s) q
 
@@ -193,7 +203,8 @@ none_chosen choice [] e = refl
 none_chosen choice (t ∷ ts) e = absurd (omega (arith, e))
 
 pub some_chosen : (choice : ℕ) (room begins : Bool) (kept : List Alive) (n : ℕ) → n ≡ choice % length (turns room begins kept)
-    → n < length (turns room begins kept) → Some (slice_index_or (iteration_turns room kept) n Begin) ≡ chosen_turn choice (turns room begins kept)
+    → n < length (turns room begins kept) → Some (slice_index_or (iteration_turns room kept) n Begin) ≡ chosen_turn choice
+    (turns room begins kept)
 some_chosen choice room begins kept n is lt = at (turns room begins kept) refl
   where
     at : (ts : List Turn) → turns room begins kept ≡ ts → Some (slice_index_or (iteration_turns room kept) n Begin) ≡ chosen_turn choice ts
@@ -224,12 +235,15 @@ filtered_here {X} test (x ∷ xs) (suc k) d lt passes = by (test x) (filtered_he
     by false h = h
 
 -- the turn of an iteration, by the number of those before it
-pub turn_here : (room : Bool) (kept : List Alive) (k n : ℕ) (d : Alive) → k < length kept → may_go room (slice_index_or kept k d).standing ≡ true
-    → length (iteration_turns room (take k kept)) ≡ n → Next (slice_index_or kept k d).iteration ≡ slice_index_or (iteration_turns room kept) n Begin
+pub turn_here : (room : Bool) (kept : List Alive) (k n : ℕ) (d : Alive) → k < length kept → may_go room
+    (slice_index_or kept k d).standing ≡ true
+    → length (iteration_turns room (take k kept)) ≡ n → Next (slice_index_or kept k d).iteration ≡ slice_index_or
+    (iteration_turns room kept) n Begin
 turn_here room kept k n d lt goes before =
     let turn : Alive → Turn = λ x. Next x.iteration in
     let test : Alive → Bool = going room in
     let front : length (filter test (take k kept)) ≡ n = sym (length-map (filter test (take k kept)) turn) ∙ before in
-    let here : slice_get (filter test kept) n ≡ Some (slice_index_or kept k d) = ap (slice_get (filter test kept)) (sym front) ∙ filtered_here test kept k d lt goes in
+    let here : slice_get (filter test kept) n ≡ Some (slice_index_or kept k d) = ap (slice_get (filter test kept)) (sym front)
+    ∙ filtered_here test kept k d lt goes in
     sym (get_or_from_slice_get (map turn (filter test kept)) n (turn (slice_index_or kept k d)) Begin
     (slice_get-map turn (filter test kept) n ∙ ap (option_map turn) here))

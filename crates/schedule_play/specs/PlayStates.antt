@@ -43,7 +43,8 @@ run_state v = state_after v.events
 -- ---- running instances
 
 -- the token of iteration i is out, and its instance has made the last actions of the iteration's trace
-pub record IsRunningAt (code : FlatCode) (cells : ℕ) (b : BookState) (i : ℕ) (trace : List Action) (h : RunningIterationState) : Type 0 where
+pub record IsRunningAt (code : FlatCode) (cells : ℕ) (b : BookState) (i : ℕ) (trace : List Action)
+    (h : RunningIterationState) : Type 0 where
   pub iteration : h.token.iteration ≡ i
   pub out : IsOutOf b h.token
   pub instance : IsRunningIteration code cells (tree_of b.program) b.input (replies_at b i) h
@@ -57,7 +58,8 @@ FitsStatus code cells b i (Pending k n) trace kept = (kept ≡ None) × (behavio
 FitsStatus code cells b i (Completed e) trace kept = kept ≡ None
 
 -- the running instances of all iterations are kept, and the book has traces and a token for each
-pub record KeepsRunning (code : FlatCode) (cells : ℕ) (b : BookState) (fs : List Frame) (running : List (Option RunningIterationState)) : Type 0 where
+pub record KeepsRunning (code : FlatCode) (cells : ℕ) (b : BookState) (fs : List Frame) (running : List (Option RunningIterationState))
+    : Type 0 where
   pub count : length running ≡ length fs
   pub traces : length b.traces ≡ length fs
   pub tokens : length b.tokens ≡ length fs

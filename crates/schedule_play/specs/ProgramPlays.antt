@@ -26,7 +26,8 @@ abbrev pub played_events : SyntaxTree → List ℤ → ℕ → ℕ → List ℕ 
 played_events tree input workers throttle choices turns =
     unless (is_some (init_trap (whole_of tree input))) (played (pipeline_after_init tree input) throttle workers choices turns)
 
--- the events are a run of the program; after each event at most `workers` instances run and at most `throttle` iterations are alive; the columns are
+-- the events are a run of the program; after each event at most `workers` instances run and at most `throttle` iterations are alive; the
+-- columns are
 -- those of the events; `finished` says whether the run is finished, and otherwise all turns were taken
 pub record IsPlayedLog (tree : SyntaxTree) (input : List ℤ) (limits : PlayLimits) (choices : List ℕ) (r : Played) : Type 0 where
   pub events : r.run_log.events ≡ played_events tree input limits.workers limits.throttle choices limits.turns
@@ -67,7 +68,8 @@ enough_turns tree = most_instances tree * (2 * natural tree.limits.steps + 2)
 pub record MeetsPlayGuarantees (tree : SyntaxTree) (input : List ℤ) (limits : PlayLimits) (r : Played) : Type 0 where
   pub elision : IsTrue r.finished → HasElisionResults (whole_of tree input) r
   pub enough : enough_turns tree ≤ limits.turns → IsTrue r.finished
-  pub goes_on : (before after : List Event) → r.run_log.events ≡ before ++ after → (ProgramIsFinished (whole_of tree input) (state_after before) → ⊥)
+  pub goes_on : (before after : List Event) → r.run_log.events ≡ before ++ after
+      → (ProgramIsFinished (whole_of tree input) (state_after before) → ⊥)
       → candidates (pipeline_after_init tree input) limits.throttle limits.workers (state_after before) ≢ []
   pub bounded : length r.run_log.events ≤ enough_turns tree
   pub instances : length (starts_of r.run_log.events) ≤ most_instances tree

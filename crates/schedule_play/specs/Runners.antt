@@ -16,7 +16,8 @@ pub record CanRun (code : FlatCode) (cells : ℕ) (tree : SyntaxTree) (m : Machi
   pub served : cell_total tree.cells + 2 ≤ cells
 
 -- it is at the beginning of an instance of iteration i, after instances with these replies
-pub record IsAtInstance (code : FlatCode) (cells : ℕ) (tree : SyntaxTree) (input : List ℤ) (m : MachineState) (i : ℕ) (replies : List (List ℤ)) : Type 0 where
+pub record IsAtInstance (code : FlatCode) (cells : ℕ) (tree : SyntaxTree) (input : List ℤ) (m : MachineState) (i : ℕ)
+    (replies : List (List ℤ)) : Type 0 where
   pub whole : CanRun code cells tree m
   pub stands : StandsFor code cells input m.run (after_instances ((pipeline_of tree input).behaviour i) replies)
 

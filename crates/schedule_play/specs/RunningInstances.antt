@@ -30,7 +30,8 @@ IsAt code cells input MakesAccess run t = IsStopped code cells input run t
 IsAt code cells input (End end) run t = (end ≢ stage_ends.Stopped) × EndsAs code cells input end run t
 
 -- an instance that began with this behaviour has made these accesses, and the machine is at its next action: an access, or its end
-pub record IsUnderWay (code : FlatCode) (cells : ℕ) (input : List ℤ) (t : Behaviour) (run : RunState) (trace : List Entry) (next : NextAction) : Type 0 where
+pub record IsUnderWay (code : FlatCode) (cells : ℕ) (input : List ℤ) (t : Behaviour) (run : RunState) (trace : List Entry)
+    (next : NextAction) : Type 0 where
   pub performs : Performs t (accessed trace)
   pub is_at : IsAt code cells input next run (behaviour_after_all t (accessed trace))
 

@@ -19,6 +19,8 @@ pub record RunningIterationState : Type 0 where
   pub next : NextAction
 
 -- after instances with these replies, the next one of iteration i has made the accesses, and the machine is at its next action
-pub record IsRunningIteration (code : FlatCode) (cells : ℕ) (tree : SyntaxTree) (input : List ℤ) (replies : List (List ℤ)) (h : RunningIterationState) : Type 0 where
+pub record IsRunningIteration (code : FlatCode) (cells : ℕ) (tree : SyntaxTree) (input : List ℤ) (replies : List (List ℤ))
+    (h : RunningIterationState) : Type 0 where
   pub whole : CanRun code cells tree h.machine
-  pub under_way : IsUnderWay code cells input (after_instances ((pipeline_of tree input).behaviour h.token.iteration) replies) h.machine.run h.trace h.next
+  pub under_way : IsUnderWay code cells input (after_instances ((pipeline_of tree input).behaviour h.token.iteration) replies)
+      h.machine.run h.trace h.next

@@ -5,7 +5,8 @@ use Rattle.pipe_model.specs.Runs.State.{Frame, State, frame_at}
 use Rattle.schedule_play.specs.declared.turns.Alive.{Alive}
 use Rattle.schedule_play.specs.Turns.{alive_iterations}
 
--- the iterations that have not ended, the number of those that have begun, whether the loop goes on after the last of them, and the throttling limit
+-- the iterations that have not ended, the number of those that have begun, whether the loop goes on after the last of them, and the
+-- throttling limit
 pub record ScheduleState : Type 0 where
   pub alive : List Alive
   pub begun : ℕ
@@ -19,6 +20,7 @@ pub record IsScheduleOf (s : State) (v : ScheduleState) : Type 0 where
   pub continues : v.continues ≡ frame_continues_loop (frame_at s.frames (length s.frames - 1))
   pub instances : (i : ℕ) (f : Frame) → frame_at s.frames i ≡ Some f → 0 < length f.nodes
 
--- the loop goes on after the last iteration: it did before the event, or the event is that of the last iteration and does not close the loop
+-- the loop goes on after the last iteration: it did before the event, or the event is that of the last iteration and does not close the
+-- loop
 abbrev pub goes_on : (before last closes : Bool) → Bool
 goes_on before last closes = before || (last && not closes)

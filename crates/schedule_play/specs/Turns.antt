@@ -1,5 +1,6 @@
 -- What is kept of the iterations that have not ended, and the turns that a choice chooses between.
-use Rattle.std.specs.Prelude.{ℕ, List, [], ◌∷◌, ◌++◌, Bool, true, false, ◌&&◌, ◌+◌, ◌-◌, ◌%◌, if◌then◌else◌, filter, length, map, slice_index_or, Option, Some, None}
+use Rattle.std.specs.Prelude.{ℕ, List, [], ◌∷◌, ◌++◌, Bool, true, false, ◌&&◌, ◌+◌, ◌-◌, ◌%◌, if◌then◌else◌, filter, length, map}
+use Rattle.std.specs.Prelude.{slice_index_or, Option, Some, None}
 use Rattle.pipe_model.specs.declared.event.Event.{Event}
 use Rattle.pipe_model.specs.declared.node.Node.{Node}
 use Rattle.pipe_model.specs.declared.status.Status.{Status}
@@ -18,7 +19,12 @@ use Rattle.schedule_play.specs.declared.turns.Turn.TheVariants.{Next, Begin}
 
 -- iteration i, unless it has ended; its number is that of the stage that it has named last
 abbrev pub alive_entry : List Frame → ℕ → Status → List Node → List Alive
-alive_entry all i statuses.Running nodes = record { iteration = i; number = (node_at nodes (length nodes - 1)).number; standing = Running } ∷ []
+alive_entry all i statuses.Running nodes = record {
+  iteration = i;
+  number = (node_at nodes (length nodes - 1)).number;
+  standing =
+      Running;
+} ∷ []
 alive_entry all i (statuses.Pending k n) nodes =
     record { iteration = i; number = n; standing = if may_enter all i k n then MayEnter else MustWait } ∷ []
 alive_entry all i (statuses.Completed e) nodes = []

@@ -30,7 +30,8 @@ pub fn run_to_access(machine: &mut Machine, code: &Code, input: &Numbers, cells:
     ensures ran { (t : Behaviour) → StandsFor code.now cells.now.shard.cells input.now machine.old.run t
         → RanInstance code.now cells.now.shard.cells input.now t [] [] machine.new.run result }
     ensures made { (c : FlatCode) → IsMadeFor c machine.old → IsMadeFor c machine.new }
-    ensures counts { Counts (Some result) machine.old.run.state.stage.count machine.new.run.state.stage.count (natural code.now.limits.stages) }
+    ensures counts { Counts (Some result) machine.old.run.state.stage.count machine.new.run.state.stage.count
+        (natural code.now.limits.stages) }
 {
     let mut memory = NoAccess::new(cells);
     machine.run_stage(code, input, &mut memory)
@@ -52,7 +53,8 @@ fn next_access<B: CellsBefore>(
         → RanInstance code.now cells.now.shard.cells input.now t [] (result.0 ∷ []) machine.new.run result.1 }
     ensures next { IsNextAccess cells.now result.0 }
     ensures made { (c : FlatCode) → IsMadeFor c machine.old → IsMadeFor c machine.new }
-    ensures counts { Counts (Some result.1) machine.old.run.state.stage.count machine.new.run.state.stage.count (natural code.now.limits.stages) }
+    ensures counts { Counts (Some result.1) machine.old.run.state.stage.count machine.new.run.state.stage.count
+        (natural code.now.limits.stages) }
 {
     let mut memory = OneAccess::<B>::new(cells);
     let end = machine.go_on(code, input, &mut memory);
@@ -95,7 +97,8 @@ pub fn make_access(
         → IsStateAfter store (before ++ result.0 ∷ []) cells.new }
     ensures shard { cells.new.shard ≡ cells.old.shard }
     ensures made { (c : FlatCode) → IsMadeFor c machine.old → IsMadeFor c machine.new }
-    ensures counts { Counts (Some result.1) machine.old.run.state.stage.count machine.new.run.state.stage.count (natural code.now.limits.stages) }
+    ensures counts { Counts (Some result.1) machine.old.run.state.stage.count machine.new.run.state.stage.count
+        (natural code.now.limits.stages) }
 {
     let (access, end) = next_access::<Brand>(machine, code, input, cells);
     carry_out(cells, access);

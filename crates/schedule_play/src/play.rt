@@ -37,7 +37,8 @@ pub fn play_turns<B: PlayedCode>(
     requires play { IsPlay B.code B.cells player.old }
     requires new { player.old.events ≡ [] }
     ensures play { IfOk result (λ u. IsPlay B.code B.cells player.new) }
-    ensures events { IfOk result (λ u. player.new.events ≡ played (pipeline_played player.old) player.old.book.limit workers choices.now turns) }
+    ensures events { IfOk result (λ u. player.new.events ≡ played (pipeline_played player.old) player.old.book.limit workers choices.now
+        turns) }
     ensures keeps { IfOk result (λ u. KeepsProgram player.old player.new) }
 {
     for turn in 0..turns {

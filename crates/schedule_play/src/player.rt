@@ -1,6 +1,7 @@
 //! A run that is made event by event, on one thread.
 
-ghost use Rattle.std.specs.Prelude.{◌≡◌, ◌≢◌, ◌↔◌, ◌<◌, ◌≤◌, ◌+◌, ℕ, List, ◌++◌, ◌∷◌, [], IfOk, IfSome, IsTrue, None, Some, is_some, length, option_map, true};
+ghost use Rattle.std.specs.Prelude.{◌≡◌, ◌≢◌, ◌↔◌, ◌<◌, ◌≤◌, ◌+◌, ℕ, List, ◌++◌, ◌∷◌, [], IfOk, IfSome, IsTrue, None, Some, is_some};
+ghost use Rattle.std.specs.Prelude.{length, option_map, true};
 ghost use Rattle.cell_store.specs.ShardState.{IsStateAfter};
 ghost use Rattle.frame_book.specs.BookStates.{item_or};
 ghost use Rattle.pipe_model.specs.Language.CheckingRules.{cell_total};
@@ -320,7 +321,8 @@ impl<B: PlayedCode> Player<B> {
         requires play { IsPlay B.code B.cells self.old }
         requires turn { (e : PlainEvent) × (turn_event (pipeline_played self.old) self.old.book.limit (run_state self.old) turn ≡ Some e) }
         ensures play { IfOk result (λ u. IsPlay B.code B.cells self.new) }
-        ensures event { IfOk result (λ u. (e : PlainEvent) → turn_event (pipeline_played self.old) self.old.book.limit (run_state self.old) turn ≡ Some e
+        ensures event { IfOk result (λ u. (e : PlainEvent) → turn_event (pipeline_played self.old) self.old.book.limit
+            (run_state self.old) turn ≡ Some e
             → self.new.events ≡ self.old.events ++ e ∷ []) }
         ensures keeps { IfOk result (λ u. KeepsProgram self.old self.new) }
     {

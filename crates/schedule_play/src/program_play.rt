@@ -20,7 +20,8 @@ ghost use Rattle.pipe_model.specs.Runs.WholeProgramRuns.{ProgramIsFinished, Prog
 ghost use Rattle.program_ends.specs.ProgramEnds.{reaches_final};
 ghost use Rattle.program_laws.specs.WorkBounds.{most_instances};
 ghost use Rattle.race_detection.specs.FoundReports.{found_reports};
-ghost use Rattle.schedule_play.specs.ProgramPlays.{HasElisionResults, IsEndOfLoop, IsPlayed, MeetsPlayGuarantees, enough_turns, played_events};
+ghost use Rattle.schedule_play.specs.ProgramPlays.{HasElisionResults, IsEndOfLoop, IsPlayed, MeetsPlayGuarantees, enough_turns};
+ghost use Rattle.schedule_play.specs.ProgramPlays.{played_events};
 ghost use Rattle.serial_elision.specs.PartRuns.{Serves};
 ghost use Rattle.stage_code.specs.LimitRanges.{HasRangesOfLimits};
 ghost use Rattle.stage_interp.specs.MachineState.{IsMadeFor};
@@ -103,11 +104,13 @@ fn end_after_loop(
     requires made { IsMadeFor prepared.now.code.now machine.old }
     requires accepted { BreaksNoRule (tree_of prepared.now.checked.now) }
     requires no_trap { is_some (whole_programs.init_trap (whole_of (tree_of prepared.now.checked.now) prepared.now.input.now)) ≡ false }
-    requires run { (limit : ℕ) × Run (pipeline_after_init (tree_of prepared.now.checked.now) prepared.now.input.now) limit play.run_log.events (state_after play.run_log.events) }
+    requires run { (limit : ℕ) × Run (pipeline_after_init (tree_of prepared.now.checked.now) prepared.now.input.now) limit
+        play.run_log.events (state_after play.run_log.events) }
     requires columns { play.run_log.columns ≡ ended_columns_after play.run_log.events }
     requires serves { Serves (tree_of prepared.now.checked.now) play.cells }
     requires state { IsStateAfter (store_of (tree_of prepared.now.checked.now))
-        (init_accesses (whole_of (tree_of prepared.now.checked.now) prepared.now.input.now) ++ accesses_of (accesses_after play.run_log.events)) play.cells }
+        (init_accesses (whole_of (tree_of prepared.now.checked.now) prepared.now.input.now) ++ accesses_of
+        (accesses_after play.run_log.events)) play.cells }
     ensures { IfOk result (IsEndOfLoop (whole_of (tree_of prepared.now.checked.now) prepared.now.input.now) play) }
 {
     let LoopPlay {
@@ -220,18 +223,22 @@ pub fn play(
     requires accepted { BreaksNoRule (tree_of checked.now) }
     requires workers { 0 < workers }
     requires throttle { 0 < throttle }
-    ensures events { IfOk result (λ r. r.run_log.events ≡ played_events (tree_of checked.now) input.now workers throttle choices.now turns) }
-    ensures run { IfOk result (λ r. ProgramRun (whole_of (tree_of checked.now) input.now) throttle r.run_log.events (state_after r.run_log.events)) }
+    ensures events { IfOk result (λ r. r.run_log.events ≡ played_events (tree_of checked.now) input.now workers throttle choices.now
+        turns) }
+    ensures run { IfOk result (λ r. ProgramRun (whole_of (tree_of checked.now) input.now) throttle r.run_log.events
+        (state_after r.run_log.events)) }
     ensures columns { IfOk result (λ r. r.run_log.columns ≡ ended_columns_after r.run_log.events) }
     ensures workers { IfOk result (λ r. (before after : List EventOf) → r.run_log.events ≡ before ++ after
         → running_instances (state_after before) ≤ workers) }
     ensures throttled { IfOk result (λ r. IsThrottled throttle r.run_log.events) }
-    ensures finished { IfOk result (λ r. IsTrue r.finished ↔ ProgramIsFinished (whole_of (tree_of checked.now) input.now) (state_after r.run_log.events)) }
+    ensures finished { IfOk result (λ r. IsTrue r.finished ↔ ProgramIsFinished (whole_of (tree_of checked.now) input.now)
+        (state_after r.run_log.events)) }
     ensures turns { IfOk result (λ r. (IsTrue r.finished → ⊥) → length r.run_log.events ≡ turns) }
     ensures reports { IfOk result (λ r. r.reports ≡ found_reports (columns_after r.run_log.events) (starts_of r.run_log.events)
         (accesses_after r.run_log.events)) }
     ensures right { IfOk result (λ r. AreRight (columns_after r.run_log.events) (accesses_after r.run_log.events) r.reports) }
-    ensures output { IfOk result (λ r. r.output ≡ played_output (whole_of (tree_of checked.now) input.now) (reaches_final r.finished r.reports)
+    ensures output { IfOk result (λ r. r.output ≡ played_output (whole_of (tree_of checked.now) input.now)
+        (reaches_final r.finished r.reports)
         (state_after r.run_log.events)) }
     ensures trap { IfOk result (λ r. r.trap ≡ played_trap (whole_of (tree_of checked.now) input.now) (reaches_final r.finished r.reports)
         (state_after r.run_log.events)) }

@@ -90,7 +90,8 @@ impl RunningInstance {
         ticket: u64,
     ) -> Result<Access, NoMemory>
         requires pending { self.old.next ≡ NextAction.Access }
-        requires before { (t : Behaviour) × IsUnderWay code.now cells.old.shard.cells input.now t machine.old.run self.old.trace.items self.old.next }
+        requires before { (t : Behaviour) × IsUnderWay code.now cells.old.shard.cells input.now t machine.old.run self.old.trace.items
+            self.old.next }
         requires all { HasAllCells cells.old }
         requires few { cells.old.shard.cells ≤ 4294967296 }
         ensures goes_on { IfOk result (λ a. (t : Behaviour)

@@ -71,8 +71,10 @@ impl<B: PlayedCode> RunningIteration<B> {
         requires code { code.now ≡ B.code }
         requires cells { cells.now.shard.cells ≡ B.cells }
         requires few { cells.now.shard.cells ≤ 4294967296 }
-        requires at_instance { (tree : SyntaxTree) × ((replies : List (List ℤ)) × IsAtInstance B.code B.cells tree input.now token.payload.machine token.iteration replies) }
-        ensures instance { (tree : SyntaxTree) (replies : List (List ℤ)) → IsAtInstance B.code B.cells tree input.now token.payload.machine token.iteration replies
+        requires at_instance { (tree : SyntaxTree) × ((replies : List (List ℤ)) × IsAtInstance B.code B.cells tree input.now
+            token.payload.machine token.iteration replies) }
+        ensures instance { (tree : SyntaxTree) (replies : List (List ℤ)) → IsAtInstance B.code B.cells tree input.now token.payload.machine
+            token.iteration replies
             → IsRunningIteration B.code B.cells tree input.now replies result }
         ensures fields { result.token ≡ fields_of token }
         ensures empty { result.trace ≡ [] }
@@ -112,12 +114,15 @@ impl<B: PlayedCode> RunningIteration<B> {
         requires all { HasAllCells cells.old }
         requires few { cells.old.shard.cells ≤ 4294967296 }
         requires pending { self.old.next ≡ NextAction.Access }
-        requires instance { (tree : SyntaxTree) × ((replies : List (List ℤ)) × IsRunningIteration B.code B.cells tree input.now replies self.old) }
-        ensures instance { IfOk result (λ a. (tree : SyntaxTree) (replies : List (List ℤ)) → IsRunningIteration B.code B.cells tree input.now replies self.old
+        requires instance { (tree : SyntaxTree) × ((replies : List (List ℤ)) × IsRunningIteration B.code B.cells tree input.now replies
+            self.old) }
+        ensures instance { IfOk result (λ a. (tree : SyntaxTree) (replies : List (List ℤ))
+            → IsRunningIteration B.code B.cells tree input.now replies self.old
             → IsRunningIteration B.code B.cells tree input.now replies self.new) }
         ensures event { IfOk result (λ a. (tree : SyntaxTree) (replies : List (List ℤ)) (p : Pipeline) (before : List Accessed)
             → IsRunningIteration B.code B.cells tree input.now replies self.old → IsStateAfter p.store before cells.old
-            → next_of p before self.old.token.iteration (after_instances ((pipeline_of tree input.now).behaviour self.old.token.iteration) replies)
+            → next_of p before self.old.token.iteration (after_instances ((pipeline_of tree input.now).behaviour self.old.token.iteration)
+            replies)
             self.old.trace ≡ events.Access self.old.token.iteration a) }
         ensures fields { IfOk result (λ a. self.new.token ≡ record self.old.token { now = ticket }) }
         ensures trace { IfOk result (λ a. self.new.trace ≡ self.old.trace ++ record { ticket = ticket; access = a } ∷ []) }
@@ -136,7 +141,8 @@ impl<B: PlayedCode> RunningIteration<B> {
         requires out { IsOutOf book.old self.token }
         requires ends { self.next ≡ NextAction.End end }
         requires lists { BelongsTo no_tie book.old.lists }
-        requires instance { IsRunningIteration B.code B.cells (tree_of book.old.program) book.old.input (replies_at book.old self.token.iteration) self }
+        requires instance { IsRunningIteration B.code B.cells (tree_of book.old.program) book.old.input
+            (replies_at book.old self.token.iteration) self }
         ensures returned { NameReturns (state_of book.old) end result }
         ensures book { book.new ≡ after_name_next book.old self.token end self.trace result }
     {

@@ -149,7 +149,8 @@ impl Schedule {
 
     /// Notes that an iteration enters the stage that it has named.
     pub fn enter(&mut self, iteration: u32)
-        ensures schedule { (s : State) → IsScheduleOf s self.old → MayEnter s iteration → IsScheduleOf (next_state s (events.Enter iteration)) self.new }
+        ensures schedule { (s : State) → IsScheduleOf s self.old → MayEnter s iteration → IsScheduleOf
+            (next_state s (events.Enter iteration)) self.new }
         ensures limit { self.new.limit ≡ self.old.limit }
     {
         change_each(&mut self.alive, Change::Entered(iteration));
@@ -171,7 +172,8 @@ impl Schedule {
     pub fn end_instance(&mut self, iteration: u32, end: StageEnd) -> Event
         requires ends { end ≢ StageEnd.Stopped }
         ensures event { stage_end_events iteration end ≡ result ∷ [] }
-        ensures schedule { (s : State) → IsScheduleOf s self.old → ControlAllows self.old.limit s result → IsScheduleOf (next_state s result) self.new }
+        ensures schedule { (s : State) → IsScheduleOf s self.old → ControlAllows self.old.limit s result
+            → IsScheduleOf (next_state s result) self.new }
         ensures limit { self.new.limit ≡ self.old.limit }
     {
         match end {

@@ -1,7 +1,8 @@
 //! The turns that a choice chooses between: the next events of the iterations, and the beginning of
 //! the next one.
 
-ghost use Rattle.std.specs.Prelude.{◌≡◌, ◌&&◌, ◌<◌, ◌^◌, ℕ, count_by, length, nat_eq, nat_lt, true, is_some, option_map, slice_index_or, Some};
+ghost use Rattle.std.specs.Prelude.{◌≡◌, ◌&&◌, ◌<◌, ◌^◌, ℕ, count_by, length, nat_eq, nat_lt, true, is_some, option_map, slice_index_or};
+ghost use Rattle.std.specs.Prelude.{Some};
 ghost use Rattle.std.specs.List.{list_any};
 ghost use Rattle.pipe_model.specs.Pipelines.Pipeline.{Pipeline};
 ghost use Rattle.pipe_model.specs.Runs.NextEvents.{next_begin};

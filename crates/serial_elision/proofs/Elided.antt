@@ -1,5 +1,6 @@
 -- The serial elision grows by one iteration after the other.
-use Rattle.std.proofs.Common.{◌≡◌, ◌∙◌, ap, sym, refl, subst, ℕ, ℤ, pos, zero, suc, ◌+◌, ◌-◌, List, [], ◌∷◌, ◌++◌, Bool, true, false, Option, Some, None, length, map, append-nil, append_assoc, arith}
+use Rattle.std.proofs.Common.{◌≡◌, ◌∙◌, ap, sym, refl, subst, ℕ, ℤ, pos, zero, suc, ◌+◌, ◌-◌, List, [], ◌∷◌, ◌++◌, Bool, true, false}
+use Rattle.std.proofs.Common.{Option, Some, None, length, map, append-nil, append_assoc, arith}
 use Rattle.std.proofs.lemmas.List.{map-append}
 use Rattle.std.specs.Option.{option_or}
 use Rattle.cell_store.specs.ShardState.{IsStateAfter}
@@ -13,9 +14,11 @@ use Rattle.pipe_model.specs.declared.trap.TrapAt.{TrapAt}
 use Rattle.pipe_model.specs.declared.trap.TrapPlace.TheVariants.{At}
 use Rattle.pipe_model.specs.Language.SyntaxTree.{SyntaxTree}
 use Rattle.pipe_model.specs.Pipelines.Behaviour.{Action, accesses_in, closes_loop, column_of, nodes_in, trace_end}
-use Rattle.pipe_model.specs.Pipelines.ElisionResults.{ended_column, first_of_both, first_trap, serial_ended_columns, serial_trap, trap_at_end}
+use Rattle.pipe_model.specs.Pipelines.ElisionResults.{ended_column, first_of_both, first_trap, serial_ended_columns, serial_trap}
+use Rattle.pipe_model.specs.Pipelines.ElisionResults.{trap_at_end}
 use Rattle.pipe_model.specs.Pipelines.Pipeline.{Pipeline}
-use Rattle.pipe_model.specs.Pipelines.SerialElision.{located, located_from, serial_accesses, serial_events, serial_trace, serial_traces, serial_traces_from, trace_events, trace_events_from, unless}
+use Rattle.pipe_model.specs.Pipelines.SerialElision.{located, located_from, serial_accesses, serial_events, serial_trace, serial_traces}
+use Rattle.pipe_model.specs.Pipelines.SerialElision.{serial_traces_from, trace_events, trace_events_from, unless}
 use Rattle.pipe_model.specs.Pipelines.WholePrograms.{part_trap}
 use Rattle.pipe_model.specs.Races.Columns.{at, node_at}
 use Rattle.pipe_model.specs.Runs.State.{accesses_of}
@@ -38,13 +41,16 @@ pub record Elided (p : Pipeline) (n i : ℕ) (columns : List Column) (trap : Opt
 pub elided_none : (p : Pipeline) (log : Log) → log.accesses ≡ [] → log.events ≡ [] → IsStateAfter p.store p.preamble log.cells
     → Elided p (p.last_iteration + 1) 0 [] None log
 elided_none p log no_access no_event state =
-    let same : p.preamble ++ accesses_of log.accesses ≡ p.preamble = ap (λ l. p.preamble ++ accesses_of l) no_access ∙ append-nil p.preamble in
+    let same : p.preamble ++ accesses_of log.accesses ≡ p.preamble = ap (λ l. p.preamble ++ accesses_of l) no_access
+    ∙ append-nil p.preamble in
     record {
       all_columns = ap (λ l. map ended_column (serial_traces_from p (p.last_iteration + 1) 0 l)) same;
       least_trap = ap (λ l. first_trap 0 (serial_traces_from p (p.last_iteration + 1) 0 l)) same;
-      all_accesses = ap (λ l. l ++ located_from 0 (serial_traces_from p (p.last_iteration + 1) 0 (p.preamble ++ accesses_of log.accesses))) no_access
+      all_accesses = ap (λ l. l ++ located_from 0 (serial_traces_from p (p.last_iteration + 1) 0 (p.preamble ++ accesses_of log.accesses)))
+          no_access
           ∙ ap (λ l. located_from 0 (serial_traces_from p (p.last_iteration + 1) 0 l)) same;
-      all_events = ap (λ l. l ++ trace_events_from 0 (serial_traces_from p (p.last_iteration + 1) 0 (p.preamble ++ accesses_of log.accesses))) no_event
+      all_events = ap (λ l. l ++ trace_events_from 0 (serial_traces_from p (p.last_iteration + 1) 0
+          (p.preamble ++ accesses_of log.accesses))) no_event
           ∙ ap (λ l. trace_events_from 0 (serial_traces_from p (p.last_iteration + 1) 0 l)) same;
       cells = subst (λ l. IsStateAfter p.store l log.cells) (sym same) state;
     }
@@ -54,7 +60,8 @@ first_alone None = refl
 first_alone (Some t) = refl
 
 -- no iteration follows
-pub elided_all : (p : Pipeline) (i : ℕ) (columns : List Column) (steps : List ℤ) (trap : Option TrapAt) (log : Log) → Elided p 0 i columns trap log
+pub elided_all : (p : Pipeline) (i : ℕ) (columns : List Column) (steps : List ℤ) (trap : Option TrapAt) (log : Log)
+    → Elided p 0 i columns trap log
     → LoopRan p (record { columns = columns; steps = steps; trap = trap; log = log })
 elided_all p i columns steps trap log h = record {
   columns_are = sym (append-nil columns) ∙ h.all_columns;
@@ -84,7 +91,8 @@ trap_of_trace i t (Some (ends.Trapped w)) =
     ap (λ n. Some (record { place = At (at i n) (node_at (column_of t) n).number; trap = w })) place
 
 -- the iterations that follow, by whether this one closes the loop
-rest_after : (p : Pipeline) (n m i : ℕ) (t : List Action) (before after : List Access) (b : Bool) → closes_loop t ≡ b → (b ≡ true → m ≡ zero)
+rest_after : (p : Pipeline) (n m i : ℕ) (t : List Action) (before after : List Access) (b : Bool) → closes_loop t ≡ b
+    → (b ≡ true → m ≡ zero)
     → (b ≡ false → m ≡ n)
     → after ≡ before ++ accesses_in t
     → serial_traces_from p m (i + 1) after ≡ unless (closes_loop t) (serial_traces_from p n (i + 1) (before ++ accesses_in t))
@@ -96,12 +104,14 @@ grown_by : (p : Pipeline) (i : ℕ) (t : List Action) (log now : Log) → now.ac
     → p.preamble ++ accesses_of now.accesses ≡ (p.preamble ++ accesses_of log.accesses) ++ accesses_in t
 grown_by p i t log now e =
     ap (λ l. p.preamble ++ l) (ap accesses_of e ∙ map-append (λ (a : NodeAccess). a.access) log.accesses (located i 0 t)
-    ∙ ap (λ l. accesses_of log.accesses ++ l) (accesses_of-located i 0 t)) ∙ sym (append_assoc p.preamble (accesses_of log.accesses) (accesses_in t))
+    ∙ ap (λ l. accesses_of log.accesses ++ l) (accesses_of-located i 0 t))
+    ∙ sym (append_assoc p.preamble (accesses_of log.accesses) (accesses_in t))
 
 -- one iteration more
 pub elided_more : (p : Pipeline) (n m i : ℕ) (columns : List Column) (trap : Option TrapAt) (log now : Log) (column : Column)
     → Elided p (suc n) i columns trap log
-    → PartRan p.store (p.preamble ++ accesses_of log.accesses) (serial_trace p.store (p.behaviour i) (p.preamble ++ accesses_of log.accesses)) i log column now
+    → PartRan p.store (p.preamble ++ accesses_of log.accesses)
+    (serial_trace p.store (p.behaviour i) (p.preamble ++ accesses_of log.accesses)) i log column now
     → (column_closes column ≡ true → m ≡ zero) → (column_closes column ≡ false → m ≡ n)
     → Elided p m (i + 1) (columns ++ column ∷ []) (first_of_both trap (column_trap i column)) now
 elided_more p n m i columns trap log now column h one closed open' =
@@ -113,7 +123,8 @@ elided_more p n m i columns trap log now column h one closed open' =
     rest_after p n m i t base (p.preamble ++ accesses_of now.accesses) (column_closes column) (sym one.closes) closed open' grown in
     let own : column_trap i column ≡ trap_at_end i t (trace_end t) = ap (column_trap i) one.column_is ∙ trap_of_trace i t (trace_end t) in
     record {
-      all_columns = ap (λ r. (columns ++ column ∷ []) ++ map ended_column r) left ∙ append_assoc columns (column ∷ []) (map ended_column rest)
+      all_columns = ap (λ r. (columns ++ column ∷ []) ++ map ended_column r) left ∙ append_assoc columns (column ∷ [])
+          (map ended_column rest)
           ∙ ap (λ x. columns ++ x ∷ map ended_column rest) one.column_is ∙ h.all_columns;
       least_trap =
           ap (λ r. first_of_both (first_of_both trap (column_trap i column)) (first_trap (i + 1) r)) left
@@ -129,9 +140,11 @@ elided_more p n m i columns trap log now column h one closed open' =
     }
 
 -- one iteration more, as the loop keeps it
-pub elided_push : (p : Pipeline) (n m i : ℕ) (columns pushed : List Column) (trap last least : Option TrapAt) (log now : Log) (column : Column) (closes : Bool)
+pub elided_push : (p : Pipeline) (n m i : ℕ) (columns pushed : List Column) (trap last least : Option TrapAt) (log now : Log)
+    (column : Column) (closes : Bool)
     → Elided p (suc n) i columns trap log
-    → PartRan p.store (p.preamble ++ accesses_of log.accesses) (serial_trace p.store (p.behaviour i) (p.preamble ++ accesses_of log.accesses)) i log column now
+    → PartRan p.store (p.preamble ++ accesses_of log.accesses)
+    (serial_trace p.store (p.behaviour i) (p.preamble ++ accesses_of log.accesses)) i log column now
     → closes ≡ column_closes column → (closes ≡ true → m ≡ zero) → (closes ≡ false → m ≡ n)
     → pushed ≡ columns ++ column ∷ [] → least ≡ option_or trap last → last ≡ column_trap i column
     → Elided p m (i + 1) pushed least now
@@ -151,18 +164,22 @@ pub record StepsSoFar (tree : SyntaxTree) (input : List ℤ) (p : Pipeline) (n i
 pub steps_none : (tree : SyntaxTree) (input : List ℤ) (p : Pipeline) (log : Log) → log.accesses ≡ []
     → StepsSoFar tree input p (p.last_iteration + 1) 0 log []
 steps_none tree input p log no_access =
-    let same : p.preamble ++ accesses_of log.accesses ≡ p.preamble = ap (λ l. p.preamble ++ accesses_of l) no_access ∙ append-nil p.preamble in
+    let same : p.preamble ++ accesses_of log.accesses ≡ p.preamble = ap (λ l. p.preamble ++ accesses_of l) no_access
+    ∙ append-nil p.preamble in
     record { all_steps = ap (λ l. map pos (steps_from tree input 0 l (serial_traces_from p (p.last_iteration + 1) 0 l))) same }
 
 -- no iteration follows
-pub steps_all : (tree : SyntaxTree) (input : List ℤ) (p : Pipeline) (i : ℕ) (log : Log) (steps : List ℤ) → StepsSoFar tree input p 0 i log steps
+pub steps_all : (tree : SyntaxTree) (input : List ℤ) (p : Pipeline) (i : ℕ) (log : Log) (steps : List ℤ)
+    → StepsSoFar tree input p 0 i log steps
     → steps ≡ map pos (steps_from tree input 0 p.preamble (serial_traces p))
 steps_all tree input p i log steps h = sym (append-nil steps) ∙ h.all_steps
 
 -- one iteration more, as the loop keeps it
-pub steps_push : (tree : SyntaxTree) (input : List ℤ) (p : Pipeline) (n m i : ℕ) (log now : Log) (column : Column) (closes : Bool) (steps grown : List ℤ)
+pub steps_push : (tree : SyntaxTree) (input : List ℤ) (p : Pipeline) (n m i : ℕ) (log now : Log) (column : Column) (closes : Bool)
+    (steps grown : List ℤ)
     → StepsSoFar tree input p (suc n) i log steps
-    → PartRan p.store (p.preamble ++ accesses_of log.accesses) (serial_trace p.store (p.behaviour i) (p.preamble ++ accesses_of log.accesses)) i log column now
+    → PartRan p.store (p.preamble ++ accesses_of log.accesses)
+    (serial_trace p.store (p.behaviour i) (p.preamble ++ accesses_of log.accesses)) i log column now
     → closes ≡ column_closes column → (closes ≡ true → m ≡ zero) → (closes ≡ false → m ≡ n)
     → grown ≡ steps ++ map pos (iteration_steps tree input i (p.preamble ++ accesses_of log.accesses))
     → StepsSoFar tree input p m (i + 1) now grown

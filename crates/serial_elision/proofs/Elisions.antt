@@ -8,7 +8,8 @@ use Rattle.pipe_model.specs.Pipelines.Behaviour.{Action, accesses_in, trace_end}
 use Rattle.pipe_model.specs.Pipelines.ElisionResults.{ended_column, first_of_both, first_trap}
 use Rattle.pipe_model.specs.Pipelines.SerialElision.{located_from, serial_trace, serial_traces, trace_events_from, unless}
 use Rattle.pipe_model.specs.Pipelines.Store.{output_of}
-use Rattle.pipe_model.specs.Pipelines.WholePrograms.{WholeProgram, final_trace, init_accesses, init_trap, loop_after_init, loop_traces, output_with, part_trap, trap_before_final, trap_with}
+use Rattle.pipe_model.specs.Pipelines.WholePrograms.{WholeProgram, final_trace, init_accesses, init_trap, loop_after_init, loop_traces}
+use Rattle.pipe_model.specs.Pipelines.WholePrograms.{output_with, part_trap, trap_before_final, trap_with}
 use Rattle.pipe_model.specs.Runs.State.{accesses_of}
 use Rattle.serial_elision.specs.declared.elision.SerialRun.{SerialRun}
 use Rattle.serial_elision.specs.declared.iterations.LoopRun.{LoopRun}
@@ -32,7 +33,8 @@ record WithoutFinal (w : WholeProgram) (ts : List (List Action)) (accesses : Lis
   output : output_with w ts accesses ≡ output_of w.loop.store (init_accesses w ++ accesses)
   trap : trap_with w ts accesses ≡ trap_before_final w ts
 
-without_final : (w : WholeProgram) (ts : List (List Action)) (accesses : List Access) → is_some (trap_before_final w ts) ≡ true → WithoutFinal w ts accesses
+without_final : (w : WholeProgram) (ts : List (List Action)) (accesses : List Access) → is_some (trap_before_final w ts) ≡ true
+    → WithoutFinal w ts accesses
 without_final w ts accesses some =
     let none : final_trace w ts accesses ≡ [] = ap (λ b. unless b (serial_trace w.loop.store w.last (init_accesses w ++ accesses))) some in
     record {
@@ -50,7 +52,8 @@ pub record WithFinal (w : WholeProgram) (ts : List (List Action)) (accesses : Li
   pub output : output_with w ts accesses ≡ output_of w.loop.store ((init_accesses w ++ accesses) ++ accesses_in (last_trace w accesses))
   pub trap : trap_with w ts accesses ≡ part_trap Last (trace_end (last_trace w accesses))
 
-pub with_final : (w : WholeProgram) (ts : List (List Action)) (accesses : List Access) → is_some (trap_before_final w ts) ≡ false → WithFinal w ts accesses
+pub with_final : (w : WholeProgram) (ts : List (List Action)) (accesses : List Access) → is_some (trap_before_final w ts) ≡ false
+    → WithFinal w ts accesses
 with_final w ts accesses none =
     let ran : final_trace w ts accesses ≡ last_trace w accesses = ap (λ b. unless b (last_trace w accesses)) none in
     record {
@@ -61,7 +64,8 @@ with_final w ts accesses none =
     }
 
 -- the result, by the traces of the loop
-result_by : (w : WholeProgram) (ts : List (List Action)) (r : SerialRun) → loop_traces w ≡ ts → r.output ≡ output_with w ts (accesses_of (located_from 0 ts))
+result_by : (w : WholeProgram) (ts : List (List Action)) (r : SerialRun) → loop_traces w ≡ ts
+    → r.output ≡ output_with w ts (accesses_of (located_from 0 ts))
     → r.trap ≡ trap_with w ts (accesses_of (located_from 0 ts)) → r.columns ≡ map ended_column ts → r.accesses ≡ located_from 0 ts
     → r.events ≡ trace_events_from 0 ts
     → IsElision w r
@@ -90,7 +94,8 @@ pub trap_of_loop : (w : WholeProgram) (ts : List (List Action)) → is_some (ini
 trap_of_loop w ts none = ap (λ t. first_of_both t (first_trap 0 ts)) (none_is (init_trap w) none)
 
 -- an iteration trapped
-pub trapped_in_loop : (w : WholeProgram) (r : LoopRun) (output : List ℤ) → is_some (init_trap w) ≡ false → LoopRan (loop_after_init w) r → is_some r.trap ≡ true
+pub trapped_in_loop : (w : WholeProgram) (r : LoopRun) (output : List ℤ) → is_some (init_trap w) ≡ false → LoopRan (loop_after_init w) r
+    → is_some r.trap ≡ true
     → output ≡ output_of w.loop.store (init_accesses w ++ accesses_of r.log.accesses)
     → IsElision w (record { output = output; trap = r.trap; columns = r.columns; accesses = r.log.accesses; events = r.log.events })
 trapped_in_loop w r output none ran some all =
@@ -106,7 +111,8 @@ trapped_in_loop w r output none ran some all =
 pub ran_to_end : (w : WholeProgram) (r : LoopRun) (output : List ℤ) (trap : Option TrapAt) → is_some (init_trap w) ≡ false
     → LoopRan (loop_after_init w) r → is_some r.trap ≡ false
     → trap ≡ part_trap Last (trace_end (last_trace w (accesses_of r.log.accesses)))
-    → output ≡ output_of w.loop.store ((init_accesses w ++ accesses_of r.log.accesses) ++ accesses_in (last_trace w (accesses_of r.log.accesses)))
+    → output ≡ output_of w.loop.store ((init_accesses w ++ accesses_of r.log.accesses) ++ accesses_in
+    (last_trace w (accesses_of r.log.accesses)))
     → IsElision w (record { output = output; trap = trap; columns = r.columns; accesses = r.log.accesses; events = r.log.events })
 ran_to_end w r output trap none ran no_trap last all =
     let ts = serial_traces (loop_after_init w) in
@@ -114,5 +120,7 @@ ran_to_end w r output trap none ran no_trap last all =
     let before : trap_before_final w ts ≡ r.trap = trap_of_loop w ts none ∙ sym ran.trap_is in
     let h = with_final w ts (accesses_of (located_from 0 ts)) (ap is_some before ∙ no_trap) in
     result_by w ts (record { output = output; trap = trap; columns = r.columns; accesses = r.log.accesses; events = r.log.events }) is
-    (all ∙ ap (λ l. output_of w.loop.store ((init_accesses w ++ accesses_of l) ++ accesses_in (last_trace w (accesses_of l)))) ran.accesses_are ∙ sym h.output)
-    (last ∙ ap (λ l. part_trap Last (trace_end (last_trace w (accesses_of l)))) ran.accesses_are ∙ sym h.trap) ran.columns_are ran.accesses_are ran.events_are
+    (all ∙ ap (λ l. output_of w.loop.store ((init_accesses w ++ accesses_of l) ++ accesses_in (last_trace w (accesses_of l))))
+    ran.accesses_are ∙ sym h.output)
+    (last ∙ ap (λ l. part_trap Last (trace_end (last_trace w (accesses_of l)))) ran.accesses_are ∙ sym h.trap) ran.columns_are
+    ran.accesses_are ran.events_are

@@ -36,7 +36,8 @@ ends_so code cells input run t (stage_ends.Trap w) end is h = let same : instanc
 ends_so code cells input run t stage_ends.Stopped end is h = absurd (cc (is))
 
 -- what the machine did over the recorder, and what is recorded
-pub ran_from : (code : FlatCode) (cells : ℕ) (input : List ℤ) (t : Behaviour) (node : NodeId) (log now : Log) (run : RunState) (e : StageEnd)
+pub ran_from : (code : FlatCode) (cells : ℕ) (input : List ℤ) (t : Behaviour) (node : NodeId) (log now : Log) (run : RunState)
+    (e : StageEnd)
     (end : InstanceEnd) (made made' : List Access)
     → made ≡ [] → RanInstance code cells input t made made' run e → Adds node log made' now → instance_end e ≡ Some end
     → RanFrom code cells input t node log now run end
@@ -49,7 +50,8 @@ ran_from code cells input t node log now run e end made made' none h adds is =
       ends = ends_so code cells input run _ e end is h.ends_as;
     }
 
-ends_so_tree : (code : FlatCode) (cells : ℕ) (input : List ℤ) (run : RunState) (d : Interaction ColumnEnd) (e : StageEnd) (end : InstanceEnd)
+ends_so_tree : (code : FlatCode) (cells : ℕ) (input : List ℤ) (run : RunState) (d : Interaction ColumnEnd) (e : StageEnd)
+    (end : InstanceEnd)
     → instance_end e ≡ Some end → EndsAsTree code cells input e run d → EndsSoTree code cells input end run d
 ends_so_tree code cells input run d (stage_ends.Wait n) end is h = let same : instance_ends.Next Wait n ≡ end = cc (is) in
     subst (λ x. EndsSoTree code cells input x run d) same h
@@ -64,9 +66,11 @@ ends_so_tree code cells input run d (stage_ends.Trap w) end is h = let same : in
 ends_so_tree code cells input run d stage_ends.Stopped end is h = absurd (cc (is))
 
 -- the same of an interaction tree
-pub tree_ran_from : (code : FlatCode) (cells : ℕ) (input : List ℤ) (d : Interaction ColumnEnd) (node : NodeId) (log now : Log) (run : RunState)
+pub tree_ran_from : (code : FlatCode) (cells : ℕ) (input : List ℤ) (d : Interaction ColumnEnd) (node : NodeId) (log now : Log)
+    (run : RunState)
     (e : StageEnd) (end : InstanceEnd) (made made' : List Access)
-    → made ≡ [] → RanTree code cells input d (natural code.limits.steps) made made' run e → Adds node log made' now → instance_end e ≡ Some end
+    → made ≡ [] → RanTree code cells input d (natural code.limits.steps) made made' run e → Adds node log made' now
+    → instance_end e ≡ Some end
     → RanTreeFrom code cells input d node log now run end
 tree_ran_from code cells input d node log now run e end made made' none h adds is = record {
   accesses = made';

@@ -1,5 +1,6 @@
 -- A part of a program, instance after instance.
-use Rattle.std.proofs.Common.{◌≡◌, ◌∙◌, ap, sym, refl, subst, ℕ, ℤ, pos, negsuc, ◌≤ℤ◌, ◌≤◌, ◌+◌, ◌-◌, ◌%◌, ◌==◌, ◌&&◌, List, [], ◌∷◌, ◌++◌, Some, false, length, map, append-nil, append_assoc, arith}
+use Rattle.std.proofs.Common.{◌≡◌, ◌∙◌, ap, sym, refl, subst, ℕ, ℤ, pos, negsuc, ◌≤ℤ◌, ◌≤◌, ◌+◌, ◌-◌, ◌%◌, ◌==◌, ◌&&◌, List, [], ◌∷◌, ◌++◌}
+use Rattle.std.proofs.Common.{Some, false, length, map, append-nil, append_assoc, arith}
 use Rattle.std.proofs.lemmas.Bool.Decides.{nat_tests}
 use Rattle.cell_store.specs.ShardState.{HasOutput, IsStateAfter, ShardState}
 use Rattle.pipe_model.specs.declared.access.Access.{Access}
@@ -9,7 +10,9 @@ use Rattle.pipe_model.specs.declared.node.Kind.{Kind}
 use Rattle.pipe_model.specs.declared.node.Node.{Node}
 use Rattle.pipe_model.specs.declared.node.NodeId.{NodeId}
 use Rattle.pipe_model.specs.Language.Programs.{natural}
-use Rattle.pipe_model.specs.Pipelines.Behaviour.{Action, Accessed, Staged, Ended, Behaviour, Reading, Writing, Staging, Ending, HasNoEnd, Performs, accesses_in, behaviour_after_all, closes_at_once, closes_loop, column_of, node_of, nodes_in, read_access, trace_end, write_access}
+use Rattle.pipe_model.specs.Pipelines.Behaviour.{Action, Accessed, Staged, Ended, Behaviour, Reading, Writing, Staging, Ending, HasNoEnd}
+use Rattle.pipe_model.specs.Pipelines.Behaviour.{Performs, accesses_in, behaviour_after_all, closes_at_once, closes_loop, column_of}
+use Rattle.pipe_model.specs.Pipelines.Behaviour.{node_of, nodes_in, read_access, trace_end, write_access}
 use Rattle.pipe_model.specs.Pipelines.SerialElision.{located, serial_trace, trace_events}
 use Rattle.pipe_model.specs.Pipelines.Store.{HasReply, InitialStore, value_after}
 use Rattle.pipe_model.specs.Races.Columns.{at, no_node}
@@ -131,7 +134,8 @@ so_far_ran store whole before i log t nodes now now' xs h performs adds =
     (accesses_in-append done made)) in
     let index : length nodes - 1 ≡ 0 + length (nodes_in done) = omega (arith, ap length h.nodes_are) in
     let here : located i 0 done ++ placed (at i (length nodes - 1)) xs ≡ located i 0 (done ++ made) =
-    ap (λ k. located i 0 done ++ placed (at i k) xs) index ∙ ap (λ l. located i 0 done ++ l) (sym (located_is i (0 + length (nodes_in done)) xs))
+    ap (λ k. located i 0 done ++ placed (at i k) xs) index ∙ ap (λ l. located i 0 done ++ l)
+    (sym (located_is i (0 + length (nodes_in done)) xs))
     ∙ sym (located-append i 0 done made) in
     let seen : trace_events i done ++ access_events i xs ≡ trace_events i (done ++ made) =
     ap (λ l. trace_events i done ++ l) (sym (events_are i xs)) ∙ sym (trace_events-append i done made) in
@@ -141,7 +145,8 @@ so_far_ran store whole before i log t nodes now now' xs h performs adds =
       trace = h.trace ∙ ap (λ l. done ++ l) (trace_splits store t base xs performs (adds.replies store base h.cells))
           ∙ sym (append_assoc done made (serial_trace store rest (base ++ xs)))
           ∙ ap (λ l. (done ++ made) ++ serial_trace store rest l) grown;
-      nodes_are = h.nodes_are ∙ ap (λ l. no_node ∷ l) (sym (append-nil (nodes_in done)) ∙ ap (λ l. nodes_in done ++ l) (sym (no_nodes xs)) ∙ sym
+      nodes_are = h.nodes_are ∙ ap (λ l. no_node ∷ l) (sym (append-nil (nodes_in done)) ∙ ap (λ l. nodes_in done ++ l) (sym (no_nodes xs))
+          ∙ sym
           (nodes_in-append done made));
       accesses_are = joined now.accesses log.accesses (located i 0 done) (placed (at i (length nodes - 1)) xs) now'.accesses h.accesses_are
           adds.accesses_are ∙ ap (λ l. log.accesses ++ l) here;
@@ -151,10 +156,12 @@ so_far_ran store whole before i log t nodes now now' xs h performs adds =
     }
 
 -- a next instance is named and entered
-pub so_far_entered : (store : InitialStore) (whole : Behaviour) (before : List Access) (i : ℕ) (log : Log) (t : Behaviour) (nodes : List Node)
+pub so_far_entered : (store : InitialStore) (whole : Behaviour) (before : List Access) (i : ℕ) (log : Log) (t : Behaviour)
+    (nodes : List Node)
     (now : Log) (kind : Kind) (n : ℤ)
     → SoFar store whole before i log (Staging kind n t) nodes now
-    → SoFar store whole before i log t (nodes ++ node_of kind n ∷ []) (record now { events = now.events ++ events.Advance i kind n ∷ (events.Enter i ∷ []) })
+    → SoFar store whole before i log t (nodes ++ node_of kind n ∷ [])
+    (record now { events = now.events ++ events.Advance i kind n ∷ (events.Enter i ∷ []) })
 so_far_entered store whole before i log t nodes now kind n h =
     let done = h.done in
     let named = Staged kind n ∷ [] in
@@ -166,7 +173,8 @@ so_far_entered store whole before i log t nodes now kind n h =
           ∙ ap (λ l. (done ++ named) ++ serial_trace store t (before ++ l)) same;
       nodes_are = ap (λ l. l ++ node_of kind n ∷ []) h.nodes_are ∙ ap (λ l. no_node ∷ l) (sym (nodes_in-append done named));
       accesses_are = h.accesses_are ∙ ap (λ l. log.accesses ++ l) (sym (located-staged i 0 done kind n));
-      events_are = joined now.events log.events (events.Begin i ∷ trace_events i done) (events.Advance i kind n ∷ (events.Enter i ∷ [])) _ h.events_are refl
+      events_are = joined now.events log.events (events.Begin i ∷ trace_events i done) (events.Advance i kind n ∷ (events.Enter i ∷ [])) _
+          h.events_are refl
           ∙ ap (λ l. log.events ++ (events.Begin i ∷ l)) (sym (trace_events-append i done named));
       cells = subst (λ l. IsStateAfter store (before ++ l) now.cells) same h.cells;
     }
@@ -182,7 +190,8 @@ closes_by (Staged k n ∷ done) e h =
 closes_by (Ended d ∷ done) e h = absurd h
 
 -- the part ends
-pub part_ended : (store : InitialStore) (whole : Behaviour) (before : List Access) (i : ℕ) (log : Log) (nodes : List Node) (now : Log) (e : ColumnEnd)
+pub part_ended : (store : InitialStore) (whole : Behaviour) (before : List Access) (i : ℕ) (log : Log) (nodes : List Node) (now : Log)
+    (e : ColumnEnd)
     → SoFar store whole before i log (Ending e) nodes now
     → PartRan store before (serial_trace store whole before) i log (record { nodes = nodes; end = Some e })
     (record now { events = now.events ++ events.Finish i e ∷ [] })
@@ -192,7 +201,8 @@ part_ended store whole before i log nodes now e h =
     let trace : done ++ end ≡ serial_trace store whole before = sym h.trace in
     let same : accesses_in done ≡ accesses_in (done ++ end) = sym (accesses_in-append done end ∙ append-nil (accesses_in done)) in
     let column : List Node = nodes in
-    let own : nodes ≡ column_of (done ++ end) = h.nodes_are ∙ ap (λ l. no_node ∷ l) (sym (nodes_in-append done end ∙ append-nil (nodes_in done))) in
+    let own : nodes ≡ column_of (done ++ end) = h.nodes_are
+    ∙ ap (λ l. no_node ∷ l) (sym (nodes_in-append done end ∙ append-nil (nodes_in done))) in
     let last : trace_end (done ++ end) ≡ Some e = trace_end_is (done ++ end) e (ends_with_end done e h.no_end) in
     let now' : Log = record now { events = now.events ++ events.Finish i e ∷ [] } in
     subst (λ x. PartRan store before x i log (record { nodes = nodes; end = Some e }) now') trace (record {
@@ -207,14 +217,16 @@ part_ended store whole before i log nodes now e h =
 -- ---- a machine in the middle of a part
 
 -- the machine has a behaviour left to do, and this is what was done before
-pub record Left (code : FlatCode) (cells : ℕ) (input : List ℤ) (store : InitialStore) (whole : Behaviour) (i : ℕ) (log : Log) (run : RunState)
+pub record Left (code : FlatCode) (cells : ℕ) (input : List ℤ) (store : InitialStore) (whole : Behaviour) (i : ℕ) (log : Log)
+    (run : RunState)
     (nodes : List Node) (now : Log) : Type 0 where
   pub t : Behaviour
   pub stands : StandsFor code cells input run t
   pub so_far : (before : List Access) → IsStateAfter store before log.cells → SoFar store whole before i log t nodes now
 
 -- a part begins
-pub left_begun : (code : FlatCode) (cells : ℕ) (input : List ℤ) (store : InitialStore) (whole : Behaviour) (i : ℕ) (log : Log) (run : RunState)
+pub left_begun : (code : FlatCode) (cells : ℕ) (input : List ℤ) (store : InitialStore) (whole : Behaviour) (i : ℕ) (log : Log)
+    (run : RunState)
     (nodes : List Node) (now : Log)
     → StandsFor code cells input run whole → nodes ≡ no_node ∷ [] → now ≡ record log { events = log.events ++ events.Begin i ∷ [] }
     → Left code cells input store whole i log run nodes now
@@ -252,21 +264,25 @@ left_entered code cells cells' input store whole i log run run' node nodes nodes
       so_far = λ before state. subst (λ x. SoFar store whole before i log one.ends.0 x now') (sym grown)
           (subst (λ (x : Log). SoFar store whole before i log one.ends.0 (nodes ++ node_of kind n ∷ []) x) (sym entered)
           (so_far_entered store whole before i log one.ends.0 nodes ran kind n
-          (subst (λ x. SoFar store whole before i log x nodes ran) one.ends.1 (so_far_ran store whole before i log h.t nodes now ran one.accesses
+          (subst (λ x. SoFar store whole before i log x nodes ran) one.ends.1
+          (so_far_ran store whole before i log h.t nodes now ran one.accesses
           (h.so_far before state) one.performs one.adds))));
     }
 
 -- an instance ran, and it is the last
 pub left_ended : (code : FlatCode) (cells cells' : ℕ) (input : List ℤ) (store : InitialStore) (whole : Behaviour) (i : ℕ) (log : Log)
     (run run' : RunState) (node : NodeId) (nodes : List Node)
-    (now ran now' : Log) (end : InstanceEnd) (e : ColumnEnd) (before : List Access) (h : Left code cells input store whole i log run nodes now)
+    (now ran now' : Log) (end : InstanceEnd) (e : ColumnEnd) (before : List Access)
+    (h : Left code cells input store whole i log run nodes now)
     → ((d : Behaviour) → StandsFor code cells' input run d → RanFrom code cells' input d node now ran run' end)
-    → cells' ≡ cells → node ≡ at i (length nodes - 1) → end ≡ instance_ends.Ended e → now' ≡ record ran { events = ran.events ++ events.Finish i e ∷ [] }
+    → cells' ≡ cells → node ≡ at i (length nodes - 1) → end ≡ instance_ends.Ended e → now' ≡ record ran
+    { events = ran.events ++ events.Finish i e ∷ [] }
     → IsStateAfter store before log.cells
     → PartRan store before (serial_trace store whole before) i log (record { nodes = nodes; end = Some e }) now'
 left_ended code cells cells' input store whole i log run run' node nodes now ran now' end e before h did same here is finished state =
     let one = one_ran code cells cells' input h.t i node nodes now ran run run' end (instance_ends.Ended e) did h.stands same here is in
-    subst (λ (x : Log). PartRan store before (serial_trace store whole before) i log (record { nodes = nodes; end = Some e }) x) (sym finished)
+    subst (λ (x : Log). PartRan store before (serial_trace store whole before) i log (record { nodes = nodes; end = Some e }) x)
+    (sym finished)
     (part_ended store whole before i log nodes ran e
     (subst (λ x. SoFar store whole before i log x nodes ran) one.ends (so_far_ran store whole before i log h.t nodes now ran one.accesses
     (h.so_far before state) one.performs one.adds)))

@@ -1,5 +1,6 @@
 -- One access more is recorded.
-use Rattle.std.proofs.Common.{◌≡◌, ◌∙◌, ap, sym, subst, ◌≤◌, List, [], ◌∷◌, ◌++◌, length, drop, append_assoc, append-nil, length-append, arith}
+use Rattle.std.proofs.Common.{◌≡◌, ◌∙◌, ap, sym, subst, ◌≤◌, List, [], ◌∷◌, ◌++◌, length, drop, append_assoc, append-nil, length-append}
+use Rattle.std.proofs.Common.{arith}
 use Rattle.std.proofs.Math.Seq.{drop-append_seam}
 use Rattle.std.proofs.lemmas.List.{drop-append-le, map-append}
 use Rattle.cell_store.specs.ShardState.{IsStateAfter}
@@ -37,7 +38,8 @@ made_more log now now' node made a h e =
 pub adds_more : (log now now' : Log) (node : NodeId) (a : Access) → Adds node log (made_since log now) now
     → now'.accesses ≡ now.accesses ++ record { node = node; access = a } ∷ []
     → now'.events ≡ now.events ++ events.Access node.iteration a ∷ []
-    → ((store : InitialStore) (before : List Access) → IsStateAfter store before now.cells → IsStateAfter store (before ++ a ∷ []) now'.cells)
+    → ((store : InitialStore) (before : List Access) → IsStateAfter store before now.cells
+    → IsStateAfter store (before ++ a ∷ []) now'.cells)
     → ((store : InitialStore) (before : List Access) → IsStateAfter store before now.cells → HasReply store before a)
     → Adds node log (made_since log now') now'
 adds_more log now now' node a h accesses recorded state reply =
@@ -51,7 +53,8 @@ adds_more log now now' node a h accesses recorded state reply =
           ∙ ap (λ l. log.events ++ l) (sym (map-append (λ (b : Access). events.Access node.iteration b) made (a ∷ [])));
       cells = λ store before was. subst (λ l. IsStateAfter store l now'.cells) (append_assoc before made (a ∷ []))
           (state store (before ++ made) (h.cells store before was));
-      replies = λ store before was. replies_more store before made a (h.replies store before was) (reply store (before ++ made) (h.cells store before was));
+      replies = λ store before was. replies_more store before made a (h.replies store before was)
+          (reply store (before ++ made) (h.cells store before was));
     })
 
 -- nothing has been recorded since now

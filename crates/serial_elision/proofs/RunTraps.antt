@@ -1,5 +1,6 @@
 -- The traps of a run, by its columns.
-use Rattle.std.proofs.Common.{◌≡◌, ◌∙◌, ap, ap₂, sym, refl, arith, ℕ, suc, ◌+◌, ◌<◌, List, [], ◌∷◌, ◌++◌, Option, Some, None, length, map, take, get_or, append-nil}
+use Rattle.std.proofs.Common.{◌≡◌, ◌∙◌, ap, ap₂, sym, refl, arith, ℕ, suc, ◌+◌, ◌<◌, List, [], ◌∷◌, ◌++◌, Option, Some, None, length, map}
+use Rattle.std.proofs.Common.{take, get_or, append-nil}
 use Rattle.std.proofs.lemmas.List.{length-take-le, take_more}
 use Rattle.std.specs.Option.{option_or}
 use Rattle.pipe_model.specs.declared.column.Column.{Column}
@@ -24,7 +25,8 @@ no_trace_end (Staged k n ∷ rest) h = no_trace_end rest h
 no_trace_end (Ended e ∷ rest) h = absurd h
 
 -- the trap of an iteration, by its status
-trap_by_status : (i : ℕ) (status : Status) (nodes : List Node) (trace : List Action) → column_of trace ≡ nodes ++ pending_node status → EndsBy status trace
+trap_by_status : (i : ℕ) (status : Status) (nodes : List Node) (trace : List Action) → column_of trace ≡ nodes ++ pending_node status
+    → EndsBy status trace
     → trap_at_end i trace (trace_end trace) ≡ column_trap i (record { nodes = nodes; end = end_of_status status })
 trap_by_status i Running nodes trace column ending = ap (trap_at_end i trace) (no_trace_end trace ending)
 trap_by_status i (Pending k n) nodes trace column ending = ap (trap_at_end i trace) (no_trace_end trace ending)
@@ -40,7 +42,8 @@ traps_of_frames : (i : ℕ) (frames : List Frame)
 traps_of_frames i [] traced = refl
 traps_of_frames i (f ∷ frames) traced =
     let one = traced 0 f refl in
-    ap₂ first_of_both (trap_by_status i f.status f.nodes f.trace one.0 one.1) (traps_of_frames (i + 1) frames (λ k g there. traced (suc k) g there))
+    ap₂ first_of_both (trap_by_status i f.status f.nodes f.trace one.0 one.1)
+    (traps_of_frames (i + 1) frames (λ k g there. traced (suc k) g there))
 
 pub run_traps_are_those_of_columns : RunTrapsAreThoseOfColumns
 run_traps_are_those_of_columns p limit events s run =
@@ -50,7 +53,8 @@ run_traps_are_those_of_columns p limit events s run =
 
 least_trap-push : (i : ℕ) (columns : List Column) (column : Column)
     → least_trap i (columns ++ column ∷ []) ≡ first_of_both (least_trap i columns) (column_trap (i + length columns) column)
-least_trap-push i [] column = ap (λ k. first_of_both (column_trap k column) None) (omega arith) ∙ sym (first_alone (column_trap (i + 0) column))
+least_trap-push i [] column = ap (λ k. first_of_both (column_trap k column) None) (omega arith)
+    ∙ sym (first_alone (column_trap (i + 0) column))
 least_trap-push i (first ∷ rest) column =
     ap (first_of_both (column_trap i first)) (least_trap-push (i + 1) rest column)
     ∙ sym (first_of_three (column_trap i first) (least_trap (i + 1) rest) (column_trap (i + 1 + length rest) column))
@@ -58,7 +62,8 @@ least_trap-push i (first ∷ rest) column =
 
 -- the trap of the columns up to one more
 pub least_trap_more : (columns : List Column) (k : ℕ) (d : Column) (before now : Option TrapAt) → k < length columns
-    → before ≡ least_trap 0 (take k columns) → now ≡ option_or before (column_trap k (get_or columns k d)) → now ≡ least_trap 0 (take (k + 1) columns)
+    → before ≡ least_trap 0 (take k columns) → now ≡ option_or before (column_trap k (get_or columns k d))
+    → now ≡ least_trap 0 (take (k + 1) columns)
 least_trap_more columns k d before now less was is =
     let long : length (take k columns) ≡ k = length-take-le k columns (omega (arith, less)) in
     let more : least_trap 0 (take (k + 1) columns) ≡ first_of_both (least_trap 0 (take k columns)) (column_trap k (get_or columns k d)) =

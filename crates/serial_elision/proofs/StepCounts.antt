@@ -1,5 +1,6 @@
 -- The steps of the instances of a part, instance after instance.
-use Rattle.std.proofs.Common.{◌≡◌, ◌∙◌, ap, sym, refl, subst, ℕ, ℤ, zero, suc, pos, ◌<◌, ◌-◌, List, [], ◌∷◌, ◌++◌, map, append-nil, append_assoc, arith}
+use Rattle.std.proofs.Common.{◌≡◌, ◌∙◌, ap, sym, refl, subst, ℕ, ℤ, zero, suc, pos, ◌<◌, ◌-◌, List, [], ◌∷◌, ◌++◌, map, append-nil}
+use Rattle.std.proofs.Common.{append_assoc, arith}
 use Rattle.std.proofs.lemmas.List.{append_cancel_left}
 use Rattle.cell_store.specs.ShardState.{IsStateAfter}
 use Rattle.pipe_model.specs.declared.access.Access.{Access}
@@ -43,7 +44,8 @@ step_counted store before budget zero d lt = absurd (omega (arith, lt))
 step_counted store before budget (suc l) d lt = let e : l ≡ suc l - 1 = omega arith in ap (λ n. step_counts store before budget n d) e
 
 -- a run leaves the same steps to be counted, if its reads have the values of their cells
-counts_on : (store : InitialStore) (budget l l' : ℕ) (d d' : Interaction ColumnEnd) (base log log' xs : List Access) → Comes d l log d' l' log'
+counts_on : (store : InitialStore) (budget l l' : ℕ) (d d' : Interaction ColumnEnd) (base log log' xs : List Access)
+    → Comes d l log d' l' log'
     → log' ≡ log ++ xs → HaveReplies store (base ++ log) xs
     → step_counts store (base ++ log) budget l d ≡ step_counts store (base ++ log') budget l' d'
 counts_on store budget l l' d d' base log log' xs Here is replies = refl
@@ -60,7 +62,8 @@ counts_on store budget l l' d d' base log log' xs (Got {go = go} c v h) is repli
     let same = append_assoc base log (a ∷ []) in
     let rest : step_counts store ((base ++ log) ++ a ∷ []) budget l (go v) ≡ step_counts store (base ++ log') budget l' d' =
     ap (λ b. step_counts store b budget l (go v)) same
-    ∙ counts_on store budget l l' (go v) d' base (log ++ a ∷ []) log' r.made h r.is (subst (λ b. HaveReplies store b r.made) same given.1) in
+    ∙ counts_on store budget l l' (go v) d' base (log ++ a ∷ []) log' r.made h r.is (subst (λ b. HaveReplies store b r.made) same given.1)
+    in
     ap (λ w. step_counts store ((base ++ log) ++ read_access c w ∷ []) budget l (go w)) (sym value) ∙ rest
 counts_on store budget l l' d d' base log log' xs (Put {m = e} c v h) is replies =
     let a = write_access c v in
@@ -72,7 +75,8 @@ counts_on store budget l l' d d' base log log' xs (Put {m = e} c v h) is replies
     ∙ counts_on store budget l l' e d' base (log ++ a ∷ []) log' r.made h r.is (subst (λ b. HaveReplies store b r.made) same given.1)
 
 -- an instance and what follows it
-instance_counted : (store : InitialStore) (budget l' : ℕ) (d d' : Interaction ColumnEnd) (base xs : List Access) → Comes d budget [] d' l' xs
+instance_counted : (store : InitialStore) (budget l' : ℕ) (d d' : Interaction ColumnEnd) (base xs : List Access)
+    → Comes d budget [] d' l' xs
     → HaveReplies store base xs → step_counts store base budget budget d ≡ step_counts store (base ++ xs) budget l' d'
 instance_counted store budget l' d d' base xs h replies =
     let none : base ++ [] ≡ base = append-nil base in
@@ -91,14 +95,17 @@ end_counted store before budget l (Stage k n d) h = absurd h
 -- ---- a part that is running
 
 -- since a part began, the steps of the instances that have run were appended to `old`; the steps of the tree that is left are still to come
-pub record Counted (store : InitialStore) (budget : ℕ) (whole : Interaction ColumnEnd) (before : List Access) (old : List ℤ) (d : Interaction ColumnEnd)
+pub record Counted (store : InitialStore) (budget : ℕ) (whole : Interaction ColumnEnd) (before : List Access) (old : List ℤ)
+    (d : Interaction ColumnEnd)
     (now : Log) (steps : List ℤ) : Type 0 where
   pub made : List Access
   pub cells : IsStateAfter store (before ++ made) now.cells
-  pub counts : old ++ map pos (step_counts store before budget budget whole) ≡ steps ++ map pos (step_counts store (before ++ made) budget budget d)
+  pub counts : old ++ map pos (step_counts store before budget budget whole) ≡ steps ++ map pos
+      (step_counts store (before ++ made) budget budget d)
 
 -- the machine has a tree left to do, and the steps before it are counted
-pub record StepsLeft (code : FlatCode) (cells : ℕ) (input : List ℤ) (store : InitialStore) (whole : Interaction ColumnEnd) (log : Log) (old : List ℤ)
+pub record StepsLeft (code : FlatCode) (cells : ℕ) (input : List ℤ) (store : InitialStore) (whole : Interaction ColumnEnd) (log : Log)
+    (old : List ℤ)
     (run : RunState) (now : Log) (steps : List ℤ) : Type 0 where
   pub d : Interaction ColumnEnd
   pub stands : StandsForTree code cells input run d
@@ -117,7 +124,8 @@ steps_begun code cells input store whole i log old run now stands begun = record
     made = [];
     cells = subst (λ (x : Log). IsStateAfter store (before ++ []) x.cells) (sym begun)
         (subst (λ l. IsStateAfter store l log.cells) (sym (append-nil before)) state);
-    counts = ap (λ b. old ++ map pos (step_counts store b (natural code.limits.steps) (natural code.limits.steps) whole)) (sym (append-nil before));
+    counts = ap (λ b. old ++ map pos (step_counts store b (natural code.limits.steps) (natural code.limits.steps) whole))
+        (sym (append-nil before));
   };
 }
 
@@ -128,25 +136,32 @@ one_tree_ran : (code : FlatCode) (cells cells' : ℕ) (input : List ℤ) (d : In
     → StandsForTree code cells input run d → cells' ≡ cells → end ≡ end' → RanTreeFrom code cells input d node now ran run' end'
 one_tree_ran code cells cells' input d node now ran run run' end end' h stands same is =
     subst (λ c. RanTreeFrom code c input d node now ran run' end') same
-    (subst (λ x. RanTreeFrom code cells' input d node now ran run' x) is (h d (subst (λ c. StandsForTree code c input run d) (sym same) stands)))
+    (subst (λ x. RanTreeFrom code cells' input d node now ran run' x) is
+    (h d (subst (λ c. StandsForTree code c input run d) (sym same) stands)))
 
 -- the steps of one instance are counted
-one_counted : (steps grown old : List ℤ) (all rest counts : List ℕ) (budget left n : ℕ) (z : ℤ) → old ++ map pos all ≡ steps ++ map pos counts
-    → counts ≡ (budget - left) ∷ rest → z ≡ pos (n - left) → n ≡ budget → grown ≡ steps ++ z ∷ [] → old ++ map pos all ≡ grown ++ map pos rest
+one_counted : (steps grown old : List ℤ) (all rest counts : List ℕ) (budget left n : ℕ) (z : ℤ)
+    → old ++ map pos all ≡ steps ++ map pos counts
+    → counts ≡ (budget - left) ∷ rest → z ≡ pos (n - left) → n ≡ budget → grown ≡ steps ++ z ∷ []
+    → old ++ map pos all ≡ grown ++ map pos rest
 one_counted steps grown old all rest counts budget left n z h e is same push =
     let one : z ≡ pos (budget - left) = is ∙ ap (λ b. pos (b - left)) same in
     h ∙ ap (λ l. steps ++ map pos l) e ∙ sym (append_assoc steps (pos (budget - left) ∷ []) (map pos rest))
     ∙ ap (λ x. (steps ++ x ∷ []) ++ map pos rest) (sym one) ∙ ap (λ l. l ++ map pos rest) (sym push)
 
 -- an instance ran, and the next is entered
-pub steps_entered : (code : FlatCode) (cells cells' : ℕ) (input : List ℤ) (store : InitialStore) (whole : Interaction ColumnEnd) (i : ℕ) (log : Log)
-    (old : List ℤ) (run run' : RunState) (node : NodeId) (now ran now' : Log) (steps grown : List ℤ) (z : ℤ) (end : InstanceEnd) (kind : Kind) (n : ℤ)
+pub steps_entered : (code : FlatCode) (cells cells' : ℕ) (input : List ℤ) (store : InitialStore) (whole : Interaction ColumnEnd) (i : ℕ)
+    (log : Log)
+    (old : List ℤ) (run run' : RunState) (node : NodeId) (now ran now' : Log) (steps grown : List ℤ) (z : ℤ) (end : InstanceEnd)
+    (kind : Kind) (n : ℤ)
     → StepsLeft code cells input store whole log old run now steps
     → ((d : Interaction ColumnEnd) → StandsForTree code cells' input run d → RanTreeFrom code cells' input d node now ran run' end)
-    → cells' ≡ cells → end ≡ instance_ends.Next kind n → run'.budget ≡ natural code.limits.steps → z ≡ pos (steps_of run') → grown ≡ steps ++ z ∷ []
+    → cells' ≡ cells → end ≡ instance_ends.Next kind n → run'.budget ≡ natural code.limits.steps → z ≡ pos (steps_of run')
+    → grown ≡ steps ++ z ∷ []
     → now' ≡ record ran { events = ran.events ++ events.Advance i kind n ∷ (events.Enter i ∷ []) }
     → StepsLeft code cells input store whole log old run' now' grown
-steps_entered code cells cells' input store whole i log old run run' node now ran now' steps grown z end kind n h did same is budget took push entered =
+steps_entered code cells cells' input store whole i log old run run' node now ran now' steps grown z end kind n h did same is budget took
+    push entered =
     let one = one_tree_ran code cells cells' input h.d node now ran run run' end (instance_ends.Next kind n) did h.stands same is in
     let b = natural code.limits.steps in
     let next = one.ends.0 in
@@ -175,10 +190,12 @@ pub steps_ended : (code : FlatCode) (cells cells' : ℕ) (input : List ℤ) (sto
     (old : List ℤ) (run run' : RunState) (node : NodeId) (now ran : Log) (steps grown : List ℤ) (z : ℤ) (end : InstanceEnd) (e : ColumnEnd)
     (before : List Access) (budget : ℕ) → StepsLeft code cells input store whole log old run now steps
     → ((d : Interaction ColumnEnd) → StandsForTree code cells' input run d → RanTreeFrom code cells' input d node now ran run' end)
-    → cells' ≡ cells → end ≡ instance_ends.Ended e → run'.budget ≡ natural code.limits.steps → z ≡ pos (steps_of run') → grown ≡ steps ++ z ∷ []
+    → cells' ≡ cells → end ≡ instance_ends.Ended e → run'.budget ≡ natural code.limits.steps → z ≡ pos (steps_of run')
+    → grown ≡ steps ++ z ∷ []
     → natural code.limits.steps ≡ budget → IsStateAfter store before log.cells
     → grown ≡ old ++ map pos (step_counts store before budget budget whole)
-steps_ended code cells cells' input store whole log old run run' node now ran steps grown z end e before budget h did same is whole_budget took push limit state =
+steps_ended code cells cells' input store whole log old run run' node now ran steps grown z end e before budget h did same is whole_budget
+    took push limit state =
     let one = one_tree_ran code cells cells' input h.d node now ran run run' end (instance_ends.Ended e) did h.stands same is in
     let b = natural code.limits.steps in
     let c = h.counted before state in

@@ -1,6 +1,7 @@
 -- Runs of whole programs.
 use Rattle.std.specs.Prelude.{◌≡◌}
-use Rattle.pipe_model.specs.Pipelines.WholePrograms.{WholeProgram, loop_accesses, program_columns, program_log, program_output, program_trap}
+use Rattle.pipe_model.specs.Pipelines.WholePrograms.{WholeProgram, loop_accesses, program_columns, program_log, program_output}
+use Rattle.pipe_model.specs.Pipelines.WholePrograms.{program_trap}
 use Rattle.serial_elision.specs.declared.elision.SerialRun.{SerialRun}
 
 -- the program ran as its serial elision

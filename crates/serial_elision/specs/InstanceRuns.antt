@@ -47,9 +47,11 @@ IsEnd (Get c go) = ⊥
 IsEnd (Set c v d) = ⊥
 IsEnd (Stage k n d) = ⊥
 
--- an instance with this end leaves this of an interaction tree: the naming of a next instance, with whose tree the machine can go on, or an end
+-- an instance with this end leaves this of an interaction tree: the naming of a next instance, with whose tree the machine can go on, or an
+-- end
 abbrev pub EndsSoTree : FlatCode → ℕ → List ℤ → InstanceEnd → RunState → Interaction ColumnEnd → Type 0
-EndsSoTree code cells input (instance_ends.Next kind n) run d = (d' : Interaction ColumnEnd) × (d ≡ Stage kind n d') × StandsForTree code cells input run d'
+EndsSoTree code cells input (instance_ends.Next kind n) run d = (d' : Interaction ColumnEnd) × (d ≡ Stage kind n d')
+    × StandsForTree code cells input run d'
 EndsSoTree code cells input (instance_ends.Ended e) run d = IsEnd d
 
 -- an instance of the behaviour ran from one log to another, up to its end
@@ -61,7 +63,8 @@ pub record RanFrom (code : FlatCode) (cells : ℕ) (input : List ℤ) (t : Behav
   pub ends : EndsSo code cells input end run (behaviour_after_all t (map Accessed accesses))
 
 -- an instance of the tree ran with its whole budget of steps from one log to another, up to its end
-pub record RanTreeFrom (code : FlatCode) (cells : ℕ) (input : List ℤ) (d : Interaction ColumnEnd) (node : NodeId) (log now : Log) (run : RunState)
+pub record RanTreeFrom (code : FlatCode) (cells : ℕ) (input : List ℤ) (d : Interaction ColumnEnd) (node : NodeId) (log now : Log)
+    (run : RunState)
     (end : InstanceEnd) : Type 0 where
   pub accesses : List Access
   pub rest : Interaction ColumnEnd

@@ -36,7 +36,8 @@ abbrev pub column_closes : Column → Bool
 column_closes column = (length column.nodes == 1) && end_closes column.end
 
 -- a part with this trace ran as iteration i, from one log to another
-pub record PartRan (store : InitialStore) (before : List Access) (trace : List Action) (i : ℕ) (log : Log) (column : Column) (now : Log) : Type 0 where
+pub record PartRan (store : InitialStore) (before : List Access) (trace : List Action) (i : ℕ) (log : Log) (column : Column)
+    (now : Log) : Type 0 where
   pub column_is : column ≡ ended_column trace
   pub closes : column_closes column ≡ closes_loop trace
   pub accesses_are : now.accesses ≡ log.accesses ++ located i 0 trace

@@ -36,7 +36,8 @@ made_since log now = accesses_of (drop (length log.accesses) now.accesses)
 pub record Adds (node : NodeId) (log : Log) (accesses : List Access) (now : Log) : Type 0 where
   pub accesses_are : now.accesses ≡ log.accesses ++ placed node accesses
   pub events_are : now.events ≡ log.events ++ access_events node.iteration accesses
-  pub cells : (store : InitialStore) (before : List Access) → IsStateAfter store before log.cells → IsStateAfter store (before ++ accesses) now.cells
+  pub cells : (store : InitialStore) (before : List Access) → IsStateAfter store before log.cells
+      → IsStateAfter store (before ++ accesses) now.cells
   pub replies : (store : InitialStore) (before : List Access) → IsStateAfter store before log.cells → HaveReplies store before accesses
 
 -- what a recorder of an instance has, and whether memory ran out

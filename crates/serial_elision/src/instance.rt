@@ -57,7 +57,8 @@ fn run_from<B: Beginning>(
     requires whole { IsWhole log.cells }
     requires few { log.cells.shard.cells ≤ 4294967296 }
     requires before { (t : Behaviour) × StandsFor prepared.now.code.now log.cells.shard.cells prepared.now.input.now machine.old.run t }
-    ensures ran { IfOk result (λ r. (t : Behaviour) → StandsFor prepared.now.code.now log.cells.shard.cells prepared.now.input.now machine.old.run t
+    ensures ran { IfOk result (λ r. (t : Behaviour) → StandsFor prepared.now.code.now log.cells.shard.cells prepared.now.input.now
+        machine.old.run t
         → RanFrom prepared.now.code.now log.cells.shard.cells prepared.now.input.now t node log r.1 machine.new.run r.0) }
     ensures tree { IfOk result (λ r. (d : Interaction ColumnEnd)
         → StandsForTree prepared.now.code.now log.cells.shard.cells prepared.now.input.now machine.old.run d
@@ -91,7 +92,8 @@ pub fn run_instance(
     requires whole { IsWhole log.cells }
     requires few { log.cells.shard.cells ≤ 4294967296 }
     requires before { (t : Behaviour) × StandsFor prepared.now.code.now log.cells.shard.cells prepared.now.input.now machine.old.run t }
-    ensures ran { IfOk result (λ r. (t : Behaviour) → StandsFor prepared.now.code.now log.cells.shard.cells prepared.now.input.now machine.old.run t
+    ensures ran { IfOk result (λ r. (t : Behaviour) → StandsFor prepared.now.code.now log.cells.shard.cells prepared.now.input.now
+        machine.old.run t
         → RanFrom prepared.now.code.now log.cells.shard.cells prepared.now.input.now t node log r.1 machine.new.run r.0) }
     ensures tree { IfOk result (λ r. (d : Interaction ColumnEnd)
         → StandsForTree prepared.now.code.now log.cells.shard.cells prepared.now.input.now machine.old.run d

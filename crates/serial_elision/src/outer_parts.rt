@@ -74,13 +74,16 @@ pub fn run_alone(
     requires serves { Serves (tree_of prepared.now.checked.now) cells }
     ensures trap { IfOk result (λ r. (before : List Access) → IsStateAfter (store_of (tree_of prepared.now.checked.now)) before cells
         → r.trap ≡ whole_programs.part_trap place (trace_end
-        (serial_trace (store_of (tree_of prepared.now.checked.now)) (behaviour_in (tree_of prepared.now.checked.now) prepared.now.input.now part 0) before))) }
+        (serial_trace (store_of (tree_of prepared.now.checked.now))
+        (behaviour_in (tree_of prepared.now.checked.now) prepared.now.input.now part 0) before))) }
     ensures accesses { IfOk result (λ r. (before : List Access) → IsStateAfter (store_of (tree_of prepared.now.checked.now)) before cells
         → r.accesses ≡ accesses_in
-        (serial_trace (store_of (tree_of prepared.now.checked.now)) (behaviour_in (tree_of prepared.now.checked.now) prepared.now.input.now part 0) before)) }
+        (serial_trace (store_of (tree_of prepared.now.checked.now))
+        (behaviour_in (tree_of prepared.now.checked.now) prepared.now.input.now part 0) before)) }
     ensures state { IfOk result (λ r. (before : List Access) → IsStateAfter (store_of (tree_of prepared.now.checked.now)) before cells
         → IsStateAfter (store_of (tree_of prepared.now.checked.now)) (before ++ accesses_in
-        (serial_trace (store_of (tree_of prepared.now.checked.now)) (behaviour_in (tree_of prepared.now.checked.now) prepared.now.input.now part 0) before)) r.cells) }
+        (serial_trace (store_of (tree_of prepared.now.checked.now))
+        (behaviour_in (tree_of prepared.now.checked.now) prepared.now.input.now part 0) before)) r.cells) }
     ensures made { IfOk result (λ r. IsMadeFor prepared.now.code.now machine.new) }
     ensures serves { IfOk result (λ r. Serves (tree_of prepared.now.checked.now) r.cells) }
 {

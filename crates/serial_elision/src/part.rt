@@ -50,7 +50,10 @@ fn begin(log: Log, iteration: u32) -> Result<Log, NoMemory>
 
 // Records that an iteration names a next instance and enters it.
 fn enter(log: Log, iteration: u32, kind: Kind, number: i64) -> Result<Log, NoMemory>
-    ensures { IfOk result (λ now. now ≡ record log { events = log.events ++ events.Advance iteration kind number ∷ (events.Enter iteration ∷ []) }) }
+    ensures { IfOk result (λ now. now ≡ record log {
+      events = log.events ++ events.Advance iteration kind
+          number ∷ (events.Enter iteration ∷ []);
+    }) }
 {
     let mut now = log;
     now.record_event(Event::Advance(iteration, kind, number))?;
@@ -96,7 +99,8 @@ pub fn run_part(
     requires serves { Serves (tree_of prepared.now.checked.now) log.cells }
     ensures ran { IfOk result (λ r. (before : List Access) → IsStateAfter (store_of (tree_of prepared.now.checked.now)) before log.cells
         → PartRan (store_of (tree_of prepared.now.checked.now)) before
-        (serial_trace (store_of (tree_of prepared.now.checked.now)) (behaviour_in (tree_of prepared.now.checked.now) prepared.now.input.now part iteration) before)
+        (serial_trace (store_of (tree_of prepared.now.checked.now))
+        (behaviour_in (tree_of prepared.now.checked.now) prepared.now.input.now part iteration) before)
         iteration log r.0 r.1) }
     ensures steps { IfOk result (λ r. (before : List Access) → IsStateAfter (store_of (tree_of prepared.now.checked.now)) before log.cells
         → steps.new ≡ steps.old ++ map pos (step_counts (store_of (tree_of prepared.now.checked.now)) before

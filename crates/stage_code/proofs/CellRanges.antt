@@ -1,5 +1,6 @@
 -- The table of declared cells.
-use Rattle.std.proofs.Common.{◌≡◌, ◌∙◌, ℕ, zero, suc, ℤ, pos, negsuc, ◌+◌, ◌<◌, ◌≤◌, Bool, true, false, cond, if◌then◌else◌, List, [], ◌∷◌, ◌++◌, length, take, drop, get_or, refl, sym, ap, subst, arith, le→leb, All, Bor, Option, Some, None, is_some}
+use Rattle.std.proofs.Common.{◌≡◌, ◌∙◌, ℕ, zero, suc, ℤ, pos, negsuc, ◌+◌, ◌<◌, ◌≤◌, Bool, true, false, cond, if◌then◌else◌, List, [], ◌∷◌}
+use Rattle.std.proofs.Common.{◌++◌, length, take, drop, get_or, refl, sym, ap, subst, arith, le→leb, All, Bor, Option, Some, None, is_some}
 use Rattle.std.proofs.lemmas.List.{at_drop_more}
 use Rattle.std.proofs.lemmas.Map.Text.{is_eq-slice_cmp}
 use Rattle.std.proofs.lemmas.Slice.Eq.{bytes_eq-Decides}
@@ -18,10 +19,12 @@ use Rattle.stage_code.specs.declared.cell_ranges.DeclaredRange.{DeclaredRange}
 use Rattle.stage_code.specs.CellRanges.{range_in, HasRanges, AreNew, HasSize}
 
 -- another name is found as before
-found_before : (n : ℕ) (ds : List Declaration) (d : Declaration) (x : List ℕ) → bytes_eq d.name x ≡ false → range_of n (ds ++ d ∷ []) x ≡ range_of n ds x
+found_before : (n : ℕ) (ds : List Declaration) (d : Declaration) (x : List ℕ) → bytes_eq d.name x ≡ false
+    → range_of n (ds ++ d ∷ []) x ≡ range_of n ds x
 found_before n [] d x h = rw h refl
 found_before n (e ∷ ds) d x h =
-    ap (λ o. if bytes_eq e.name x then Some (record { first = n; size = declared_size e.size }) else o) (found_before (n + declared_size e.size) ds d x h)
+    ap (λ o. if bytes_eq e.name x then Some (record { first = n; size = declared_size e.size }) else o)
+    (found_before (n + declared_size e.size) ds d x h)
 
 -- if the first is passed over, the others decide
 passed_over : (b : Bool) (size : Option ℤ) (o : Option (Option ℤ)) (first : CellRange) (rest last : Option CellRange)
@@ -36,7 +39,8 @@ found_last : (n : ℕ) (ds : List Declaration) (d : Declaration) (x : List ℕ) 
 found_last n [] d x h new = rw h (ap (λ (k : ℕ). Some (record { first = k; size = declared_size d.size })) (omega arith))
 found_last n (e ∷ ds) d x h new =
     passed_over (bytes_eq e.name x) e.size (size_in ds x) _ (range_of (n + declared_size e.size) (ds ++ d ∷ []) x) _ new
-    (λ rest. found_last (n + declared_size e.size) ds d x h rest ∙ ap (λ (k : ℕ). Some (record { first = k; size = declared_size d.size })) (omega arith))
+    (λ rest. found_last (n + declared_size e.size) ds d x h rest ∙ ap (λ (k : ℕ). Some (record { first = k; size = declared_size d.size }))
+    (omega arith))
 
 -- a name is found in the table with the new one
 found_by : (ds : List Declaration) (d : Declaration) (x : List ℕ) (range : DeclaredRange) (o : Option DeclaredRange) (b : Bool)
@@ -47,7 +51,8 @@ found_by ds d x range o true h new is before =
     is ∙ sym (found_last 2 ds d x h (ap (λ y. is_some (size_in ds y)) (sym ((bytes_eq-Decides d.name x).0 h)) ∙ new))
 found_by ds d x range o false h new is before = before ∙ sym (found_before 2 ds d x h)
 
-placed_more : (ranges grown : BTreeMap (Bor (List ℕ)) DeclaredRange) (ds : List Declaration) (d : Declaration) (key : Bor (List ℕ)) (range : DeclaredRange)
+placed_more : (ranges grown : BTreeMap (Bor (List ℕ)) DeclaredRange) (ds : List Declaration) (d : Declaration) (key : Bor (List ℕ))
+    (range : DeclaredRange)
     → HasRanges ranges ds → key.now ≡ d.name → is_cell ds d.name ≡ false
     → range_in (Some range) ≡ Some (record { first = 2 + cell_total ds; size = declared_size d.size })
     → ((x : Bor (List ℕ)) → get (λ a b. slice_cmp nat_cmp a.now b.now) grown x
@@ -60,14 +65,16 @@ placed_more ranges grown ds d key range table named new is updates = λ x.
     ∙ found_by ds d x.now range (get (λ a b. slice_cmp nat_cmp a.now b.now) ranges x) (bytes_eq d.name x.now) refl new is (table x)
 
 -- what is left to declare
-left_from : (cells : List Declaration) (i : ℕ) (d : Declaration) → i < length cells → d ≡ get_or cells i d → drop i cells ≡ d ∷ drop (i + 1) cells
+left_from : (cells : List Declaration) (i : ℕ) (d : Declaration) → i < length cells → d ≡ get_or cells i d
+    → drop i cells ≡ d ∷ drop (i + 1) cells
 left_from cells i d h e = at_drop_more (λ ds. ds) cells i d h ∙ ap (λ x. x ∷ drop (i + 1) cells) (sym e)
 
 pub left_total : (cells : List Declaration) (i : ℕ) (d : Declaration) → i < length cells → d ≡ get_or cells i d
     → cell_total (drop i cells) ≡ declared_size d.size + cell_total (drop (i + 1) cells)
 left_total cells i d h e = ap cell_total (left_from cells i d h e)
 
-pub is_new : (cells : List Declaration) (i : ℕ) (d : Declaration) → i < length cells → d ≡ get_or cells i d → AreNew (take i cells) (drop i cells)
+pub is_new : (cells : List Declaration) (i : ℕ) (d : Declaration) → i < length cells → d ≡ get_or cells i d
+    → AreNew (take i cells) (drop i cells)
     → (is_cell (take i cells) d.name ≡ false) × AreNew (take (i + 1) cells) (drop (i + 1) cells)
 is_new cells i d h e new =
     let here : AreNew (take i cells) (d ∷ drop (i + 1) cells) = subst (λ ds. AreNew (take i cells) ds) (left_from cells i d h e) new in
@@ -90,7 +97,8 @@ pub half_more : (ranges grown : BTreeMap (Bor (List ℕ)) DeclaredRange) (next i
 half_more ranges grown next i size cells d key range half h e named sized is updates =
     let fresh = is_new cells i d h e half.new in
     let total = total_more (take i cells) d in
-    let grows : cell_total (take (i + 1) cells) ≡ cell_total (take i cells) + declared_size d.size = ap cell_total (take_next cells i d h e) ∙ total in
+    let grows : cell_total (take (i + 1) cells) ≡ cell_total (take i cells) + declared_size d.size =
+    ap cell_total (take_next cells i d h e) ∙ total in
     let rest = left_total cells i d h e in
     let shown : range_in (Some range) ≡ Some (record { first = 2 + cell_total (take i cells); size = declared_size d.size }) =
     ap (λ (r : DeclaredRange). Some (record { first = r.first.0; size = r.size })) is
@@ -110,7 +118,8 @@ has_size None h few = tt
 has_size (Some (pos n)) h few = (record { le = le→leb 0 n (omega arith) }, record { le = le→leb n MOST_CELLS few })
 has_size (Some (negsuc n)) h few = absurd (omega (arith, h))
 
-one_total : (cells : List Declaration) (i : ℕ) (d : Declaration) → i < length cells → d ≡ get_or cells i d → declared_size d.size ≤ cell_total cells
+one_total : (cells : List Declaration) (i : ℕ) (d : Declaration) → i < length cells → d ≡ get_or cells i d
+    → declared_size d.size ≤ cell_total cells
 one_total [] i d h e = absurd (omega (arith, h))
 one_total (x ∷ cells) zero d h e = let same = ap (λ (y : Declaration). declared_size y.size) e in omega (arith, same)
 one_total (x ∷ cells) (suc i) d h e = let others = one_total cells i d (omega (arith, h)) e in omega (arith, others)

@@ -20,7 +20,8 @@ rest_at code at (i ∷ a) b h =
 
 has_more : (code : List Instr) (x : Instr) (at : ℕ) (is : List Instr) → HasAt code at is → HasAt (x ∷ code) (at + 1) is
 has_more code x at [] h = tt
-has_more code x at (i ∷ is) h = let e : suc at ≡ at + 1 = omega arith in (subst (λ n. slice_get (x ∷ code) n ≡ Some i) e h.0, has_more code x (at + 1) is h.1)
+has_more code x at (i ∷ is) h = let e : suc at ≡ at + 1 = omega arith in
+    (subst (λ n. slice_get (x ∷ code) n ≡ Some i) e h.0, has_more code x (at + 1) is h.1)
 
 pub has_all : (code : List Instr) → HasAt code 0 code
 has_all [] = tt
@@ -41,7 +42,8 @@ parts_are_in tree =
     let last = part_code cells (length init + length pipe) tree.last in
     let all : HasAt code 0 (init ++ (pipe ++ last)) = has_all code in
     let from : 0 + length init ≡ length init = omega arith in
-    let after_it : HasAt code (length init) (pipe ++ last) = subst (λ n. HasAt code n (pipe ++ last)) from (rest_at code 0 init (pipe ++ last) all) in
+    let after_it : HasAt code (length init) (pipe ++ last) = subst (λ n. HasAt code n (pipe ++ last)) from
+    (rest_at code 0 init (pipe ++ last) all) in
     record {
       init = first_at code 0 init (pipe ++ last) all;
       pipe = first_at code (length init) pipe last after_it;

@@ -1,11 +1,13 @@
 -- The code of an expression follows it.
-use Rattle.std.proofs.Common.{◌≡◌, ℕ, ℤ, pos, negsuc, zero, suc, ◌+◌, ◌<◌, ◌≤◌, List, [], ◌∷◌, ◌++◌, length, Option, Some, None, sym, ap, subst, arith, length-append, Bool, true, false}
+use Rattle.std.proofs.Common.{◌≡◌, ℕ, ℤ, pos, negsuc, zero, suc, ◌+◌, ◌<◌, ◌≤◌, List, [], ◌∷◌, ◌++◌, length, Option, Some, None, sym, ap}
+use Rattle.std.proofs.Common.{subst, arith, length-append, Bool, true, false}
 use Rattle.std.specs.Prelude.{slice_get, if◌then◌else◌}
 use Rattle.std.specs.Str.{bytes_eq}
 use Rattle.pipe_model.specs.declared.column.ColumnEnd.{ColumnEnd}
 use Rattle.stage_code.specs.declared.instr.Instr.TheVariants as instrs
 use Rattle.pipe_model.specs.Language.Interaction.{Interaction, Return, Step, Get, bind}
-use Rattle.pipe_model.specs.Language.Evaluation.{CellRange, Local, evaluate, local_value, named_value, element_of, element_in, operate, operate_one, take_at, if_zero, truth_of}
+use Rattle.pipe_model.specs.Language.Evaluation.{CellRange, Local, evaluate, local_value, named_value, element_of, element_in, operate}
+use Rattle.pipe_model.specs.Language.Evaluation.{operate_one, take_at, if_zero, truth_of}
 use Rattle.pipe_model.specs.Language.SyntaxTree.{Expression, Number, Name, Element, And, Or, Binary, Unary, More, Take, Iter}
 use Rattle.stage_code.specs.CodeOfTrees.{expression_code, name_code, element_code}
 use Rattle.stage_code.specs.Slots.{slot_of, one_later}
@@ -14,7 +16,8 @@ use Rattle.stage_code.proofs.TreesInBounds.{IsKnown, HasCells, StaysInBounds}
 use Rattle.stage_code.specs.Instructions.{CodeState, CodeSetting, goes_to, read_effect, from_slot, act}
 use Rattle.stage_code.specs.Following.{Follows, Gets, GoesOn}
 use Rattle.stage_code.proofs.CodeParts.{first_at, rest_at}
-use Rattle.stage_code.proofs.Follow.{bind-assoc, FollowsAt, step_over, follow_then, element_follows, at_instr, pushes, moved, setting_with, cells_run}
+use Rattle.stage_code.proofs.Follow.{bind-assoc, FollowsAt, step_over, follow_then, element_follows, at_instr, pushes, moved, setting_with}
+use Rattle.stage_code.proofs.Follow.{cells_run}
 
 abbrev pub names_of : List Local → List (List ℕ)
 names_of [] = []
@@ -55,10 +58,12 @@ name_run : (p : CodeSetting) (n : ℕ) (c : CodeState) (o : Option ℕ) (u : Opt
     → Follows p n (act p c (name_code o cell)) (Step (bind (named_value u cell) k))
 name_run p n c (Some j) None cell k f known room h = elim f [ ]
 name_run p n c (Some j) (Some v) cell k f known room h =
-    step_over p n _ _ (λ l lt. subst (λ o. Follows p l (from_slot p c o) (k v)) (sym f) (pushes p l c c.stack v (k v) room (h l (omega arith) v)))
+    step_over p n _ _ (λ l lt. subst (λ o. Follows p l (from_slot p c o) (k v)) (sym f)
+    (pushes p l c c.stack v (k v) room (h l (omega arith) v)))
 name_run p n c None (Some v) cell k f known room h = elim f [ ]
 name_run p n c None None (Some a) k f known room h =
-    step_over p n _ _ (λ l lt. cells_run p l (a.first + 1) _ _ known (Gets a.first (λ v. pushes p l c c.stack v (k v) room (h l (omega arith) v))))
+    step_over p n _ _ (λ l lt. cells_run p l (a.first + 1) _ _ known
+    (Gets a.first (λ v. pushes p l c c.stack v (k v) room (h l (omega arith) v))))
 name_run p n c None None None k f known room h = elim known [ ]
 
 -- what follows code that leaves a value on the stack
@@ -67,7 +72,8 @@ FollowsWithValue p n c q k = (m : ℕ) → m ≤ n → (x : ℤ) → FollowsAt p
 
 element_run : (p : CodeSetting) (n : ℕ) (c : CodeState) (v : ℤ) (cell : Option CellRange) (k : ℤ → Interaction ColumnEnd)
     → HasCells p.bounds cell → length c.stack < p.bounds.depth → FollowsWithValue p n c (c.place + 1) k
-    → Follows p n (act p (record c { stack = v ∷ c.stack }) (element_code cell)) (Step (bind (bind (element_of cell v) (λ a. Get a Return)) k))
+    → Follows p n (act p (record c { stack = v ∷ c.stack }) (element_code cell))
+    (Step (bind (bind (element_of cell v) (λ a. Get a Return)) k))
 element_run p n c v None k is room h = elim is [ ]
 element_run p n c v (Some a) k is room h =
     step_over p n _ _ (λ l lt. subst (λ d. Follows p l (bind (element_in a.first a.size v) (read_effect p c)) d)
@@ -75,9 +81,11 @@ element_run p n c v (Some a) k is room h =
     (element_follows p l a.first a.size v _ _ (λ b within. cells_run p l (b + 1) _ _ (omega (arith, within, is))
     (Gets b (λ w. pushes p l c c.stack w (k w) room (h l (omega arith) w))))))
 
-truth_run : (p : CodeSetting) (n : ℕ) (c : CodeState) (q : ℕ) (y : ℤ) (k : ℤ → Interaction ColumnEnd) → slice_get p.code q ≡ Some instrs.Truth
+truth_run : (p : CodeSetting) (n : ℕ) (c : CodeState) (q : ℕ) (y : ℤ) (k : ℤ → Interaction ColumnEnd)
+    → slice_get p.code q ≡ Some instrs.Truth
     → FollowsWithValue p n c (q + 1) k → FollowsAt p n (record c { place = q; stack = y ∷ c.stack }) (k (truth_of y))
-truth_run p n c q y k at h = at_instr p n (record c { place = q; stack = y ∷ c.stack }) instrs.Truth _ at (GoesOn _ (h n (omega arith) (truth_of y)))
+truth_run p n c q y k at h = at_instr p n (record c { place = q; stack = y ∷ c.stack }) instrs.Truth _ at
+    (GoesOn _ (h n (omega arith) (truth_of y)))
 
 and_run : (p : CodeSetting) (cells : List ℕ → Option CellRange) (turns : ℕ) (ls : List Local) (b : Expression) (c : CodeState) (q end : ℕ)
     (x : ℤ) (l : ℕ) (k : ℤ → Interaction ColumnEnd) → FollowsAt p l (record c { place = end; stack = pos 0 ∷ c.stack }) (k (pos 0))
@@ -90,7 +98,8 @@ and_run p cells turns ls b c q end (pos zero) l k zero_on else_on = GoesOn _ zer
 and_run p cells turns ls b c q end (pos (suc v)) l k zero_on else_on = GoesOn _ else_on
 and_run p cells turns ls b c q end (negsuc v) l k zero_on else_on = GoesOn _ else_on
 
-or_run : (p : CodeSetting) (cells : List ℕ → Option CellRange) (turns : ℕ) (ls : List Local) (b : Expression) (c : CodeState) (q end : ℕ) (x : ℤ)
+or_run : (p : CodeSetting) (cells : List ℕ → Option CellRange) (turns : ℕ) (ls : List Local) (b : Expression) (c : CodeState) (q end : ℕ)
+    (x : ℤ)
     (l : ℕ) (k : ℤ → Interaction ColumnEnd) → FollowsAt p l (record c { place = end; stack = pos 1 ∷ c.stack }) (k (pos 1))
     → FollowsAt p l (record c { place = q + 1; stack = c.stack }) (bind
     (bind (evaluate (setting_with p cells turns) ls b) (λ y. Return (truth_of y))) k)
@@ -113,11 +122,14 @@ expression_runs p cells turns ls (Name x) n c k holds good has h =
     (name_run p n c (slot_of (names_of ls) x) (local_value ls x) (cells x) k (finds ls c.slots x holds) good.1 good.0 h)
 expression_runs p cells turns ls (Element x i) n c k holds good has h =
     let ci = expression_code cells (names_of ls) c.place i in
-    let len : c.place + length (ci ++ element_code (cells x) ∷ []) ≡ c.place + length ci + 1 = omega (arith, length-append ci (element_code (cells x) ∷ [])) in
-    subst (FollowsAt p n c) (sym (bind-assoc (evaluate (setting_with p cells turns) ls i) (λ v. Step (bind (element_of (cells x) v) (λ a. Get a Return))) k))
+    let len : c.place + length (ci ++ element_code (cells x) ∷ []) ≡ c.place + length ci + 1 =
+    omega (arith, length-append ci (element_code (cells x) ∷ [])) in
+    subst (FollowsAt p n c) (sym (bind-assoc (evaluate (setting_with p cells turns) ls i)
+    (λ v. Step (bind (element_of (cells x) v) (λ a. Get a Return))) k))
     (expression_runs p cells turns ls i n c (λ v. bind (Step (bind (element_of (cells x) v) (λ a. Get a Return))) k) holds good.2
     (first_at p.code c.place ci _ has) (λ m le v.
-    at_instr p m (record c { place = c.place + length ci; stack = v ∷ c.stack }) (element_code (cells x)) _ (rest_at p.code c.place ci _ has).0
+    at_instr p m (record c { place = c.place + length ci; stack = v ∷ c.stack }) (element_code (cells x)) _
+    (rest_at p.code c.place ci _ has).0
     (element_run p m (record c { place = c.place + length ci }) v (cells x) k good.1 good.0
     (λ j le' w. moved p j c _ _ (w ∷ c.stack) (k w) len (h j (omega arith) w)))))
 expression_runs p cells turns ls (And a b) n c k holds good has h =
@@ -177,9 +189,11 @@ expression_runs p cells turns ls (Binary code a b) n c k holds good has h =
     (moved p i c _ _ (w ∷ c.stack) (k w) len (h i (omega arith) w)))))))))
 expression_runs p cells turns ls (Unary code a) n c k holds good has h =
     let ca = expression_code cells (names_of ls) c.place a in
-    let len : c.place + length (ca ++ instrs.Unary code ∷ []) ≡ c.place + length ca + 1 = omega (arith, length-append ca (instrs.Unary code ∷ [])) in
+    let len : c.place + length (ca ++ instrs.Unary code ∷ []) ≡ c.place + length ca + 1 =
+    omega (arith, length-append ca (instrs.Unary code ∷ [])) in
     subst (FollowsAt p n c) (sym (bind-assoc (evaluate (setting_with p cells turns) ls a) (λ x. Step (operate_one code x)) k))
-    (expression_runs p cells turns ls a n c (λ x. bind (Step (operate_one code x)) k) holds good.1 (first_at p.code c.place ca _ has) (λ m le x.
+    (expression_runs p cells turns ls a n c (λ x. bind (Step (operate_one code x)) k) holds good.1 (first_at p.code c.place ca _ has)
+    (λ m le x.
     let c1 = record c { place = c.place + length ca; stack = x ∷ c.stack } in
     at_instr p m c1 (instrs.Unary code) _ (rest_at p.code c.place ca _ has).0
     (step_over p m _ _ (λ l lt. follow_then p l (operate_one code x) _ _ (λ i le'' w. pushes p i c1 c.stack w (k w) good.0

@@ -11,7 +11,8 @@ use Rattle.pipe_model.specs.Language.Evaluation.{element_in, Setting, CellRange}
 use Rattle.stage_code.specs.Instructions.{with_cells, CodeState, Transition, Stuck, CodeSetting, pushed, goes_to, act, act_at, run_next}
 use Rattle.stage_code.specs.Following.{Follows, Spends, Steps, Gets, Sets, Stages, Raises, GoesOn}
 
-pub bind-assoc : {A B C : Type 0} (d : Interaction A) (f : A → Interaction B) (g : B → Interaction C) → bind (bind d f) g ≡ bind d (λ x. bind (f x) g)
+pub bind-assoc : {A B C : Type 0} (d : Interaction A) (f : A → Interaction B) (g : B → Interaction C)
+    → bind (bind d f) g ≡ bind d (λ x. bind (f x) g)
 bind-assoc (Return a) f g = refl
 bind-assoc (Raise t) f g = refl
 bind-assoc (Step d) f g = λ i. Step (bind-assoc d f g i)
@@ -33,7 +34,8 @@ step_over p zero m d h = Spends m d
 step_over p (suc n) m d h = Steps (h n (omega arith))
 
 -- the same effect, and then each on its own
-pub follow_then : {A : Type 0} (p : CodeSetting) (n : ℕ) (e : Interaction A) (g : A → Interaction Transition) (k : A → Interaction ColumnEnd)
+pub follow_then : {A : Type 0} (p : CodeSetting) (n : ℕ) (e : Interaction A) (g : A → Interaction Transition)
+    (k : A → Interaction ColumnEnd)
     → ((m : ℕ) → m ≤ n → (x : A) → Follows p m (g x) (k x)) → Follows p n (bind e g) (bind e k)
 follow_then p n (Return a) g k h = h n (omega arith) a
 follow_then p n (Raise t) g k h = Raises t
@@ -62,12 +64,15 @@ cells_run p l n m d le f =
 
 -- an element's cell, if it is one of these
 pub element_follows : (p : CodeSetting) (n first size : ℕ) (v : ℤ) (g : ℕ → Interaction Transition) (k : ℕ → Interaction ColumnEnd)
-    → ((a : ℕ) → a < first + size → Follows p n (g a) (k a)) → Follows p n (bind (element_in first size v) g) (bind (element_in first size v) k)
+    → ((a : ℕ) → a < first + size → Follows p n (g a) (k a)) → Follows p n (bind (element_in first size v) g)
+    (bind (element_in first size v) k)
 element_follows p n first size (negsuc i) g k h = Raises _
-element_follows p n first size (pos i) g k h = by (nat_lt i size) (λ e. let t : i < size = grind (arith, e) in h (first + i) (omega (arith, t)))
+element_follows p n first size (pos i) g k h = by (nat_lt i size)
+    (λ e. let t : i < size = grind (arith, e) in h (first + i) (omega (arith, t)))
   where
     by : (b : Bool) → (b ≡ true → Follows p n (g (first + i)) (k (first + i)))
-        → Follows p n (bind (if b then Return (first + i) else Raise traps.Index) g) (bind (if b then Return (first + i) else Raise traps.Index) k)
+        → Follows p n (bind (if b then Return (first + i) else Raise traps.Index) g)
+        (bind (if b then Return (first + i) else Raise traps.Index) k)
     by true f = f refl
     by false f = Raises _
 

@@ -20,18 +20,21 @@ greater-zero a = grind arith
 
 -- the statement at an index of a list, and those after it
 pub height_from : (ss : List Stmt) (i : ℕ) (s : Stmt) → i < length ss → s ≡ get_or ss i s
-    → height_of_statements (statements_of (drop i ss)) ≡ greater (height_of_statement (statement_of s)) (height_of_statements (statements_of (drop (i + 1) ss)))
+    → height_of_statements (statements_of (drop i ss)) ≡ greater (height_of_statement (statement_of s))
+    (height_of_statements (statements_of (drop (i + 1) ss)))
 height_from ss i s h e =
     at_drop_more (λ l. height_of_statements (statements_of l)) ss i s h
     ∙ ap (λ x. greater (height_of_statement (statement_of x)) (height_of_statements (statements_of (drop (i + 1) ss)))) (sym e)
 
 pub statement_low : (ss : List Stmt) (i most all : ℕ) (s : Stmt) → i < length ss → s ≡ get_or ss i s
-    → greater most (height_of_statements (statements_of (drop i ss))) ≡ all → all ≤ HIGHEST_STACK → height_of_statement (statement_of s) ≤ HIGHEST_STACK
+    → greater most (height_of_statements (statements_of (drop i ss))) ≡ all → all ≤ HIGHEST_STACK
+    → height_of_statement (statement_of s) ≤ HIGHEST_STACK
 statement_low ss i most all s h e is few =
     let rest = height_of_statements (statements_of (drop (i + 1) ss)) in
     let one = greater_first (height_of_statement (statement_of s)) rest in
     let two = greater_second most (greater (height_of_statement (statement_of s)) rest) in
-    let from : greater most (greater (height_of_statement (statement_of s)) rest) ≡ all = ap (greater most) (sym (height_from ss i s h e)) ∙ is in
+    let from : greater most (greater (height_of_statement (statement_of s)) rest) ≡ all = ap (greater most) (sym (height_from ss i s h e))
+    ∙ is in
     omega (arith, one, two, from, few)
 
 pub statement_passed : (ss : List Stmt) (i most : ℕ) (s : Stmt) → i < length ss → s ≡ get_or ss i s
@@ -47,7 +50,8 @@ none_higher ss i most h = ap (λ l. greater most (height_of_statements (statemen
 pub if_low : (e : Expression) (a b : Statements) (whole : Statement) → whole ≡ If e a b → height_of_statement whole ≤ HIGHEST_STACK
     → (height_of_statements a ≤ HIGHEST_STACK) × (height_of_statements b ≤ HIGHEST_STACK)
 if_low e a b whole is few =
-    let all : height_of_statement whole ≡ greater (height_of e) (greater (height_of_statements a) (height_of_statements b)) = ap height_of_statement is in
+    let all : height_of_statement whole ≡ greater (height_of e) (greater (height_of_statements a) (height_of_statements b)) =
+    ap height_of_statement is in
     let one = greater_first (height_of_statements a) (height_of_statements b) in
     let two = greater_second (height_of_statements a) (height_of_statements b) in
     let three = greater_second (height_of e) (greater (height_of_statements a) (height_of_statements b)) in

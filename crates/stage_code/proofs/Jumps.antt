@@ -1,12 +1,16 @@
 -- In a program's code a jump backward leads to the test of a loop, which takes steps.
-use Rattle.std.proofs.Common.{◌≡◌, ◌∙◌, ℕ, zero, suc, ◌+◌, ◌≤◌, true, List, [], ◌∷◌, ◌++◌, length, Option, Some, None, refl, sym, ap, subst, arith}
+use Rattle.std.proofs.Common.{◌≡◌, ◌∙◌, ℕ, zero, suc, ◌+◌, ◌≤◌, true, List, [], ◌∷◌, ◌++◌, length, Option, Some, None, refl, sym, ap, subst}
+use Rattle.std.proofs.Common.{arith}
 use Rattle.std.specs.Prelude.{slice_get}
 use Rattle.pipe_model.specs.declared.tree.StageKind.{StageKind}
 use Rattle.pipe_model.specs.declared.tree.StageKind.TheVariants as stage_kinds
 use Rattle.pipe_model.specs.Language.Evaluation.{CellRange}
 use Rattle.pipe_model.specs.Language.Programs.{range_of}
-use Rattle.pipe_model.specs.Language.SyntaxTree.{Expression, Number, Name, Element, And, Or, Binary, Unary, More, Take, Iter, Statement, Let, Assign, AssignElement, Emit, If, While, Stage, NextStage, Statements, Empty, Then, SyntaxTree}
-use Rattle.stage_code.specs.CodeOfTrees.{name_code, element_code, expression_code, assign_code, assign_element_code, stage_code, next_stage_code, statement_code, statements_code, part_code, iteration_code, flat_code}
+use Rattle.pipe_model.specs.Language.SyntaxTree.{Expression, Number, Name, Element, And, Or, Binary, Unary, More, Take, Iter, Statement}
+use Rattle.pipe_model.specs.Language.SyntaxTree.{Let, Assign, AssignElement, Emit, If, While, Stage, NextStage, Statements, Empty, Then}
+use Rattle.pipe_model.specs.Language.SyntaxTree.{SyntaxTree}
+use Rattle.stage_code.specs.CodeOfTrees.{name_code, element_code, expression_code, assign_code, assign_element_code, stage_code}
+use Rattle.stage_code.specs.CodeOfTrees.{next_stage_code, statement_code, statements_code, part_code, iteration_code, flat_code}
 use Rattle.stage_code.specs.Instructions.{takes_step}
 use Rattle.stage_code.specs.Jumps.{steps_at, JumpsBackToSteps}
 use Rattle.stage_code.specs.Slots.{slot_of, locals_after}
@@ -61,13 +65,15 @@ expression_leads : (code : List Instr) (cells : List ℕ → Option CellRange) (
     → LeadOn code at (expression_code cells scope n e)
 expression_leads code cells scope (Number v) at n = (tt, tt)
 expression_leads code cells scope (Name x) at n = (name_leads code at (slot_of scope x) (cells x), tt)
-expression_leads code cells scope (Element x i) at n = lead_then code at _ _ (expression_leads code cells scope i at n) (element_leads code _ (cells x), tt)
+expression_leads code cells scope (Element x i) at n = lead_then code at _ _ (expression_leads code cells scope i at n)
+    (element_leads code _ (cells x), tt)
 expression_leads code cells scope (And a b) at n = lead_then code at _ _ (expression_leads code cells scope a at n)
     (tt, lead_then code _ _ _ (expression_leads code cells scope b _ _) (tt, tt))
 expression_leads code cells scope (Or a b) at n = lead_then code at _ _ (expression_leads code cells scope a at n)
     (tt, lead_then code _ _ _ (expression_leads code cells scope b _ _) (tt, tt))
 expression_leads code cells scope (Binary op a b) at n =
-    lead_then code at _ _ (expression_leads code cells scope a at n) (lead_then code _ _ _ (expression_leads code cells scope b _ _) (tt, tt))
+    lead_then code at _ _ (expression_leads code cells scope a at n)
+    (lead_then code _ _ _ (expression_leads code cells scope b _ _) (tt, tt))
 expression_leads code cells scope (Unary op a) at n = lead_then code at _ _ (expression_leads code cells scope a at n) (tt, tt)
 expression_leads code cells scope More at n = (tt, tt)
 expression_leads code cells scope Take at n = (tt, tt)
@@ -112,7 +118,8 @@ mutual
       let other = rest_at code (at + length test + 1) body _ after_it.1 in
       lead_then code at _ _ (expression_leads code cells scope e at at) (
         tt,
-        lead_then code (at + length test + 1) _ _ (statements_leads code cells scope (at + length test + 1) a (first_at code _ body _ after_it.1))
+        lead_then code (at + length test + 1) _ _ (statements_leads code cells scope (at + length test + 1) a
+            (first_at code _ body _ after_it.1))
             ((λ back. absurd (omega (arith, back))), statements_leads code cells scope other_at b other.1),
       )
   statement_leads code cells scope at (While e a) h =
@@ -121,10 +128,12 @@ mutual
       let after_it = rest_at code at test _ h in
       lead_then code at _ _ (expression_leads code cells scope e at at) (
         tt,
-        lead_then code (at + length test + 1) _ _ (statements_leads code cells scope (at + length test + 1) a (first_at code _ body _ after_it.1))
+        lead_then code (at + length test + 1) _ _ (statements_leads code cells scope (at + length test + 1) a
+            (first_at code _ body _ after_it.1))
             ((λ back. expression_begins code at cells scope at e (first_at code at test _ h)), tt),
       )
-  statement_leads code cells scope at (Stage kind e) h = lead_then code at _ _ (expression_leads code cells scope e at at) (stage_leads code _ kind, tt)
+  statement_leads code cells scope at (Stage kind e) h = lead_then code at _ _ (expression_leads code cells scope e at at)
+      (stage_leads code _ kind, tt)
   statement_leads code cells scope at (NextStage kind) h = (next_stage_leads code at kind, tt)
 
   statements_leads : (code : List Instr) (cells : List ℕ → Option CellRange) (scope : List (List ℕ)) (at : ℕ) (ss : Statements)
@@ -152,7 +161,8 @@ iteration_leads code cells at test body h =
     (tt, lead_then code _ _ _ (statements_leads code cells [] (at + length first + 1) body (first_at code _ rest _ after_it.1)) (tt, tt))
 
 -- if the instructions at an index and after it lead on, so does each of them
-lead_at : (code : List Instr) (at : ℕ) (is : List Instr) → LeadOn code at is → (k to : ℕ) → slice_get is k ≡ Some (instrs.Jump to) → to ≤ at + k
+lead_at : (code : List Instr) (at : ℕ) (is : List Instr) → LeadOn code at is → (k to : ℕ) → slice_get is k ≡ Some (instrs.Jump to)
+    → to ≤ at + k
     → steps_at (slice_get code to) ≡ true
 lead_at code at [] h k to e back = absurd (let d : None ≡ Some (instrs.Jump to) = e in cc (d))
 lead_at code at (i ∷ is) h zero to e back =
@@ -169,10 +179,12 @@ program_leads tree place to e back =
     let last = part_code cells (length init + length pipe) tree.last in
     let all : HasAt code 0 (init ++ (pipe ++ last)) = has_all code in
     let from : 0 + length init ≡ length init = omega arith in
-    let after_it : HasAt code (length init) (pipe ++ last) = subst (λ n. HasAt code n (pipe ++ last)) from (rest_at code 0 init (pipe ++ last) all) in
+    let after_it : HasAt code (length init) (pipe ++ last) = subst (λ n. HasAt code n (pipe ++ last)) from
+    (rest_at code 0 init (pipe ++ last) all) in
     lead_at code 0 (init ++ (pipe ++ last))
     (lead_then code 0 init (pipe ++ last) (part_leads code cells 0 tree.init (first_at code 0 init _ all))
     (subst (λ n. LeadOn code n (pipe ++ last)) (sym from)
-    (lead_then code (length init) pipe last (iteration_leads code cells (length init) tree.test tree.body (first_at code (length init) pipe _ after_it))
+    (lead_then code (length init) pipe last (iteration_leads code cells (length init) tree.test tree.body
+    (first_at code (length init) pipe _ after_it))
     (part_leads code cells (length init + length pipe) tree.last (rest_at code (length init) pipe last after_it)))))
     place to e (omega (arith, back))

@@ -1,5 +1,6 @@
 -- Locals by name and by slot.
-use Rattle.std.proofs.Common.{◌≡◌, ℕ, ℤ, zero, suc, ◌<◌, List, [], ◌∷◌, ◌++◌, length, Option, Some, None, refl, sym, ap, subst, arith, Bool, true, false}
+use Rattle.std.proofs.Common.{◌≡◌, ℕ, ℤ, zero, suc, ◌<◌, List, [], ◌∷◌, ◌++◌, length, Option, Some, None, refl, sym, ap, subst, arith, Bool}
+use Rattle.std.proofs.Common.{true, false}
 use Rattle.std.specs.Prelude.{slice_set, if◌then◌else◌, take}
 use Rattle.std.specs.Str.{bytes_eq}
 use Rattle.pipe_model.specs.Language.Evaluation.{Local, updated_locals}
@@ -36,7 +37,8 @@ holds_take (suc n) [] vs h = tt
 holds_take (suc n) (l ∷ ls) [] h = elim h [ ]
 holds_take (suc n) (l ∷ ls) (v ∷ vs) h = (h.0, holds_take n ls vs h.1)
 
-pub holds_append : (ls : List Local) (vs : List ℤ) (l : Local) → Holds ls vs → length ls < length vs → Holds (ls ++ l ∷ []) (slice_set vs (length ls) l.value)
+pub holds_append : (ls : List Local) (vs : List ℤ) (l : Local) → Holds ls vs → length ls < length vs
+    → Holds (ls ++ l ∷ []) (slice_set vs (length ls) l.value)
 holds_append [] [] l h lt = absurd (omega (arith, lt))
 holds_append [] (v ∷ vs) l h lt = (refl, tt)
 holds_append (k ∷ ls) [] l h lt = elim h [ ]
@@ -51,7 +53,8 @@ holds_with (l ∷ ls) (w ∷ vs) x v j h s = by (λ i e. holds_with ls vs x v i 
     past : ((i : ℕ) → slot_of (names_of ls) x ≡ Some i → Holds (updated_locals ls x v) (slice_set vs i v)) → (o : Option ℕ)
         → slot_of (names_of ls) x ≡ o → one_later o ≡ Some j → Holds (l ∷ updated_locals ls x v) (slice_set (w ∷ vs) j v)
     past next None e f = absurd (let d : None ≡ Some j = f in cc (d))
-    past next (Some i) e f = let d : j ≡ suc i = cc (f) in subst (λ n. Holds (l ∷ updated_locals ls x v) (slice_set (w ∷ vs) n v)) (sym d) (h.0, next i e)
+    past next (Some i) e f = let d : j ≡ suc i = cc (f) in subst (λ n. Holds (l ∷ updated_locals ls x v) (slice_set (w ∷ vs) n v)) (sym d)
+        (h.0, next i e)
 
     by : ((i : ℕ) → slot_of (names_of ls) x ≡ Some i → Holds (updated_locals ls x v) (slice_set vs i v)) → (b : Bool)
         → (if b then Some 0 else one_later (slot_of (names_of ls) x)) ≡ Some j

@@ -1,5 +1,6 @@
 -- The code of a whole program, part by part.
-use Rattle.std.proofs.Common.{◌≡◌, ◌∙◌, ℕ, ◌+◌, ◌≤◌, List, [], ◌++◌, length, All, Option, None, sym, ap, subst, arith, length-append, append_assoc}
+use Rattle.std.proofs.Common.{◌≡◌, ◌∙◌, ℕ, ◌+◌, ◌≤◌, List, [], ◌++◌, length, All, Option, None, sym, ap, subst, arith, length-append}
+use Rattle.std.proofs.Common.{append_assoc}
 use Rattle.pipe_check.proofs.FirstFaults.{breaks_none}
 use Rattle.pipe_model.specs.declared.bounds.TheConstants.{MOST_CELLS, LARGEST_PROGRAM}
 use Rattle.pipe_model.specs.declared.region.Region.TheVariants as regions
@@ -107,8 +108,10 @@ flat_is tree table c0 c1 c2 c3 pipe last depth t e0 e1 p e2 l e3 d =
     let init = part_code cells 0 tree.init in
     let run = iteration_code cells (length init) tree.test tree.body in
     let end = part_code cells (length init + length run) tree.last in
-    let f1 : c1 ≡ init = init_is tree cells c0 c1 e0 (subst (λ (ds : List Declaration). c1 ≡ c0 ++ part_code (range_of 2 ds) (length c0) tree.init) t e1) in
-    let f2 : c2 ≡ init ++ run = subst (λ (ds : List Declaration). c2 ≡ c1 ++ iteration_code (range_of 2 ds) (length c1) tree.test tree.body) t e2
+    let f1 : c1 ≡ init = init_is tree cells c0 c1 e0 (subst (λ (ds : List Declaration). c1 ≡ c0 ++ part_code (range_of 2 ds)
+    (length c0) tree.init) t e1) in
+    let f2 : c2 ≡ init ++ run = subst (λ (ds : List Declaration). c2 ≡ c1 ++ iteration_code (range_of 2 ds)
+    (length c1) tree.test tree.body) t e2
     ∙ ap (λ c. c ++ iteration_code cells (length c) tree.test tree.body) f1 in
     let l2 : length c2 ≡ length init + length run = ap length f2 ∙ length-append init run in
     let f3 : c3 ≡ init ++ (run ++ end) = subst (λ (ds : List Declaration). c3 ≡ c2 ++ part_code (range_of 2 ds) (length c2) tree.last) t e3

@@ -1,5 +1,6 @@
 -- A jump gets its target once the code that it skips is emitted.
-use Rattle.std.proofs.Common.{◌≡◌, ℕ, ◌+◌, ◌==◌, ◌||◌, Bool, true, false, if◌then◌else◌, List, [], ◌∷◌, ◌++◌, Option, length, refl, ap, ◌∙◌, subst, arith, append_assoc, length-append}
+use Rattle.std.proofs.Common.{◌≡◌, ℕ, ◌+◌, ◌==◌, ◌||◌, Bool, true, false, if◌then◌else◌, List, [], ◌∷◌, ◌++◌, Option, length, refl, ap, ◌∙◌}
+use Rattle.std.proofs.Common.{subst, arith, append_assoc, length-append}
 use Rattle.std.specs.Prelude.{slice_set}
 use Rattle.std.proofs.Math.Seq.{set-append_seam}
 use Rattle.pipe_model.specs.Language.Evaluation.{CellRange}
@@ -33,7 +34,8 @@ passing_patched jump base first c1 c2 c3 c4 second x end hole to e1 m e2 e3 e4 e
     ∙ append_assoc base first (jump to ∷ (b ++ end ∷ []))
     ∙ ap (λ n. base ++ (first ++ jump n ∷ (b ++ end ∷ []))) l4
 
-short_either : (cells : List ℕ → Option CellRange) (scope : List (List ℕ)) (at code : ℕ) (a b : Expression) (first second : Bool) → (first || second) ≡ true
+short_either : (cells : List ℕ → Option CellRange) (scope : List (List ℕ)) (at code : ℕ) (a b : Expression) (first second : Bool)
+    → (first || second) ≡ true
     → expression_code cells scope at (if first then Or a b else (if second then And a b else Binary code a b))
     ≡ passing_code (λ to. if first then instrs.OrTest to else instrs.AndTest to) at (expression_code cells scope at a)
     (λ n. expression_code cells scope n b) instrs.Truth
@@ -55,7 +57,8 @@ choosing_code at test first second =
     test ++ instrs.Branch (at + length test + 1 + length a + 1) ∷ (a ++ instrs.Jump (at + length test + 1 + length a + 1 + length b) ∷ b)
 
 pub choosing_patched : (base test c1 c2 c3 c4 c5 c6 : List Instr) (first second : ℕ → List Instr) (x y : Instr) (hole hole2 to to2 : ℕ)
-    → c1 ≡ base ++ test → hole ≡ length c1 → c2 ≡ c1 ++ x ∷ [] → c3 ≡ c2 ++ first (length c2) → hole2 ≡ length c3 → c4 ≡ c3 ++ y ∷ [] → to ≡ length c4
+    → c1 ≡ base ++ test → hole ≡ length c1 → c2 ≡ c1 ++ x ∷ [] → c3 ≡ c2 ++ first (length c2) → hole2 ≡ length c3 → c4 ≡ c3 ++ y ∷ []
+    → to ≡ length c4
     → c5 ≡ slice_set c4 hole (instrs.Branch to) → c6 ≡ c5 ++ second (length c5) → to2 ≡ length c6
     → slice_set c6 hole2 (instrs.Jump to2) ≡ base ++ choosing_code (length base) test first second
 choosing_patched base test c1 c2 c3 c4 c5 c6 first second x y hole hole2 to to2 e1 m e2 e3 m2 e4 m3 e5 e6 m4 =
@@ -69,7 +72,8 @@ choosing_patched base test c1 c2 c3 c4 c5 c6 first second x y hole hole2 to to2 
     let i = instrs.Branch to in
     let all : c4 ≡ ((c1 ++ x ∷ []) ++ a) ++ y ∷ [] = cc in
     let flat : ((c1 ++ x ∷ []) ++ a) ++ y ∷ [] ≡ c1 ++ x ∷ (a ++ y ∷ []) = simp append_assoc in
-    let e5' : c5 ≡ c1 ++ i ∷ (a ++ y ∷ []) = e5 ∙ ap (λ l. slice_set l hole i) (all ∙ flat) ∙ ap (λ n. slice_set (c1 ++ x ∷ (a ++ y ∷ [])) n i) m
+    let e5' : c5 ≡ c1 ++ i ∷ (a ++ y ∷ []) = e5 ∙ ap (λ l. slice_set l hole i) (all ∙ flat)
+    ∙ ap (λ n. slice_set (c1 ++ x ∷ (a ++ y ∷ [])) n i) m
     ∙ set-append_seam c1 x (a ++ y ∷ []) i in
     let l5 : length c5 ≡ at + length test + 1 + length a + 1 = ap length e5' ∙ length-append c1 (i ∷ (a ++ y ∷ []))
     ∙ omega (arith, l1, length-append a (y ∷ [])) in

@@ -1,5 +1,6 @@
 -- A program that breaks no rule can run: its names are known, and there is room for its stack, slots and cells.
-use Rattle.std.proofs.Common.{◌≡◌, ◌∙◌, ℕ, suc, ℤ, ◌+◌, ◌<◌, ◌≤◌, Bool, true, false, ◌||◌, if◌then◌else◌, List, [], ◌∷◌, ◌++◌, length, All, Option, Some, None, is_some, refl, sym, ap, subst, arith, length-append}
+use Rattle.std.proofs.Common.{◌≡◌, ◌∙◌, ℕ, suc, ℤ, ◌+◌, ◌<◌, ◌≤◌, Bool, true, false, ◌||◌, if◌then◌else◌, List, [], ◌∷◌, ◌++◌, length, All}
+use Rattle.std.proofs.Common.{Option, Some, None, is_some, refl, sym, ap, subst, arith, length-append}
 use Rattle.std.specs.Prelude.{nat_le}
 use Rattle.std.specs.Str.{bytes_eq}
 use Rattle.pipe_model.specs.declared.bounds.TheConstants.{MOST_LOCALS}
@@ -8,11 +9,16 @@ use Rattle.pipe_check.proofs.FirstFaults.{breaks_none}
 use Rattle.pipe_model.specs.declared.region.Region.{Region}
 use Rattle.pipe_model.specs.declared.region.Region.TheVariants as regions
 use Rattle.pipe_model.specs.declared.tree.Declaration.{Declaration}
-use Rattle.pipe_model.specs.Language.CheckingRules.{rules_in_order, Unknown, size_in, cell_total, Local, cell_meaning, is_among, meaning_at, is_nothing, is_single, is_array, fault_of}
+use Rattle.pipe_model.specs.Language.CheckingRules.{rules_in_order, Unknown, size_in, cell_total, Local, cell_meaning, is_among, meaning_at}
+use Rattle.pipe_model.specs.Language.CheckingRules.{is_nothing, is_single, is_array, fault_of}
 use Rattle.pipe_model.specs.Language.Evaluation.{CellRange}
-use Rattle.pipe_model.specs.Language.Marks.{Scope, Mark, Plain, Indexed, DeclaredLocal, StageWord, mark_at, opening, leave, after_statement, after_statements, after_block, marks_of, marks_of_cells, marks_of_expression, marks_of_statement, marks_of_statements}
+use Rattle.pipe_model.specs.Language.Marks.{Scope, Mark, Plain, Indexed, DeclaredLocal, StageWord, mark_at, opening, leave, after_statement}
+use Rattle.pipe_model.specs.Language.Marks.{after_statements, after_block, marks_of, marks_of_cells, marks_of_expression}
+use Rattle.pipe_model.specs.Language.Marks.{marks_of_statement, marks_of_statements}
 use Rattle.pipe_model.specs.Language.Programs.{declared_size, range_of}
-use Rattle.pipe_model.specs.Language.SyntaxTree.{Expression, Number, Name, Element, And, Or, Binary, Unary, More, Take, Iter, Statement, Let, Assign, AssignElement, Emit, If, While, Stage, NextStage, Statements, Empty, Then, SyntaxTree}
+use Rattle.pipe_model.specs.Language.SyntaxTree.{Expression, Number, Name, Element, And, Or, Binary, Unary, More, Take, Iter, Statement}
+use Rattle.pipe_model.specs.Language.SyntaxTree.{Let, Assign, AssignElement, Emit, If, While, Stage, NextStage, Statements, Empty, Then}
+use Rattle.pipe_model.specs.Language.SyntaxTree.{SyntaxTree}
 use Rattle.stage_code.specs.Instructions.{Bounds}
 use Rattle.stage_code.proofs.TreesInBounds.{IsKnown, HasCells, StaysInBounds, StatementStaysInBounds, StatementsStayInBounds}
 use Rattle.stage_code.specs.Heights.{greater, height_of, height_of_statement, height_of_statements, greatest_height}
@@ -61,7 +67,8 @@ among_slot (name ∷ names) x = by (bytes_eq name x) (among_slot names x)
     later None = refl
     later (Some slot) = refl
 
-    by : (b : Bool) → is_among names x ≡ is_some (slot_of names x) → (b || is_among names x) ≡ is_some (if b then Some 0 else one_later (slot_of names x))
+    by : (b : Bool) → is_among names x ≡ is_some (slot_of names x) → (b || is_among names x) ≡ is_some
+        (if b then Some 0 else one_later (slot_of names x))
     by true h = refl
     by false h = h ∙ later (slot_of names x)
 
@@ -84,7 +91,8 @@ cells_by bounds None (Some None) range a some many = absurd (let d : true ≡ fa
 cells_by bounds None (Some (Some n)) None a some many = elim a [ ]
 cells_by bounds None (Some (Some n)) (Some range) a some many = a
 
-meaning_is : (scope : Scope) (x : List ℕ) → meaning_at scope x ≡ (if is_some (slot_of scope.visible x) then Local else cell_meaning (size_in scope.cells x))
+meaning_is : (scope : Scope) (x : List ℕ) → meaning_at scope x
+    ≡ (if is_some (slot_of scope.visible x) then Local else cell_meaning (size_in scope.cells x))
 meaning_is scope x = ap (λ b. if b then Local else cell_meaning (size_in scope.cells x)) (among_slot scope.visible x)
 
 -- ---- scopes
@@ -100,10 +108,12 @@ pub first_scope : (cells : List Declaration) (bounds : Bounds) (region : Region)
     → IsScope cells bounds (opening region cells)
 first_scope cells bounds region served = record { cells_are = refl; served = served; covered = omega arith; few = omega arith }
 
-known : (cells : List Declaration) (bounds : Bounds) (scope : Scope) (x : List ℕ) → IsScope cells bounds scope → Obeys (mark_at scope (Plain x))
+known : (cells : List Declaration) (bounds : Bounds) (scope : Scope) (x : List ℕ) → IsScope cells bounds scope
+    → Obeys (mark_at scope (Plain x))
     → IsKnown bounds (slot_of scope.visible x) (range_of 2 cells x)
 known cells bounds scope x s h =
-    let served : 2 + cell_total scope.cells ≤ bounds.cells = subst (λ (ds : List Declaration). 2 + cell_total ds ≤ bounds.cells) (sym s.cells_are) s.served in
+    let served : 2 + cell_total scope.cells ≤ bounds.cells = subst (λ (ds : List Declaration). 2 + cell_total ds ≤ bounds.cells)
+    (sym s.cells_are) s.served in
     let some : is_nothing (meaning_at scope x) ≡ false = h 0 Unknown (omega arith) in
     let plain : is_array (meaning_at scope x) ≡ false = h 6 Unknown (omega arith) in
     subst (λ (ds : List Declaration). IsKnown bounds (slot_of scope.visible x) (range_of 2 ds x)) s.cells_are
@@ -113,7 +123,8 @@ known cells bounds scope x s h =
 has_cells : (cells : List Declaration) (bounds : Bounds) (scope : Scope) (x : List ℕ) → IsScope cells bounds scope
     → Obeys (mark_at scope (Indexed x)) → HasCells bounds (range_of 2 cells x)
 has_cells cells bounds scope x s h =
-    let served : 2 + cell_total scope.cells ≤ bounds.cells = subst (λ (ds : List Declaration). 2 + cell_total ds ≤ bounds.cells) (sym s.cells_are) s.served in
+    let served : 2 + cell_total scope.cells ≤ bounds.cells = subst (λ (ds : List Declaration). 2 + cell_total ds ≤ bounds.cells)
+    (sym s.cells_are) s.served in
     let some : is_nothing (meaning_at scope x) ≡ false = h 0 Unknown (omega arith) in
     let many : is_single (meaning_at scope x) ≡ false = h 5 Unknown (omega arith) in
     subst (λ (ds : List Declaration). HasCells bounds (range_of 2 ds x)) s.cells_are
@@ -137,10 +148,16 @@ some_high Iter = omega arith
 expression_in_bounds : (cells : List Declaration) (bounds : Bounds) (scope : Scope) → IsScope cells bounds scope → (e : Expression) (h : ℕ)
     → Obey (marks_of_expression scope e) → h + height_of e ≤ bounds.depth → StaysInBounds bounds (range_of 2 cells) scope.visible h e
 expression_in_bounds cells bounds scope s (Number n) h o low = omega (arith, low)
-expression_in_bounds cells bounds scope s (Name x) h o low = (omega (arith, low), known cells bounds scope x s (all_first Obeys (mark_at scope (Plain x)) [] o))
+expression_in_bounds cells bounds scope s (Name x) h o low =
+    (omega (arith, low), known cells bounds scope x s (all_first Obeys (mark_at scope (Plain x)) [] o))
 expression_in_bounds cells bounds scope s (Element x i) h o low =
-    let inner = expression_in_bounds cells bounds scope s i h (all_rest Obeys (mark_at scope (Indexed x)) (marks_of_expression scope i) o) low in
-    (omega (arith, some_high i, low), has_cells cells bounds scope x s (all_first Obeys (mark_at scope (Indexed x)) (marks_of_expression scope i) o), inner)
+    let inner = expression_in_bounds cells bounds scope s i h (all_rest Obeys (mark_at scope (Indexed x)) (marks_of_expression scope i) o)
+    low in (
+      omega (arith, some_high i, low),
+      has_cells cells bounds scope x s
+          (all_first Obeys (mark_at scope (Indexed x)) (marks_of_expression scope i) o),
+      inner,
+    )
 expression_in_bounds cells bounds scope s (And a b) h o low =
     let first = greater_first (height_of a) (height_of b) in
     let second = greater_second (height_of a) (height_of b) in
@@ -168,7 +185,8 @@ expression_in_bounds cells bounds scope s (Binary code a b) h o low =
       expression_in_bounds cells bounds scope s a h (all_front Obeys ma mb o) (omega (arith, first, low)),
       expression_in_bounds cells bounds scope s b (suc h) (all_back Obeys ma mb o) (omega (arith, second, low)),
     )
-expression_in_bounds cells bounds scope s (Unary code a) h o low = (omega (arith, some_high a, low), expression_in_bounds cells bounds scope s a h o low)
+expression_in_bounds cells bounds scope s (Unary code a) h o low =
+    (omega (arith, some_high a, low), expression_in_bounds cells bounds scope s a h o low)
 expression_in_bounds cells bounds scope s More h o low = (omega (arith, low), omega (arith, s.served))
 expression_in_bounds cells bounds scope s Take h o low = (omega (arith, low), omega (arith, s.served))
 expression_in_bounds cells bounds scope s Iter h o low = omega (arith, low)
@@ -192,10 +210,17 @@ stays : (cells : List Declaration) (bounds : Bounds) (scope : Scope) → IsScope
 stays cells bounds scope s = record { is_scope = s; more = omega arith }
 
 -- after a block
-leaves : (cells : List Declaration) (bounds : Bounds) (scope inner : Scope) → IsScope cells bounds scope → Continues cells bounds scope inner
+leaves : (cells : List Declaration) (bounds : Bounds) (scope inner : Scope) → IsScope cells bounds scope
+    → Continues cells bounds scope inner
     → Continues cells bounds scope (leave scope inner)
 leaves cells bounds scope inner s f = record {
-  is_scope = record { cells_are = f.is_scope.cells_are; served = s.served; covered = omega (arith, s.covered, f.more); few = f.is_scope.few };
+  is_scope = record {
+    cells_are = f.is_scope.cells_are;
+    served = s.served;
+    covered = omega (arith, s.covered, f.more);
+    few =
+        f.is_scope.few;
+  };
   more = f.more;
 }
 
@@ -204,14 +229,21 @@ then_continues : (cells : List Declaration) (bounds : Bounds) (a b c : Scope) �
 then_continues cells bounds a b c f g = record { is_scope = g.is_scope; more = omega (arith, f.more, g.more) }
 
 mutual
-  continues : (cells : List Declaration) (bounds : Bounds) (s : Statement) (scope : Scope) → IsScope cells bounds scope → Obey (marks_of_statement scope s)
+  continues : (cells : List Declaration) (bounds : Bounds) (s : Statement) (scope : Scope) → IsScope cells bounds scope
+      → Obey (marks_of_statement scope s)
       → Continues cells bounds scope (after_statement scope s)
   continues cells bounds (Let x e) scope s o =
       let room = let_room cells bounds scope x s (all_first Obeys (mark_at scope (DeclaredLocal x)) (marks_of_expression scope e) o) in
       let names = length-append scope.visible (x ∷ []) in
       let lets = length-append scope.lets (x ∷ []) in
       record {
-        is_scope = record { cells_are = s.cells_are; served = s.served; covered = omega (arith, s.covered, names, lets); few = omega (arith, room, lets) };
+        is_scope = record {
+          cells_are = s.cells_are;
+          served = s.served;
+          covered = omega (arith, s.covered, names, lets);
+          few =
+              omega (arith, room, lets);
+        };
         more = omega (arith, lets);
       }
   continues cells bounds (Assign x e) scope s o = stays cells bounds scope s
@@ -222,13 +254,15 @@ mutual
       let ma = marks_of_statements scope a in
       let mb = marks_of_statements (after_block scope a) b in
       let blocks = all_back Obeys es (ma ++ mb) o in
-      let first = leaves cells bounds scope (after_statements scope a) s (continue_all cells bounds a scope s (all_front Obeys ma mb blocks)) in
+      let first = leaves cells bounds scope (after_statements scope a) s
+      (continue_all cells bounds a scope s (all_front Obeys ma mb blocks)) in
       let second = continue_all cells bounds b (after_block scope a) first.is_scope (all_back Obeys ma mb blocks) in
       leaves cells bounds scope (after_statements (after_block scope a) b) s
       (then_continues cells bounds scope (after_block scope a) (after_statements (after_block scope a) b) first second)
   continues cells bounds (While e a) scope s o =
       let es = marks_of_expression scope e in
-      leaves cells bounds scope (after_statements scope a) s (continue_all cells bounds a scope s (all_back Obeys es (marks_of_statements scope a) o))
+      leaves cells bounds scope (after_statements scope a) s
+      (continue_all cells bounds a scope s (all_back Obeys es (marks_of_statements scope a) o))
   continues cells bounds (Stage kind e) scope s o = stays cells bounds scope s
   continues cells bounds (NextStage kind) scope s o = stays cells bounds scope s
 
@@ -280,7 +314,8 @@ mutual
         expression_in_bounds cells bounds scope s e 1 (all_back Obeys is es rest) (omega (arith, second, low)),
         has_cells cells bounds scope x s (all_first Obeys (mark_at scope (Indexed x)) (is ++ es) o),
       )
-  statement_in_bounds cells bounds (Emit e) scope s o low = (expression_in_bounds cells bounds scope s e 0 o (omega (arith, low)), omega (arith, s.served))
+  statement_in_bounds cells bounds (Emit e) scope s o low =
+      (expression_in_bounds cells bounds scope s e 0 o (omega (arith, low)), omega (arith, s.served))
   statement_in_bounds cells bounds (If e a b) scope s o low =
       let es = marks_of_expression scope e in
       let ma = marks_of_statements scope a in
@@ -291,10 +326,12 @@ mutual
       let second = greater_second (height_of e) inner in
       let third = greater_first (height_of_statements a) (height_of_statements b) in
       let fourth = greater_second (height_of_statements a) (height_of_statements b) in
-      let between = leaves cells bounds scope (after_statements scope a) s (continue_all cells bounds a scope s (all_front Obeys ma mb blocks)) in (
+      let between = leaves cells bounds scope (after_statements scope a) s
+      (continue_all cells bounds a scope s (all_front Obeys ma mb blocks)) in (
         expression_in_bounds cells bounds scope s e 0 (all_front Obeys es (ma ++ mb) o) (omega (arith, first, low)),
         statements_in_bounds cells bounds a scope s (all_front Obeys ma mb blocks) (omega (arith, second, third, low)),
-        statements_in_bounds cells bounds b (after_block scope a) between.is_scope (all_back Obeys ma mb blocks) (omega (arith, second, fourth, low)),
+        statements_in_bounds cells bounds b (after_block scope a) between.is_scope (all_back Obeys ma mb blocks)
+            (omega (arith, second, fourth, low)),
       )
   statement_in_bounds cells bounds (While e a) scope s o low =
       let es = marks_of_expression scope e in
@@ -305,7 +342,8 @@ mutual
         statements_in_bounds cells bounds a scope s (all_back Obeys es ma o) (omega (arith, second, low)),
       )
   statement_in_bounds cells bounds (Stage kind e) scope s o low =
-      expression_in_bounds cells bounds scope s e 0 (all_rest Obeys (mark_at scope StageWord) (marks_of_expression scope e) o) (omega (arith, low))
+      expression_in_bounds cells bounds scope s e 0 (all_rest Obeys (mark_at scope StageWord) (marks_of_expression scope e) o)
+      (omega (arith, low))
   statement_in_bounds cells bounds (NextStage kind) scope s o low = tt
 
   statements_in_bounds : (cells : List Declaration) (bounds : Bounds) (ss : Statements) (scope : Scope) → IsScope cells bounds scope
@@ -320,7 +358,8 @@ mutual
       let second = greater_second (height_of_statement t) (height_of_statements ss) in (
         statement_in_bounds cells bounds t scope s (all_front Obeys ms rest o) (omega (arith, first, low)),
         subst (λ (names : List (List ℕ)). StatementsStayInBounds bounds (range_of 2 cells) names ss) (visible_after scope t)
-            (statements_in_bounds cells bounds ss (after_statement scope t) one.is_scope (all_back Obeys ms rest o) (omega (arith, second, low))),
+            (statements_in_bounds cells bounds ss (after_statement scope t) one.is_scope (all_back Obeys ms rest o)
+            (omega (arith, second, low))),
       )
 
 -- ---- slots
@@ -340,7 +379,11 @@ mutual
   pub slots_of_all : (bounds : Bounds) (cells : List ℕ → Option CellRange) (scope : List (List ℕ)) (ss : Statements)
       → StatementsStayInBounds bounds cells scope ss → HaveSlots scope ss
   slots_of_all bounds cells scope Empty g = tt
-  slots_of_all bounds cells scope (Then t ss) g = (slots_of bounds cells scope t g.0, slots_of_all bounds cells (locals_after scope t) ss g.1)
+  slots_of_all bounds cells scope (Then t ss) g = (
+    slots_of bounds cells scope t g.0,
+    slots_of_all bounds cells
+        (locals_after scope t) ss g.1,
+  )
 
 -- ---- programs
 

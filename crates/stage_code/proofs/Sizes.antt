@@ -1,12 +1,17 @@
 -- The code of a program is at most twice as long as the program, and its stack is at most half as high as its longest expression.
-use Rattle.std.proofs.Common.{◌≡◌, ◌∙◌, ℕ, suc, ◌+◌, ◌*◌, ◌<◌, ◌≤◌, List, [], ◌∷◌, ◌++◌, length, sum_by, All, Option, ap, arith, length-append}
+use Rattle.std.proofs.Common.{◌≡◌, ◌∙◌, ℕ, suc, ◌+◌, ◌*◌, ◌<◌, ◌≤◌, List, [], ◌∷◌, ◌++◌, length, sum_by, All, Option, ap, arith}
+use Rattle.std.proofs.Common.{length-append}
 use Rattle.std.proofs.lemmas.List.Sums.{sum_by-append, sum_by-cons}
 use Rattle.pipe_model.specs.declared.bounds.TheConstants.{LONGEST_EXPRESSION}
 use Rattle.pipe_model.specs.Language.Evaluation.{CellRange}
-use Rattle.pipe_model.specs.Language.SpellablePrograms.{node_count, statement_count, statement_counts, expressions_of, expressions_of_statement, expressions_of_statements, size_of}
-use Rattle.pipe_model.specs.Language.SyntaxTree.{Expression, Number, Name, Element, And, Or, Binary, Unary, More, Take, Iter, Statement, Let, Assign, AssignElement, Emit, If, While, Stage, NextStage, Statements, Empty, Then, SyntaxTree}
+use Rattle.pipe_model.specs.Language.SpellablePrograms.{node_count, statement_count, statement_counts, expressions_of}
+use Rattle.pipe_model.specs.Language.SpellablePrograms.{expressions_of_statement, expressions_of_statements, size_of}
+use Rattle.pipe_model.specs.Language.SyntaxTree.{Expression, Number, Name, Element, And, Or, Binary, Unary, More, Take, Iter, Statement}
+use Rattle.pipe_model.specs.Language.SyntaxTree.{Let, Assign, AssignElement, Emit, If, While, Stage, NextStage, Statements, Empty, Then}
+use Rattle.pipe_model.specs.Language.SyntaxTree.{SyntaxTree}
 use Rattle.stage_code.specs.declared.code_bounds.TheConstants.{HIGHEST_STACK}
-use Rattle.stage_code.specs.CodeOfTrees.{expression_code, statement_code, statements_code, part_code, iteration_code, element_code, assign_code, assign_element_code, stage_code}
+use Rattle.stage_code.specs.CodeOfTrees.{expression_code, statement_code, statements_code, part_code, iteration_code, element_code}
+use Rattle.stage_code.specs.CodeOfTrees.{assign_code, assign_element_code, stage_code}
 use Rattle.stage_code.specs.Heights.{greater, height_of, height_of_statement, height_of_statements, greatest_height}
 use Rattle.stage_code.specs.Slots.{slot_of, locals_after}
 use Rattle.stage_code.specs.declared.instr.Instr.TheVariants as instrs
@@ -73,7 +78,13 @@ mutual
   pub statement_short : (cells : List ℕ → Option CellRange) (scope : List (List ℕ)) (at : ℕ) (s : Statement)
       → length (statement_code cells scope at s) ≤ 2 * weight_of s
   statement_short cells scope at (Let x e) =
-      omega (arith, one_node e, expression_short cells scope at e, length-append (expression_code cells scope at e) (instrs.SetLocal (length scope) ∷ []))
+      omega (
+        arith,
+        one_node e,
+        expression_short cells scope at e,
+        length-append (expression_code cells scope at e)
+            (instrs.SetLocal (length scope) ∷ []),
+      )
   statement_short cells scope at (Assign x e) =
       omega (
         arith,
@@ -85,7 +96,8 @@ mutual
   statement_short cells scope at (AssignElement x i e) =
       let index = expression_code cells scope at i in
       let value = expression_code cells scope (at + length index) e in
-      let nodes : sum_by node_count (i ∷ e ∷ []) ≡ node_count i + node_count e = sum_by-cons node_count i (e ∷ []) ∙ ap (λ n. node_count i + n) (one_node e) in
+      let nodes : sum_by node_count (i ∷ e ∷ []) ≡ node_count i + node_count e = sum_by-cons node_count i (e ∷ [])
+      ∙ ap (λ n. node_count i + n) (one_node e) in
       omega (
         arith,
         nodes,
@@ -168,13 +180,21 @@ pub record ArePartsShort (tree : SyntaxTree) (init pipe last : ℕ) : Type 0 whe
   pub some_last : 0 < last
 
 pub parts_short : (tree : SyntaxTree) (cells : List ℕ → Option CellRange) (a b : ℕ)
-    → ArePartsShort tree (length (part_code cells 0 tree.init)) (length (iteration_code cells a tree.test tree.body)) (length (part_code cells b tree.last))
+    → ArePartsShort tree (length (part_code cells 0 tree.init)) (length (iteration_code cells a tree.test tree.body))
+    (length (part_code cells b tree.last))
 parts_short tree cells a b =
     let is = expressions_of_statements tree.init in
     let bs = expressions_of_statements tree.body in
     let ls = expressions_of_statements tree.last in
-    let nodes : sum_by node_count (expressions_of tree) ≡ sum_by node_count is + (node_count tree.test + (sum_by node_count bs + sum_by node_count ls)) =
-    omega (arith, sum_by-append node_count is (tree.test ∷ (bs ++ ls)), sum_by-cons node_count tree.test (bs ++ ls), sum_by-append node_count bs ls) in
+    let nodes : sum_by node_count (expressions_of tree) ≡ sum_by node_count is
+    + (node_count tree.test + (sum_by node_count bs + sum_by node_count ls)) =
+    omega (
+      arith,
+      sum_by-append node_count is (tree.test ∷ (bs ++ ls)),
+      sum_by-cons node_count tree.test
+          (bs ++ ls),
+      sum_by-append node_count bs ls,
+    ) in
     let first = expression_code cells [] a tree.test in
     let rest = statements_code cells [] (a + length first + 1) tree.body in
     record {
@@ -257,14 +277,16 @@ mutual
       (statements_low ss (all_back IsShort xs ys h))
 
 -- the stack of a program with short expressions
-pub program_low : (tree : SyntaxTree) → All (λ e. node_count e ≤ LONGEST_EXPRESSION) (expressions_of tree) → greatest_height tree ≤ HIGHEST_STACK
+pub program_low : (tree : SyntaxTree) → All (λ e. node_count e ≤ LONGEST_EXPRESSION) (expressions_of tree)
+    → greatest_height tree ≤ HIGHEST_STACK
 program_low tree h =
     let is = expressions_of_statements tree.init in
     let bs = expressions_of_statements tree.body in
     let ls = expressions_of_statements tree.last in
     let after_it = all_back IsShort is (tree.test ∷ (bs ++ ls)) h in
     let loops = all_rest IsShort tree.test (bs ++ ls) after_it in
-    greater_least (height_of_statements tree.init) _ HIGHEST_STACK (statements_low tree.init (all_front IsShort is (tree.test ∷ (bs ++ ls)) h))
+    greater_least (height_of_statements tree.init) _ HIGHEST_STACK
+    (statements_low tree.init (all_front IsShort is (tree.test ∷ (bs ++ ls)) h))
     (greater_least (height_of tree.test) _ HIGHEST_STACK (omega (arith, low tree.test (all_first IsShort tree.test (bs ++ ls) after_it)))
     (greater_least (height_of_statements tree.body) (height_of_statements tree.last) HIGHEST_STACK
     (statements_low tree.body (all_front IsShort bs ls loops)) (statements_low tree.last (all_back IsShort bs ls loops))))

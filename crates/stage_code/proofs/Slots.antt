@@ -1,5 +1,6 @@
 -- The slot of a name, found by going over the locals in order.
-use Rattle.std.proofs.Common.{◌≡◌, ◌∙◌, ℕ, ◌+◌, ◌<◌, ◌≤◌, true, false, if◌then◌else◌, List, length, drop, get_or, refl, sym, ap, arith, Option, Some, None}
+use Rattle.std.proofs.Common.{◌≡◌, ◌∙◌, ℕ, ◌+◌, ◌<◌, ◌≤◌, true, false, if◌then◌else◌, List, length, drop, get_or, refl, sym, ap, arith}
+use Rattle.std.proofs.Common.{Option, Some, None}
 use Rattle.std.proofs.lemmas.List.{drop_all, at_drop_more}
 use Rattle.std.specs.Str.{bytes_eq}
 use Rattle.stage_code.specs.Slots.{slot_of, one_later}
@@ -23,12 +24,15 @@ from_here names i other x h e =
     at_drop_more (λ ns. slot_of ns x) names i other h
     ∙ ap (λ name. if bytes_eq name x then Some 0 else one_later (slot_of (drop (i + 1) names) x)) (sym e)
 
-pub found_here : (names : List (List ℕ)) (i : ℕ) (other x : List ℕ) → i < length names → other ≡ get_or names i other → bytes_eq other x ≡ true
+pub found_here : (names : List (List ℕ)) (i : ℕ) (other x : List ℕ) → i < length names → other ≡ get_or names i other
+    → bytes_eq other x ≡ true
     → later_by i (slot_of (drop i names) x) ≡ Some i
 found_here names i other x h e is =
-    ap (later_by i) (from_here names i other x h e ∙ ap (λ b. if b then Some 0 else one_later (slot_of (drop (i + 1) names) x)) is) ∙ ap Some (omega arith)
+    ap (later_by i) (from_here names i other x h e ∙ ap (λ b. if b then Some 0 else one_later (slot_of (drop (i + 1) names) x)) is)
+    ∙ ap Some (omega arith)
 
-pub found_later : (names : List (List ℕ)) (i : ℕ) (other x : List ℕ) → i < length names → other ≡ get_or names i other → bytes_eq other x ≡ false
+pub found_later : (names : List (List ℕ)) (i : ℕ) (other x : List ℕ) → i < length names → other ≡ get_or names i other
+    → bytes_eq other x ≡ false
     → later_by (i + 1) (slot_of (drop (i + 1) names) x) ≡ later_by i (slot_of (drop i names) x)
 found_later names i other x h e is =
     sym (ap (later_by i) (from_here names i other x h e ∙ ap (λ b. if b then Some 0 else one_later (slot_of (drop (i + 1) names) x)) is)

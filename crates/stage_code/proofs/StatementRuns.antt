@@ -1,5 +1,6 @@
 -- The code of statements follows them.
-use Rattle.std.proofs.Common.{◌≡◌, ℕ, ℤ, pos, negsuc, zero, suc, ◌+◌, ◌<◌, ◌≤◌, List, [], ◌∷◌, ◌++◌, length, Option, Some, None, refl, sym, ap, ◌∙◌, subst, arith, append_assoc, length-append, append-nil, length-set, Bool, true, false}
+use Rattle.std.proofs.Common.{◌≡◌, ℕ, ℤ, pos, negsuc, zero, suc, ◌+◌, ◌<◌, ◌≤◌, List, [], ◌∷◌, ◌++◌, length, Option, Some, None, refl, sym}
+use Rattle.std.proofs.Common.{ap, ◌∙◌, subst, arith, append_assoc, length-append, append-nil, length-set, Bool, true, false}
 use Rattle.std.specs.Prelude.{slice_set, nat_lt, if◌then◌else◌, take}
 use Rattle.std.specs.Ordering.{int_eq}
 use Rattle.std.proofs.lemmas.Option.{slice_get_within}
@@ -12,13 +13,19 @@ use Rattle.pipe_model.specs.declared.column.ColumnEnd.TheVariants as ends
 use Rattle.stage_code.specs.declared.instr.Instr.TheVariants as instrs
 use Rattle.pipe_model.specs.declared.trap.Trap.TheVariants as traps
 use Rattle.pipe_model.specs.Language.Interaction.{Interaction, Return, Raise, Step, Set, bind}
-use Rattle.pipe_model.specs.Language.Evaluation.{StagePosition, CellRange, Environment, Local, evaluate, local_value, updated_locals, declare_local, assign, emit, element_of, element_in, go_to_stage, go_to_next_stage, leave_block, loop_turns, execute, execute_all, if_zero, after_test, first_environment, run_iteration}
-use Rattle.pipe_model.specs.Language.SyntaxTree.{Expression, Statement, Let, Assign, AssignElement, Emit, If, While, Stage, NextStage, Statements, Empty, Then}
-use Rattle.stage_code.specs.CodeOfTrees.{expression_code, assign_code, assign_element_code, stage_code, next_stage_code, statement_code, statements_code, iteration_code, part_code}
+use Rattle.pipe_model.specs.Language.Evaluation.{StagePosition, CellRange, Environment, Local, evaluate, local_value, updated_locals}
+use Rattle.pipe_model.specs.Language.Evaluation.{declare_local, assign, emit, element_of, element_in, go_to_stage, go_to_next_stage}
+use Rattle.pipe_model.specs.Language.Evaluation.{leave_block, loop_turns, execute, execute_all, if_zero, after_test, first_environment}
+use Rattle.pipe_model.specs.Language.Evaluation.{run_iteration}
+use Rattle.pipe_model.specs.Language.SyntaxTree.{Expression, Statement, Let, Assign, AssignElement, Emit, If, While, Stage, NextStage}
+use Rattle.pipe_model.specs.Language.SyntaxTree.{Statements, Empty, Then}
+use Rattle.stage_code.specs.CodeOfTrees.{expression_code, assign_code, assign_element_code, stage_code, next_stage_code, statement_code}
+use Rattle.stage_code.specs.CodeOfTrees.{statements_code, iteration_code, part_code}
 use Rattle.stage_code.specs.Slots.{slot_of, locals_after, locals_at_end}
 use Rattle.stage_code.specs.Decoding.{HasAt}
 use Rattle.stage_code.proofs.TreesInBounds.{IsKnown, HasCells, StaysInBounds, StatementStaysInBounds, StatementsStayInBounds}
-use Rattle.stage_code.specs.Instructions.{write_effect, with_stack, CodeState, Next, Stuck, CodeSetting, goes_to, set_slot, in_stage, after_loop_test, act}
+use Rattle.stage_code.specs.Instructions.{write_effect, with_stack, CodeState, Next, Stuck, CodeSetting, goes_to, set_slot, in_stage}
+use Rattle.stage_code.specs.Instructions.{after_loop_test, act}
 use Rattle.stage_code.specs.Following.{Follows, Sets, GoesOn, Raises, Finishes}
 use Rattle.stage_code.proofs.CodeParts.{first_at, rest_at}
 use Rattle.stage_code.proofs.Follow.{bind-assoc, FollowsAt, step_over, follow_then, element_follows, at_instr, setting_with, cells_run}
@@ -40,7 +47,8 @@ pub record HoldsLocals (scope : List (List ℕ)) (env : Environment) (slots : Li
 
 -- what runs after the end of a code
 abbrev pub FollowsAtEnd : CodeSetting → ℕ → List (List ℕ) → ℕ → (Environment → Interaction ColumnEnd) → Type 0
-FollowsAtEnd p n scope q k = (m : ℕ) → m ≤ n → (env : Environment) (slots : List ℤ) → HoldsLocals scope env slots → FollowsAt p m (ready q slots env) (k env)
+FollowsAtEnd p n scope q k = (m : ℕ) → m ≤ n → (env : Environment) (slots : List ℤ) → HoldsLocals scope env slots
+    → FollowsAt p m (ready q slots env) (k env)
 
 ends_at : (p : CodeSetting) (n : ℕ) (scope : List (List ℕ)) (q r : ℕ) (k : Environment → Interaction ColumnEnd) → q ≡ r
     → FollowsAtEnd p n scope r k → FollowsAtEnd p n scope q k
@@ -51,7 +59,8 @@ fewer : (p : CodeSetting) (n m : ℕ) (scope : List (List ℕ)) (q : ℕ) (k : E
 fewer p n m scope q k le h j le' env slots f = h j (omega (arith, le, le')) env slots f
 
 -- an expression, in a scope that is the locals' names
-expression_on : (p : CodeSetting) (cells : List ℕ → Option CellRange) (turns : ℕ) (ls : List Local) (scope : List (List ℕ)) → names_of ls ≡ scope
+expression_on : (p : CodeSetting) (cells : List ℕ → Option CellRange) (turns : ℕ) (ls : List Local) (scope : List (List ℕ))
+    → names_of ls ≡ scope
     → (e : Expression) (n : ℕ) (c : CodeState) (k : ℤ → Interaction ColumnEnd) → Holds ls c.slots
     → StaysInBounds p.bounds cells scope (length c.stack) e → HasAt p.code c.place (expression_code cells scope c.place e)
     → FollowsWithValue p n c (c.place + length (expression_code cells scope c.place e)) k
@@ -66,7 +75,8 @@ sets : (p : CodeSetting) (n : ℕ) (c : CodeState) (j : ℕ) (v : ℤ) (rest : L
     → FollowsAt p n (record c { place = c.place + 1; stack = rest; slots = slice_set c.slots j v }) d → Follows p n (set_slot c j v rest) d
 sets p n c j v rest d within f =
     let t : nat_lt j (length c.slots) ≡ true = grind arith in
-    subst (λ b. Follows p n (if b then Return (Next (record c { place = c.place + 1; stack = rest; slots = slice_set c.slots j v })) else Return
+    subst (λ b. Follows p n (if b then Return (Next (record c { place = c.place + 1; stack = rest; slots = slice_set c.slots j v }))
+    else Return
     Stuck) d) (sym t) (GoesOn _ f)
 
 let_run : (p : CodeSetting) (n at : ℕ) (scope : List (List ℕ)) (env : Environment) (slots : List ℤ) (x : List ℕ) (v : ℤ)
@@ -76,7 +86,8 @@ let_run : (p : CodeSetting) (n at : ℕ) (scope : List (List ℕ)) (env : Enviro
 let_run p n at scope env slots x v k fits room h =
     let len : length scope ≡ length env.locals = ap length (sym fits.names) ∙ length_names env.locals in
     let big = fits.room in
-    step_over p n _ _ (λ l lt. sets p l (state_at (at) (v ∷ []) slots env) (length scope) v [] (k (declare_local env x v)) (omega (arith, room, big))
+    step_over p n _ _ (λ l lt. sets p l (state_at (at) (v ∷ []) slots env) (length scope) v [] (k (declare_local env x v))
+    (omega (arith, room, big))
     (h l (omega arith) (declare_local env x v) (slice_set slots (length scope) v) (record {
       holds = subst (λ i. Holds (env.locals ++ record { name = x; value = v } ∷ []) (slice_set slots i v)) (sym len)
           (holds_append env.locals slots (record { name = x; value = v }) fits.holds (omega (arith, room, big, len)));
@@ -118,7 +129,8 @@ stage_effect : (p : CodeSetting) (n : ℕ) (scope : List (List ℕ)) (c : CodeSt
     (k : Environment → Interaction ColumnEnd) → HoldsLocals scope env c.slots → FollowsAtEnd p n scope (c.place + 1) k
     → Follows p n (Step (bind d (in_stage c []))) (Step (bind (bind d (λ s. Return (record env { stage = s }))) k))
 stage_effect p n scope c env d k fits h =
-    step_over p n _ _ (λ l lt. subst (λ t. Follows p l (bind d (in_stage c [])) t) (sym (bind-assoc d (λ s. Return (record env { stage = s })) k))
+    step_over p n _ _ (λ l lt. subst (λ t. Follows p l (bind d (in_stage c [])) t)
+    (sym (bind-assoc d (λ s. Return (record env { stage = s })) k))
     (follow_then p l d _ _ (λ m le s. GoesOn _ (h m (omega arith) (record env { stage = s }) c.slots
     (record { holds = fits.holds; room = fits.room; names = fits.names })))))
 
@@ -157,19 +169,23 @@ leaves scope b env after slots now f g =
     record {
       holds = holds_take (length env.locals) after.locals now g.holds;
       room = g.room;
-      names = names_take (length env.locals) after.locals ∙ ap (take (length env.locals)) (g.names ∙ r.1) ∙ ap (λ i. take i (scope ++ r.0)) n
+      names = names_take (length env.locals) after.locals ∙ ap (take (length env.locals)) (g.names ∙ r.1)
+          ∙ ap (λ i. take i (scope ++ r.0)) n
           ∙ take-append-le (length scope) scope r.0 (omega arith) ∙ take_all (length scope) scope (omega arith);
     }
 
 -- the code of a statement follows it, at any index of the code
 abbrev pub StatementRuns : CodeSetting → (List ℕ → Option CellRange) → ℕ → Statement → Type 0
-StatementRuns p cells turns s = (n at : ℕ) (scope : List (List ℕ)) (env : Environment) (slots : List ℤ) (k : Environment → Interaction ColumnEnd)
-    → n < turns → HoldsLocals scope env slots → StatementStaysInBounds p.bounds cells scope s → HasAt p.code at (statement_code cells scope at s)
+StatementRuns p cells turns s = (n at : ℕ) (scope : List (List ℕ)) (env : Environment) (slots : List ℤ)
+    (k : Environment → Interaction ColumnEnd)
+    → n < turns → HoldsLocals scope env slots → StatementStaysInBounds p.bounds cells scope s
+    → HasAt p.code at (statement_code cells scope at s)
     → FollowsAtEnd p n (locals_after scope s) (at + length (statement_code cells scope at s)) k
     → FollowsAt p n (ready at slots env) (bind (execute (setting_with p cells turns) s env) k)
 
 abbrev pub StatementsRun : CodeSetting → (List ℕ → Option CellRange) → ℕ → Statements → Type 0
-StatementsRun p cells turns b = (n at : ℕ) (scope : List (List ℕ)) (env : Environment) (slots : List ℤ) (k : Environment → Interaction ColumnEnd)
+StatementsRun p cells turns b = (n at : ℕ) (scope : List (List ℕ)) (env : Environment) (slots : List ℤ)
+    (k : Environment → Interaction ColumnEnd)
     → n < turns → HoldsLocals scope env slots → StatementsStayInBounds p.bounds cells scope b
     → HasAt p.code at (statements_code cells scope at b)
     → FollowsAtEnd p n (locals_at_end scope b) (at + length (statements_code cells scope at b)) k
@@ -183,8 +199,10 @@ branch p n c q rest (pos zero) a b f zero_on else_on = GoesOn _ zero_on
 branch p n c q rest (pos (suc v)) a b f zero_on else_on = GoesOn _ else_on
 branch p n c q rest (negsuc v) a b f zero_on else_on = GoesOn _ else_on
 
-while_run : (p : CodeSetting) (cells : List ℕ → Option CellRange) (turns : ℕ) (e : Expression) (b : Statements) → StatementsRun p cells turns b
-    → (t n at : ℕ) (scope : List (List ℕ)) (env : Environment) (slots : List ℤ) (k : Environment → Interaction ColumnEnd) → n < t → n < turns
+while_run : (p : CodeSetting) (cells : List ℕ → Option CellRange) (turns : ℕ) (e : Expression) (b : Statements)
+    → StatementsRun p cells turns b
+    → (t n at : ℕ) (scope : List (List ℕ)) (env : Environment) (slots : List ℤ) (k : Environment → Interaction ColumnEnd) → n < t
+    → n < turns
     → HoldsLocals scope env slots → StatementStaysInBounds p.bounds cells scope (While e b)
     → HasAt p.code at (statement_code cells scope at (While e b))
     → FollowsAtEnd p n scope (at + length (statement_code cells scope at (While e b))) k
@@ -201,15 +219,19 @@ while_run p cells turns e b body (suc t) n at scope env slots k lt few fits good
     let again = λ (after : Environment). loop_turns t (λ v. evaluate (setting_with p cells turns) v.locals e)
     (execute_all (setting_with p cells turns) b) (leave_block env after) in
     let go = bind (execute_all (setting_with p cells turns) b env) again in
-    subst (FollowsAt p n (ready at slots env)) (sym (bind-assoc (evaluate (setting_with p cells turns) env.locals e) (λ v. Step (if_zero v (Return env) go)) k))
-    (expression_on p cells turns env.locals scope fits.names e n (ready at slots env) (λ v. bind (Step (if_zero v (Return env) go)) k) fits.holds
+    subst (FollowsAt p n (ready at slots env)) (sym (bind-assoc (evaluate (setting_with p cells turns) env.locals e)
+    (λ v. Step (if_zero v (Return env) go)) k))
+    (expression_on p cells turns env.locals scope fits.names e n (ready at slots env) (λ v. bind (Step (if_zero v (Return env) go)) k)
+    fits.holds
     good.0 (first_at p.code at ct _ has) (λ m le v.
     let c = state_at (at + length ct) (v ∷ []) slots env in
     at_instr p m c (instrs.Branch end) _ hb.0
     (step_over p m _ _ (λ l less. branch p l c end [] v (Return env) go k
     (subst (λ q. FollowsAt p l (ready q slots env) (k env)) len (h l (omega arith) env slots fits))
-    (subst (FollowsAt p l (ready (at + length ct + 1) slots env)) (sym (bind-assoc (execute_all (setting_with p cells turns) b env) again k))
-    (body l (at + length ct + 1) scope env slots (λ after. bind (again after) k) (omega (arith, few)) fits good.1 (first_at p.code _ cb _ hb.1)
+    (subst (FollowsAt p l (ready (at + length ct + 1) slots env))
+    (sym (bind-assoc (execute_all (setting_with p cells turns) b env) again k))
+    (body l (at + length ct + 1) scope env slots (λ after. bind (again after) k) (omega (arith, few)) fits good.1
+    (first_at p.code _ cb _ hb.1)
     (λ j le' after now f.
     at_instr p j (ready (at + length ct + 1 + length cb) now after) (instrs.Jump at) _ (rest_at p.code _ cb _ hb.1).0
     (GoesOn _ (while_run p cells turns e b body t j at scope (leave_block env after) now k (omega (arith, lt)) (omega (arith, few))
@@ -223,7 +245,8 @@ mutual
       omega (arith, length-append ce (instrs.SetLocal (length scope) ∷ [])) in
       subst (FollowsAt p n (ready at slots env)) (sym
       (bind-assoc (evaluate (setting_with p cells turns) env.locals e) (λ v. Step (Return (declare_local env x v))) k))
-      (expression_on p cells turns env.locals scope fits.names e n (ready at slots env) (λ v. Step (k (declare_local env x v))) fits.holds good.0
+      (expression_on p cells turns env.locals scope fits.names e n (ready at slots env) (λ v. Step (k (declare_local env x v))) fits.holds
+      good.0
       (first_at p.code at ce _ has) (λ m le v.
       at_instr p m (state_at (at + length ce) (v ∷ []) slots env) (instrs.SetLocal (length scope)) _ (rest_at p.code at ce _ has).0
       (let_run p m (at + length ce) scope env slots x v k fits good.1 (fewer p n m _ _ k le (ends_at p n _ _ _ k len h)))))
@@ -231,7 +254,8 @@ mutual
       let ce = expression_code cells scope at e in
       let i = assign_code (slot_of scope x) (cells x) in
       let len : at + length ce + 1 ≡ at + length (ce ++ i ∷ []) = omega (arith, length-append ce (i ∷ [])) in
-      let found = subst (λ s. FoundTogether (slot_of s x) (local_value env.locals x) slots) fits.names (finds env.locals slots x fits.holds) in
+      let found = subst (λ s. FoundTogether (slot_of s x) (local_value env.locals x) slots) fits.names
+      (finds env.locals slots x fits.holds) in
       subst (FollowsAt p n (ready at slots env)) (sym
       (bind-assoc (evaluate (setting_with p cells turns) env.locals e) (λ v. Step (assign env (local_value env.locals x) (cells x) x v)) k))
       (expression_on p cells turns env.locals scope fits.names e n (ready at slots env)
@@ -251,10 +275,12 @@ mutual
       (bind-assoc (evaluate (setting_with p cells turns) env.locals i) (λ j. bind (evaluate (setting_with p cells turns) env.locals e)
       (put j)) k))
       (expression_on p cells turns env.locals scope fits.names i n (ready at slots env)
-      (λ j. bind (bind (evaluate (setting_with p cells turns) env.locals e) (put j)) k) fits.holds good.0 (first_at p.code at ci _ has) (λ m le j.
+      (λ j. bind (bind (evaluate (setting_with p cells turns) env.locals e) (put j)) k) fits.holds good.0 (first_at p.code at ci _ has)
+      (λ m le j.
       let c = state_at (at + length ci) (j ∷ []) slots env in
       subst (FollowsAt p m c) (sym (bind-assoc (evaluate (setting_with p cells turns) env.locals e) (put j) k))
-      (expression_on p cells turns env.locals scope fits.names e m c (λ v. bind (put j v) k) fits.holds good.1 (first_at p.code _ ce _ hb) (λ l le' v.
+      (expression_on p cells turns env.locals scope fits.names e m c (λ v. bind (put j v) k) fits.holds good.1 (first_at p.code _ ce _ hb)
+      (λ l le' v.
       at_instr p l (state_at (at + length ci + length ce) (v ∷ j ∷ []) slots env) o _ (rest_at p.code _ ce _ hb).0
       (put_run p l (at + length ci + length ce) scope env slots j v (cells x) k fits good.2
       (fewer p n l _ _ k (omega (arith, le, le')) (ends_at p n _ _ _ k len h)))))))
@@ -333,7 +359,8 @@ loop_test : (p : CodeSetting) (n : ℕ) (c : CodeState) (v : ℤ) (body : Intera
     → Follows p n (after_loop_test p.world v (goes_to c (c.place + 1) [])) (after_test p.world v body)
 loop_test p n c v body h = at_test v
   where
-    on : (b : Bool) → Follows p n (if b then Raise traps.IterLimit else goes_to c (c.place + 1) []) (if b then Raise traps.IterLimit else body)
+    on : (b : Bool) → Follows p n (if b then Raise traps.IterLimit else goes_to c (c.place + 1) [])
+        (if b then Raise traps.IterLimit else body)
     on true = Raises _
     on false = GoesOn _ h
 
@@ -361,7 +388,8 @@ iteration_runs p cells turns n at slots test body few room_is good_test good has
     at_instr p j (ready (at + length ct + 1 + length cb) now env) instrs.End _ (rest_at p.code _ cb _ hb.1).0 (Finishes _))))))
 
 -- the code of a part without a loop runs it
-pub part_runs : (p : CodeSetting) (cells : List ℕ → Option CellRange) (turns : ℕ) (n at : ℕ) (slots : List ℤ) (body : Statements) → n < turns
+pub part_runs : (p : CodeSetting) (cells : List ℕ → Option CellRange) (turns : ℕ) (n at : ℕ) (slots : List ℤ) (body : Statements)
+    → n < turns
     → MOST_LOCALS ≤ length slots → StatementsStayInBounds p.bounds cells [] body → HasAt p.code at (part_code cells at body)
     → FollowsAt p n (ready at slots first_environment) (bind (execute_all (setting_with p cells turns) body first_environment)
     (λ env. Return ends.End))

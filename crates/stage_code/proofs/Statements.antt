@@ -1,11 +1,13 @@
 -- The code of statements, one statement after the other, and the code of statements with blocks.
-use Rattle.std.proofs.Common.{◌≡◌, ◌∙◌, ℕ, ◌+◌, ◌<◌, ◌≤◌, List, [], ◌∷◌, ◌++◌, length, take, drop, get_or, refl, sym, ap, subst, arith, Option, length-append, append_assoc, append-nil, length-set}
+use Rattle.std.proofs.Common.{◌≡◌, ◌∙◌, ℕ, ◌+◌, ◌<◌, ◌≤◌, List, [], ◌∷◌, ◌++◌, length, take, drop, get_or, refl, sym, ap, subst, arith}
+use Rattle.std.proofs.Common.{Option, length-append, append_assoc, append-nil, length-set}
 use Rattle.std.specs.Prelude.{slice_set}
 use Rattle.std.proofs.Math.Seq.{take-append_seam}
 use Rattle.std.proofs.lemmas.List.{drop_all, at_drop_more}
 use Rattle.pipe_model.specs.declared.tree.Stmt.{Stmt}
 use Rattle.pipe_model.specs.Language.Evaluation.{CellRange}
-use Rattle.pipe_model.specs.Language.SyntaxTree.{Expression, Statement, Let, Assign, AssignElement, Emit, If, While, Stage, NextStage, Statements, Empty, Then, statement_of, statements_of}
+use Rattle.pipe_model.specs.Language.SyntaxTree.{Expression, Statement, Let, Assign, AssignElement, Emit, If, While, Stage, NextStage}
+use Rattle.pipe_model.specs.Language.SyntaxTree.{Statements, Empty, Then, statement_of, statements_of}
 use Rattle.stage_code.specs.declared.code_bounds.TheConstants.{LONGEST_CODE}
 use Rattle.stage_code.specs.CodeOfTrees.{expression_code, statement_code, statements_code}
 use Rattle.stage_code.specs.Fitting.{CodeFits}
@@ -20,14 +22,24 @@ statements_from ss i s h e = at_drop_more statements_of ss i s h ∙ ap (λ x. T
 
 pub statement_fits : (cells : List ℕ → Option CellRange) (scope first_scope : List (List ℕ)) (ss : List Stmt) (i : ℕ) (now old : List Instr)
     (all : Statements) (s : Stmt) → i < length ss → s ≡ get_or ss i s
-    → now ++ statements_code cells scope (length now) (statements_of (drop i ss)) ≡ old ++ statements_code cells first_scope (length old) all
-    → CodeFits old (statements_code cells first_scope (length old) all) → CodeFits now (statement_code cells scope (length now) (statement_of s))
+    → now ++ statements_code cells scope (length now) (statements_of (drop i ss)) ≡ old ++ statements_code cells first_scope
+    (length old) all
+    → CodeFits old (statements_code cells first_scope (length old) all)
+    → CodeFits now (statement_code cells scope (length now) (statement_of s))
 statement_fits cells scope first_scope ss i now old all s h e is few =
     let code = statement_code cells scope (length now) (statement_of s) in
     let rest = statements_code cells (locals_after scope (statement_of s)) (length now + length code) (statements_of (drop (i + 1) ss)) in
     let from : length (now ++ (code ++ rest)) ≡ length (old ++ statements_code cells first_scope (length old) all) =
     ap (λ t. length (now ++ statements_code cells scope (length now) t)) (sym (statements_from ss i s h e)) ∙ ap length is in
-    omega (arith, from, few, length-append now (code ++ rest), length-append code rest, length-append old (statements_code cells first_scope (length old) all))
+    omega (
+      arith,
+      from,
+      few,
+      length-append now (code ++ rest),
+      length-append code rest,
+      length-append old
+          (statements_code cells first_scope (length old) all),
+    )
 
 pub statement_slots : (scope : List (List ℕ)) (ss : List Stmt) (i : ℕ) (s : Stmt) → i < length ss → s ≡ get_or ss i s
     → HaveSlots scope (statements_of (drop i ss))
@@ -67,11 +79,13 @@ first_locals scope ss =
 pub block_left : (first_scope scope : List (List ℕ)) (ss : List Stmt) (i : ℕ) (all : Statements) → length ss ≤ i
     → locals_at_end scope (statements_of (drop i ss)) ≡ locals_at_end first_scope all → take (length first_scope) scope ≡ first_scope
 block_left first_scope scope ss i all h is =
-    ap (take (length first_scope)) (ap (λ l. locals_at_end scope (statements_of l)) (sym (drop_all i ss h)) ∙ is) ∙ first_locals first_scope all
+    ap (take (length first_scope)) (ap (λ l. locals_at_end scope (statements_of l)) (sym (drop_all i ss h)) ∙ is)
+    ∙ first_locals first_scope all
 
 -- ---- branches and loops
 
-if_fits : (cells : List ℕ → Option CellRange) (scope : List (List ℕ)) (e : Expression) (a b : Statements) (whole : Statement) (base : List Instr)
+if_fits : (cells : List ℕ → Option CellRange) (scope : List (List ℕ)) (e : Expression) (a b : Statements) (whole : Statement)
+    (base : List Instr)
     (test body other : List Instr) → whole ≡ If e a b
     → CodeFits base (statement_code cells scope (length base) whole) → test ≡ expression_code cells scope (length base) e
     → body ≡ statements_code cells scope (length base + length test + 1) a
@@ -109,7 +123,8 @@ pub record IfFits (cells : List ℕ → Option CellRange) (scope : List (List �
 
 pub if_parts : (cells : List ℕ → Option CellRange) (scope : List (List ℕ)) (e : Expression) (a b : Statements) (whole : Statement)
     (base c1 c2 : List Instr) (x : Instr) → whole ≡ If e a b
-    → CodeFits base (statement_code cells scope (length base) whole) → c1 ≡ base ++ expression_code cells scope (length base) e → c2 ≡ c1 ++ x ∷ []
+    → CodeFits base (statement_code cells scope (length base) whole) → c1 ≡ base ++ expression_code cells scope (length base) e
+    → c2 ≡ c1 ++ x ∷ []
     → IfFits cells scope a b (length base) (length c2) (length c2 + length (statements_code cells scope (length c2) a) + 1)
 if_parts cells scope e a b whole base c1 c2 x is few e1 e2 =
     let at = length base in
@@ -125,39 +140,48 @@ if_parts cells scope e a b whole base c1 c2 x is few e1 e2 =
 
 pub first_fits : (cells : List ℕ → Option CellRange) (scope : List (List ℕ)) (e : Expression) (a b : Statements) (whole : Statement)
     (base c1 c2 : List Instr) (x : Instr) → whole ≡ If e a b
-    → CodeFits base (statement_code cells scope (length base) whole) → c1 ≡ base ++ expression_code cells scope (length base) e → c2 ≡ c1 ++ x ∷ []
+    → CodeFits base (statement_code cells scope (length base) whole) → c1 ≡ base ++ expression_code cells scope (length base) e
+    → c2 ≡ c1 ++ x ∷ []
     → CodeFits c2 (statements_code cells scope (length c2) a)
 first_fits cells scope e a b whole base c1 c2 x is few e1 e2 = (if_parts cells scope e a b whole base c1 c2 x is few e1 e2).body
 
 -- the index after the first block
 pub between_fits : (cells : List ℕ → Option CellRange) (scope : List (List ℕ)) (e : Expression) (a b : Statements) (whole : Statement)
     (base c1 c2 c3 c4 : List Instr) (x y : Instr) → whole ≡ If e a b
-    → CodeFits base (statement_code cells scope (length base) whole) → c1 ≡ base ++ expression_code cells scope (length base) e → c2 ≡ c1 ++ x ∷ []
+    → CodeFits base (statement_code cells scope (length base) whole) → c1 ≡ base ++ expression_code cells scope (length base) e
+    → c2 ≡ c1 ++ x ∷ []
     → c3 ≡ c2 ++ statements_code cells scope (length c2) a → c4 ≡ c3 ++ y ∷ [] → CodeFits c4 (statements_code cells scope (length c4) b)
 between_fits cells scope e a b whole base c1 c2 c3 c4 x y is few e1 e2 e3 e4 =
     let body = statements_code cells scope (length c2) a in
-    let l4 : length c4 ≡ length c2 + length body + 1 = omega (arith, ap length e4, length-append c3 (y ∷ []), ap length e3, length-append c2 body) in
-    subst (λ n. n + length (statements_code cells scope n b) ≤ LONGEST_CODE) (sym l4) (if_parts cells scope e a b whole base c1 c2 x is few e1 e2).other
+    let l4 : length c4 ≡ length c2 + length body + 1 =
+    omega (arith, ap length e4, length-append c3 (y ∷ []), ap length e3, length-append c2 body) in
+    subst (λ n. n + length (statements_code cells scope n b) ≤ LONGEST_CODE) (sym l4)
+    (if_parts cells scope e a b whole base c1 c2 x is few e1 e2).other
 
 -- the second block
-pub second_fits : (cells : List ℕ → Option CellRange) (scope between : List (List ℕ)) (b : Statements) (c4 : List Instr) (hole : ℕ) (i : Instr)
+pub second_fits : (cells : List ℕ → Option CellRange) (scope between : List (List ℕ)) (b : Statements) (c4 : List Instr) (hole : ℕ)
+    (i : Instr)
     → between ≡ scope
-    → CodeFits c4 (statements_code cells scope (length c4) b) → CodeFits (slice_set c4 hole i) (statements_code cells between (length (slice_set c4 hole i)) b)
+    → CodeFits c4 (statements_code cells scope (length c4) b) → CodeFits (slice_set c4 hole i)
+    (statements_code cells between (length (slice_set c4 hole i)) b)
 second_fits cells scope between b c4 hole i left few =
-    subst (λ (names : List (List ℕ)). CodeFits (slice_set c4 hole i) (statements_code cells names (length (slice_set c4 hole i)) b)) (sym left)
+    subst (λ (names : List (List ℕ)). CodeFits (slice_set c4 hole i) (statements_code cells names (length (slice_set c4 hole i)) b))
+    (sym left)
     (subst (λ n. n + length (statements_code cells scope n b) ≤ LONGEST_CODE) (sym (length-set c4 hole i)) few)
 
 pub if_slots : (scope : List (List ℕ)) (e : Expression) (a b : Statements) (whole : Statement) → whole ≡ If e a b → HasSlots scope whole
     → HaveSlots scope a × HaveSlots scope b
 if_slots scope e a b whole is slots = subst (λ s. HasSlots scope s) is slots
 
-pub while_slots : (scope : List (List ℕ)) (e : Expression) (a : Statements) (whole : Statement) → whole ≡ While e a → HasSlots scope whole → HaveSlots scope a
+pub while_slots : (scope : List (List ℕ)) (e : Expression) (a : Statements) (whole : Statement) → whole ≡ While e a → HasSlots scope whole
+    → HaveSlots scope a
 while_slots scope e a whole is slots = subst (λ s. HasSlots scope s) is slots
 
 -- the body of a loop, and the jump after it
 pub body_fits : (cells : List ℕ → Option CellRange) (scope : List (List ℕ)) (e : Expression) (a : Statements) (whole : Statement)
     (base c1 c2 : List Instr) (x : Instr) → whole ≡ While e a
-    → CodeFits base (statement_code cells scope (length base) whole) → c1 ≡ base ++ expression_code cells scope (length base) e → c2 ≡ c1 ++ x ∷ []
+    → CodeFits base (statement_code cells scope (length base) whole) → c1 ≡ base ++ expression_code cells scope (length base) e
+    → c2 ≡ c1 ++ x ∷ []
     → length c2 + length (statements_code cells scope (length c2) a) + 1 ≤ LONGEST_CODE
 body_fits cells scope e a whole base c1 c2 x is few e1 e2 =
     let at = length base in

@@ -1,8 +1,10 @@
--- Trees whose code stays in bounds: names are known, and there is room for the stack, the slots and the cells. And code that is part of other code.
+-- Trees whose code stays in bounds: names are known, and there is room for the stack, the slots and the cells. And code that is part of
+-- other code.
 use Rattle.std.specs.Prelude.{ℕ, suc, ◌+◌, ◌<◌, ◌≤◌, List, length, Option, Some, None}
 use Rattle.pipe_model.specs.declared.bounds.TheConstants.{MOST_LOCALS}
 use Rattle.pipe_model.specs.Language.Evaluation.{CellRange}
-use Rattle.pipe_model.specs.Language.SyntaxTree.{Expression, Number, Name, Element, And, Or, Binary, Unary, More, Take, Iter, Statement, Let, Assign, AssignElement, Emit, If, While, Stage, NextStage, Statements, Empty, Then}
+use Rattle.pipe_model.specs.Language.SyntaxTree.{Expression, Number, Name, Element, And, Or, Binary, Unary, More, Take, Iter, Statement}
+use Rattle.pipe_model.specs.Language.SyntaxTree.{Let, Assign, AssignElement, Emit, If, While, Stage, NextStage, Statements, Empty, Then}
 use Rattle.stage_code.specs.Instructions.{Bounds}
 use Rattle.stage_code.specs.Slots.{slot_of, locals_after}
 
@@ -35,7 +37,8 @@ abbrev mutual
   pub StatementStaysInBounds : Bounds → (List ℕ → Option CellRange) → List (List ℕ) → Statement → Type 0
   StatementStaysInBounds b cells scope (Let x e) = StaysInBounds b cells scope 0 e × (length scope < MOST_LOCALS)
   StatementStaysInBounds b cells scope (Assign x e) = StaysInBounds b cells scope 0 e × IsKnown b (slot_of scope x) (cells x)
-  StatementStaysInBounds b cells scope (AssignElement x i e) = StaysInBounds b cells scope 0 i × StaysInBounds b cells scope 1 e × HasCells b (cells x)
+  StatementStaysInBounds b cells scope (AssignElement x i e) = StaysInBounds b cells scope 0 i × StaysInBounds b cells scope 1 e
+      × HasCells b (cells x)
   StatementStaysInBounds b cells scope (Emit e) = StaysInBounds b cells scope 0 e × (2 ≤ b.cells)
   StatementStaysInBounds b cells scope (If e l r) = StaysInBounds b cells scope 0 e × StatementsStayInBounds b cells scope l
       × StatementsStayInBounds b cells scope r
@@ -46,4 +49,5 @@ abbrev mutual
   -- statements in order
   pub StatementsStayInBounds : Bounds → (List ℕ → Option CellRange) → List (List ℕ) → Statements → Type 0
   StatementsStayInBounds b cells scope Empty = Unit {0}
-  StatementsStayInBounds b cells scope (Then s ss) = StatementStaysInBounds b cells scope s × StatementsStayInBounds b cells (locals_after scope s) ss
+  StatementsStayInBounds b cells scope (Then s ss) = StatementStaysInBounds b cells scope s
+      × StatementsStayInBounds b cells (locals_after scope s) ss

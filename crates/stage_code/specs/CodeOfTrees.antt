@@ -1,4 +1,5 @@
--- The flat code that `lower` makes, as functions of the tree. Jump targets are indices into the whole code, so each function takes the index
+-- The flat code that `lower` makes, as functions of the tree. Jump targets are indices into the whole code, so each function takes the
+-- index
 -- of its first instruction. A name is looked up among the locals in scope, which have slots, and then among the declared cells.
 use Rattle.std.specs.Prelude.{ℕ, pos, List, [], ◌∷◌, ◌++◌, Option, Some, None, ◌+◌, length}
 use Rattle.pipe_model.specs.declared.tree.StageKind.{StageKind}
@@ -7,7 +8,9 @@ use Rattle.stage_code.specs.FlatCode.{FlatCode}
 use Rattle.pipe_model.specs.declared.tree.Limits.{Limits}
 use Rattle.pipe_model.specs.Language.Evaluation.{CellRange}
 use Rattle.pipe_model.specs.Language.Programs.{range_of}
-use Rattle.pipe_model.specs.Language.SyntaxTree.{Expression, Number, Name, Element, And, Or, Binary, Unary, More, Take, Iter, Statement, Let, Assign, AssignElement, Emit, If, While, Stage, NextStage, Statements, Empty, Then, SyntaxTree}
+use Rattle.pipe_model.specs.Language.SyntaxTree.{Expression, Number, Name, Element, And, Or, Binary, Unary, More, Take, Iter, Statement}
+use Rattle.pipe_model.specs.Language.SyntaxTree.{Let, Assign, AssignElement, Emit, If, While, Stage, NextStage, Statements, Empty, Then}
+use Rattle.pipe_model.specs.Language.SyntaxTree.{SyntaxTree}
 use Rattle.stage_code.specs.Slots.{slot_of, locals_after}
 use Rattle.stage_code.specs.Heights.{greatest_height}
 use Rattle.stage_code.specs.declared.instr.Instr.{Instr}

@@ -1,5 +1,7 @@
--- Flat code that follows an interaction tree: it takes the same steps, makes the same accesses, whatever the replies, goes to the same stages, and
--- has the same end. Code that is stuck follows no tree, so where code follows a tree, its stack, its slots, its cells and its jumps are in range.
+-- Flat code that follows an interaction tree: it takes the same steps, makes the same accesses, whatever the replies, goes to the same
+-- stages, and
+-- has the same end. Code that is stuck follows no tree, so where code follows a tree, its stack, its slots, its cells and its jumps are in
+-- range.
 use Rattle.std.specs.Prelude.{ℕ, zero, suc, ℤ}
 use Rattle.pipe_model.specs.declared.column.ColumnEnd.{ColumnEnd}
 use Rattle.pipe_model.specs.declared.node.Kind.{Kind}
@@ -14,7 +16,8 @@ pub data Follows (p : CodeSetting) : ℕ → Interaction Transition → Interact
   Steps : {n : ℕ} {m : Interaction Transition} {d : Interaction ColumnEnd} → Follows p n m d → Follows p (suc n) (Step m) (Step d)
   Gets : {n : ℕ} {go : ℤ → Interaction Transition} {on : ℤ → Interaction ColumnEnd} (c : ℕ) → ((v : ℤ) → Follows p n (go v) (on v))
       → Follows p n (Get c go) (Get c on)
-  Sets : {n : ℕ} {m : Interaction Transition} {d : Interaction ColumnEnd} (c : ℕ) (v : ℤ) → Follows p n m d → Follows p n (Set c v m) (Set c v d)
+  Sets : {n : ℕ} {m : Interaction Transition} {d : Interaction ColumnEnd} (c : ℕ) (v : ℤ) → Follows p n m d
+      → Follows p n (Set c v m) (Set c v d)
   Stages : {n : ℕ} {m : Interaction Transition} {d : Interaction ColumnEnd} (k : Kind) (i : ℤ) → Follows p n m d
       → Follows p n (interactions.Stage k i m) (interactions.Stage k i d)
   Raises : {n : ℕ} (t : Trap) → Follows p n (Raise t) (Raise t)

@@ -36,7 +36,8 @@ pub record HasRoomToRun (tree : SyntaxTree) (code : FlatCode) (bounds : Bounds) 
   pub cells : cell_total tree.cells + 2 ≤ bounds.cells
   pub locals : MOST_LOCALS ≤ length slots
 
--- from a start the code does what an interaction tree of the program does in iteration i, for as many steps as the budgets of all stage instances
+-- from a start the code does what an interaction tree of the program does in iteration i, for as many steps as the budgets of all stage
+-- instances
 -- together allow
 abbrev pub RunsFrom : SyntaxTree → FlatCode → ℕ → List ℤ → ℕ → Interaction ColumnEnd → Type 0
 RunsFrom tree code start input i part =

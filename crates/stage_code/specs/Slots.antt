@@ -2,7 +2,8 @@
 use Rattle.std.specs.Prelude.{◌<◌, ℕ, suc, List, [], ◌∷◌, ◌++◌, Option, Some, None, if◌then◌else◌, length}
 use Rattle.std.specs.Str.{bytes_eq}
 use Rattle.pipe_model.specs.declared.bounds.TheConstants.{MOST_LOCALS}
-use Rattle.pipe_model.specs.Language.SyntaxTree.{Statement, Let, Assign, AssignElement, Emit, If, While, Stage, NextStage, Statements, Empty, Then}
+use Rattle.pipe_model.specs.Language.SyntaxTree.{Statement, Let, Assign, AssignElement, Emit, If, While, Stage, NextStage, Statements}
+use Rattle.pipe_model.specs.Language.SyntaxTree.{Empty, Then}
 
 -- the slot, if there is one more local before it
 abbrev pub one_later : Option ℕ → Option ℕ

@@ -31,7 +31,8 @@ fn put_part(
     cells: &CellRanges,
     block: &Block,
 ) -> Result<(), NoMemory>
-    requires fits { CodeFits code.old.items (part_code (range_of 2 cells.now) (length code.old.items) (statements_of block.now.statements.items)) }
+    requires fits { CodeFits code.old.items (part_code (range_of 2 cells.now) (length code.old.items)
+        (statements_of block.now.statements.items)) }
     requires slots { HaveSlots [] (statements_of block.now.statements.items) }
     ensures { OnOk result (code.new.items
         ≡ code.old.items ++ part_code (range_of 2 cells.now) (length code.old.items) (statements_of block.now.statements.items)) }

@@ -2,8 +2,10 @@
 
 ghost use Rattle.std.specs.Prelude.{◌≡◌, ◌≤◌, ◌<◌, ◌+◌, ◌++◌, ◌∷◌, [], OnOk, length};
 ghost use Rattle.pipe_model.specs.Language.Programs.{range_of};
-ghost use Rattle.pipe_model.specs.Language.SyntaxTree.{Assign, AssignElement, Emit, Let, expression_of, stage_statement, statement_of, statements_of};
-ghost use Rattle.stage_code.specs.CodeOfTrees.{assign_code, assign_element_code, next_stage_code, stage_code, statement_code, statements_code};
+ghost use Rattle.pipe_model.specs.Language.SyntaxTree.{Assign, AssignElement, Emit, Let, expression_of, stage_statement, statement_of};
+ghost use Rattle.pipe_model.specs.Language.SyntaxTree.{statements_of};
+ghost use Rattle.stage_code.specs.CodeOfTrees.{assign_code, assign_element_code, next_stage_code, stage_code, statement_code};
+ghost use Rattle.stage_code.specs.CodeOfTrees.{statements_code};
 ghost use Rattle.stage_code.specs.Fitting.{CodeFits};
 ghost use Rattle.pipe_model.specs.declared.bounds.TheConstants.{MOST_LOCALS};
 ghost use Rattle.stage_code.specs.Slots.{HasSlots, HaveSlots, locals_after, slot_of};
@@ -72,7 +74,8 @@ fn put_assign(
     requires { CodeFits code.old.items (statement_code (range_of 2 cells.now) locals.now (length code.old.items)
         (Assign name.now (expression_of e.now))) }
     ensures { OnOk result (code.new.items
-        ≡ code.old.items ++ statement_code (range_of 2 cells.now) locals.now (length code.old.items) (Assign name.now (expression_of e.now))) }
+        ≡ code.old.items ++ statement_code (range_of 2 cells.now) locals.now (length code.old.items)
+        (Assign name.now (expression_of e.now))) }
 {
     put_expression(code, cells, locals, e)?;
     put(code, assign_code(cells, locals, name))
@@ -105,7 +108,8 @@ fn put_emit(
     locals: &Locals,
     e: &Expr,
 ) -> Result<(), NoMemory>
-    requires { CodeFits code.old.items (statement_code (range_of 2 cells.now) locals.now (length code.old.items) (Emit (expression_of e.now))) }
+    requires { CodeFits code.old.items (statement_code (range_of 2 cells.now) locals.now (length code.old.items)
+        (Emit (expression_of e.now))) }
     ensures { OnOk result (code.new.items
         ≡ code.old.items ++ statement_code (range_of 2 cells.now) locals.now (length code.old.items) (Emit (expression_of e.now))) }
 {
@@ -141,7 +145,8 @@ fn put_stage(
     kind: StageKind,
     number: &Option<Expr>,
 ) -> Result<(), NoMemory>
-    requires { CodeFits code.old.items (statement_code (range_of 2 cells.now) locals.now (length code.old.items) (stage_statement kind number.now)) }
+    requires { CodeFits code.old.items (statement_code (range_of 2 cells.now) locals.now (length code.old.items)
+        (stage_statement kind number.now)) }
     ensures { OnOk result (code.new.items
         ≡ code.old.items ++ statement_code (range_of 2 cells.now) locals.now (length code.old.items) (stage_statement kind number.now)) }
 {
@@ -163,7 +168,8 @@ fn put_statement(
     locals: &mut Locals,
     s: &Stmt,
 ) -> Result<(), NoMemory>
-    requires fits { CodeFits code.old.items (statement_code (range_of 2 cells.now) locals.old (length code.old.items) (statement_of s.now)) }
+    requires fits { CodeFits code.old.items (statement_code (range_of 2 cells.now) locals.old (length code.old.items)
+        (statement_of s.now)) }
     requires slots { HasSlots locals.old (statement_of s.now) }
     ensures code { OnOk result (code.new.items
         ≡ code.old.items ++ statement_code (range_of 2 cells.now) locals.old (length code.old.items) (statement_of s.now)) }
@@ -214,7 +220,8 @@ pub fn put_block(
         (statements_of block.now.statements.items)) }
     requires slots { HaveSlots locals.old (statements_of block.now.statements.items) }
     ensures code { OnOk result (code.new.items
-        ≡ code.old.items ++ statements_code (range_of 2 cells.now) locals.old (length code.old.items) (statements_of block.now.statements.items)) }
+        ≡ code.old.items ++ statements_code (range_of 2 cells.now) locals.old (length code.old.items)
+        (statements_of block.now.statements.items)) }
     ensures after { OnOk result (locals.new ≡ locals.old) }
 {
     let visible = locals.len();

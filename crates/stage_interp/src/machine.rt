@@ -117,11 +117,13 @@ impl Machine {
         ensures ran { (t : Behaviour) → StandsFor code.now (M.served memory.old) input.now self.old.run t
             → RanInstance code.now (M.served memory.old) input.now t (M.made memory.old) (M.made memory.new) self.new.run result }
         ensures tree { (d : Interaction ColumnEnd) → StandsForTree code.now (M.served memory.old) input.now self.old.run d
-            → RanTree code.now (M.served memory.old) input.now d (natural code.now.limits.steps) (M.made memory.old) (M.made memory.new) self.new.run
+            → RanTree code.now (M.served memory.old) input.now d (natural code.now.limits.steps) (M.made memory.old)
+            (M.made memory.new) self.new.run
             result }
         ensures budget { self.new.run.budget ≡ natural code.now.limits.steps }
         ensures made { (c : FlatCode) → IsMadeFor c self.old → IsMadeFor c self.new }
-        ensures counts { Counts (Some result) self.old.run.state.stage.count self.new.run.state.stage.count (natural code.now.limits.stages) }
+        ensures counts { Counts (Some result) self.old.run.state.stage.count self.new.run.state.stage.count
+            (natural code.now.limits.stages) }
         ensures stops { StopsOnly (Some result) (M.stopped memory.new) }
         ensures serves { M.served memory.new ≡ M.served memory.old }
     {
@@ -146,10 +148,12 @@ impl Machine {
         ensures ran { (t : Behaviour) → IsStopped code.now (M.served memory.old) input.now self.old.run t
             → RanInstance code.now (M.served memory.old) input.now t (M.made memory.old) (M.made memory.new) self.new.run result }
         ensures tree { (d : Interaction ColumnEnd) → IsStoppedTree code.now (M.served memory.old) input.now self.old.run d
-            → RanTree code.now (M.served memory.old) input.now d self.old.run.left (M.made memory.old) (M.made memory.new) self.new.run result }
+            → RanTree code.now (M.served memory.old) input.now d self.old.run.left (M.made memory.old)
+            (M.made memory.new) self.new.run result }
         ensures budget { self.new.run.budget ≡ self.old.run.budget }
         ensures made { (c : FlatCode) → IsMadeFor c self.old → IsMadeFor c self.new }
-        ensures counts { Counts (Some result) self.old.run.state.stage.count self.new.run.state.stage.count (natural code.now.limits.stages) }
+        ensures counts { Counts (Some result) self.old.run.state.stage.count self.new.run.state.stage.count
+            (natural code.now.limits.stages) }
         ensures stops { StopsOnly (Some result) (M.stopped memory.new) }
         ensures serves { M.served memory.new ≡ M.served memory.old }
     {

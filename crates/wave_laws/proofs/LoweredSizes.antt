@@ -96,7 +96,8 @@ new_nodes stages rest =
     let q = sum_by-cons node_count (lowered_bound stages) (has_left ∷ (next_row ∷ es)) in
     let r = sum_by-cons node_count has_left (next_row ∷ es) in
     let s = sum_by-cons node_count next_row es in
-    ap (λ l. sum_by node_count (minus_one ∷ (lowered_bound stages ∷ (has_left ∷ (next_row ∷ l))))) (append-nil es) ∙ omega (arith, p, q, r, s)
+    ap (λ l. sum_by node_count (minus_one ∷ (lowered_bound stages ∷ (has_left ∷ (next_row ∷ l))))) (append-nil es)
+    ∙ omega (arith, p, q, r, s)
 
 new_marks : (tree : SyntaxTree) → length (marks_of_statements (body_scope tree) (lowered_body tree.limits.stages (rest_of tree.body)))
     ≡ 6 + length (marks_of_statements (row_scope tree) (rest_of tree.body))

@@ -22,7 +22,8 @@ module _ {T Q : Type 0} where
     own_parts = omega (arith, same.own_parts, h.own_parts);
   }
 
-  own_deques : (old new : List (Ends T Q)) → length new ≡ length old → ((k : ℕ) (d : Ends T Q) → k < length old → SameDeques (get_or old k d) (get_or new k d))
+  own_deques : (old new : List (Ends T Q)) → length new ≡ length old
+      → ((k : ℕ) (d : Ends T Q) → k < length old → SameDeques (get_or old k d) (get_or new k d))
       → map deque_of new ≡ map deque_of old
   own_deques [] [] count same = refl
   own_deques [] (y ∷ ys) count same = absurd (omega (arith, count))
@@ -33,7 +34,8 @@ module _ {T Q : Type 0} where
       cc
 
   -- element by element, the same ends later
-  pub all_ends-same : (old new : List (Ends T Q)) → length new ≡ length old → ((k : ℕ) (d : Ends T Q) → k < length old → SameDeques (get_or old k d) (get_or new k d))
+  pub all_ends-same : (old new : List (Ends T Q)) → length new ≡ length old
+      → ((k : ℕ) (d : Ends T Q) → k < length old → SameDeques (get_or old k d) (get_or new k d))
       → AreAllEnds old → AreAllEnds new
   all_ends-same old new count same h = λ k d l.
       let within : k < length old = omega (arith, count, l) in

@@ -1,5 +1,6 @@
 -- Each step keeps what holds of a deque.
-use Rattle.std.proofs.Common.{◌≡◌, ◌∙◌, ℕ, zero, suc, ◌+◌, ◌-◌, ◌<◌, List, [], ◌∷◌, ◌++◌, All, get_or, length, map, set, sum_by, sym, ap, refl, arith}
+use Rattle.std.proofs.Common.{◌≡◌, ◌∙◌, ℕ, zero, suc, ◌+◌, ◌-◌, ◌<◌, List, [], ◌∷◌, ◌++◌, All, get_or, length, map, set, sum_by, sym, ap}
+use Rattle.std.proofs.Common.{refl, arith}
 use Rattle.std.proofs.lemmas.List.{map-append}
 use Rattle.std.proofs.lemmas.List.Elements.{All-push}
 use Rattle.std.proofs.lemmas.List.Sums.{sum_by-append, sum_by-cons, sum_by-set, sum_by_push}
@@ -17,7 +18,8 @@ found [] port v e = absurd (some-ne-none v (sym e))
 found (x ∷ xs) zero v e = (omega arith, cc)
 found (x ∷ xs) (suc n) v e = let h = found xs n v e in (omega (arith, h.0), h.1)
 
-sum-set : (f : Tally → ℕ) (vs : List Tally) (port : ℕ) (v w : Tally) → get_elem? vs port ≡ some v → sum_by f (set vs port w) + f v ≡ sum_by f vs + f w
+sum-set : (f : Tally → ℕ) (vs : List Tally) (port : ℕ) (v w : Tally) → get_elem? vs port ≡ some v
+    → sum_by f (set vs port w) + f v ≡ sum_by f vs + f w
 sum-set f vs port v w e =
     let h = found vs port v e in
     let at = ap f h.1 in
@@ -36,7 +38,8 @@ has_parts : (w : Tally) → 0 < w.parts → IsIdle w
 has_parts w one = λ none. absurd (omega (arith, one, none))
 
 -- no parts, nothing put and nothing taken
-nothing : (f : Tally → ℕ) → ((v : Tally) → (v.put ≡ []) × (v.taken ≡ []) → f v ≡ 0) → (vs : List Tally) → AreIdle vs → sum_by (λ u. u.parts) vs ≡ 0 → sum_by f vs ≡ 0
+nothing : (f : Tally → ℕ) → ((v : Tally) → (v.put ≡ []) × (v.taken ≡ []) → f v ≡ 0) → (vs : List Tally) → AreIdle vs
+    → sum_by (λ u. u.parts) vs ≡ 0 → sum_by f vs ≡ 0
 nothing f zero_of [] idle none = refl
 nothing f zero_of (x ∷ xs) idle none =
     let all = sum_by-cons (λ (u : Tally). u.parts) x xs in

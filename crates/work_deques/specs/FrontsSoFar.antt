@@ -1,4 +1,5 @@
--- The ends of all workers while fronts are added, or taken away again: worker after worker, and of each the fronts in the order of the deques.
+-- The ends of all workers while fronts are added, or taken away again: worker after worker, and of each the fronts in the order of the
+-- deques.
 use Rattle.std.specs.Prelude.{◌≡◌, ◌≤◌, ◌<◌, ◌+◌, [], ℕ, List, All, get_or, length, map, take}
 use Rattle.work_deques.specs.Tallies.{ALL_PARTS, tally}
 use Rattle.work_deques.specs.WorkerEnds.{Deque, capacity_of, deque_of, front_deques, front_parts, front_tallies, index_of, own_tally}
@@ -17,7 +18,8 @@ module _ {T Q : Type 0} where
   pub record AreSoFar (deques : List Deque) (workers made some : ℕ) (ends : List (Ends T Q)) : Type 0 where
     pub own : map deque_of ends ≡ deques
     pub one_part : All (λ e. All (λ p. p ≡ 1) (front_parts e)) ends
-    pub each : (j : ℕ) (d : Ends T Q) → j < length ends → IsSoFar deques workers made some j (own_tally (get_or ends j d)).parts (front_deques (get_or ends j d))
+    pub each : (j : ℕ) (d : Ends T Q) → j < length ends → IsSoFar deques workers made some j (own_tally (get_or ends j d)).parts
+        (front_deques (get_or ends j d))
 
   -- nothing was pushed, popped or stolen
   pub record AreUnused (capacity : ℕ) (e : Ends T Q) : Type 0 where

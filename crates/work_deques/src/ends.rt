@@ -25,9 +25,11 @@ pub struct Ends<T: Drop, Q: TaskTest<T>> {
 }
 
 impl<T: Drop, Q: TaskTest<T>> Ends<T, Q> {
-    ghost use Rattle.std.specs.Prelude.{◌≡◌, ◌<◌, ◌≤◌, ◌+◌, ◌∷◌, ◌++◌, [], ℕ, List, length, IfSome, IfErr, IfOk, MatchOption, MatchResult, min};
+    ghost use Rattle.std.specs.Prelude.{◌≡◌, ◌<◌, ◌≤◌, ◌+◌, ◌∷◌, ◌++◌, [], ℕ, List, length, IfSome, IfErr, IfOk, MatchOption, MatchResult};
+    ghost use Rattle.std.specs.Prelude.{min};
     ghost use Rattle.work_deques.specs.Tallies.{ALL_PARTS, IsEven, joined, tally, with_put, with_taken};
-    ghost use Rattle.work_deques.specs.WorkerEnds.{SameDeques, capacity_of, deque_of, deque_of_front, front_count, front_tallies, front_tally, index_of, own_tally, tally_of_front};
+    ghost use Rattle.work_deques.specs.WorkerEnds.{SameDeques, capacity_of, deque_of, deque_of_front, front_count, front_tallies};
+    ghost use Rattle.work_deques.specs.WorkerEnds.{front_tally, index_of, own_tally, tally_of_front};
 
     // Makes a deque with room for `capacity` tasks, and returns its back. There are no fronts yet.
     pub(crate) fn new(alloc: Global, capacity: u32) -> Result<Self, NoMemory>
@@ -47,7 +49,8 @@ impl<T: Drop, Q: TaskTest<T>> Ends<T, Q> {
         ensures index { index_of self.new ≡ index_of self.old }
         ensures room { capacity_of self.old ≤ capacity_of self.new }
         ensures deque { deque_of self.new ≡ deque_of self.old }
-        ensures own { IfOk result (λ f. own_tally self.old ≡ tally ((own_tally self.new).parts + 1) (own_tally self.new).put (own_tally self.new).taken) }
+        ensures own { IfOk result (λ f. own_tally self.old ≡ tally ((own_tally self.new).parts + 1) (own_tally self.new).put
+            (own_tally self.new).taken) }
         ensures fronts { self.new.fronts ≡ self.old.fronts }
         ensures made { IfOk result (λ f. deque_of_front f ≡ deque_of self.new) }
         ensures tally { IfOk result (λ f. tally_of_front f ≡ tally 1 [] []) }
@@ -112,7 +115,8 @@ impl<T: Drop, Q: TaskTest<T>> Ends<T, Q> {
         ensures full { IfErr result (λ t. capacity_of self.old ≤ index_of self.old) }
         ensures index { index_of self.new ≤ index_of self.old + 1 }
         ensures capacity { capacity_of self.old ≤ capacity_of self.new }
-        ensures own { MatchResult result (λ _. own_tally self.new ≡ with_put (own_tally self.old) (Q.tag task ∷ [])) (λ t. own_tally self.new ≡ own_tally self.old) }
+        ensures own { MatchResult result (λ _. own_tally self.new ≡ with_put (own_tally self.old) (Q.tag task ∷ []))
+            (λ t. own_tally self.new ≡ own_tally self.old) }
         ensures fronts { front_tallies self.new ≡ front_tallies self.old }
         ensures deques { SameDeques self.old self.new }
     {
@@ -124,7 +128,8 @@ impl<T: Drop, Q: TaskTest<T>> Ends<T, Q> {
         ensures test { IfSome result Q.meets }
         ensures index { index_of self.new ≤ index_of self.old }
         ensures capacity { capacity_of self.old ≤ capacity_of self.new }
-        ensures own { MatchOption result (own_tally self.new ≡ own_tally self.old) (λ t. own_tally self.new ≡ with_taken (own_tally self.old) (Q.tag t ∷ [])) }
+        ensures own { MatchOption result (own_tally self.new ≡ own_tally self.old)
+            (λ t. own_tally self.new ≡ with_taken (own_tally self.old) (Q.tag t ∷ [])) }
         ensures fronts { front_tallies self.new ≡ front_tallies self.old }
         ensures deques { SameDeques self.old self.new }
     {

@@ -27,7 +27,8 @@ impl<T: Drop, Q: TaskTest<T>> Front<T, Q> {
         requires parts { 1 < (worker_view owner.old).parts }
         ensures same { SameWorker owner.old owner.new × (worker_index owner.new ≡ worker_index owner.old) }
         ensures part { 0 < (worker_view owner.new).parts }
-        ensures owner { IfOk result (λ f. worker_view owner.old ≡ tally ((worker_view owner.new).parts + 1) (worker_view owner.new).put (worker_view owner.new).taken) }
+        ensures owner { IfOk result (λ f. worker_view owner.old ≡ tally ((worker_view owner.new).parts + 1) (worker_view owner.new).put
+            (worker_view owner.new).taken) }
         ensures deque { IfOk result (λ f. stealer_deque f.stealer ≡ worker_deque owner.new) }
         ensures tally { IfOk result (λ f. view f.pass ≡ tally 1 [] []) }
     {
@@ -39,7 +40,8 @@ impl<T: Drop, Q: TaskTest<T>> Front<T, Q> {
     // Takes the first task, if there is one. Tries again if another thread was quicker.
     pub fn steal<R: Wait>(&mut self, rt: &R) -> Option<T>
         ensures test { IfSome result Q.meets }
-        ensures tally { MatchOption result (view self.new.pass ≡ view self.old.pass) (λ t. view self.new.pass ≡ with_taken (view self.old.pass) (Q.tag t ∷ [])) }
+        ensures tally { MatchOption result (view self.new.pass ≡ view self.old.pass)
+            (λ t. view self.new.pass ≡ with_taken (view self.old.pass) (Q.tag t ∷ [])) }
         ensures deque { stealer_deque self.new.stealer ≡ stealer_deque self.old.stealer }
     {
         for _ in rt.forever() {

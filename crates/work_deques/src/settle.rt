@@ -26,7 +26,8 @@ fn give_back<T: Drop, Q: TaskTest<T>>(worker: usize, ends: &mut Vec<Ends<T, Q>>)
 // Adds up how many tasks are left in the deques.
 fn count<T: Drop, Q: TaskTest<T>>(mut ends: Vec<Ends<T, Q>>) -> u128
     requires { All IsWhole ends.items }
-    ensures { (left : List ℕ) × (length left ≡ result) × ((h : ℕ → ℕ) → weight_put h ends.items ≡ weight_taken h ends.items + sum_by h left) }
+    ensures { (left : List ℕ) × (length left ≡ result)
+        × ((h : ℕ → ℕ) → weight_put h ends.items ≡ weight_taken h ends.items + sum_by h left) }
 {
     let mut left = 0;
     while let Some(own) = ends.pop() {
@@ -41,7 +42,8 @@ fn count<T: Drop, Q: TaskTest<T>>(mut ends: Vec<Ends<T, Q>>) -> u128
 /// pushed. Does not allocate.
 pub fn settle<T: Drop, Q: TaskTest<T>>(mut ends: Vec<Ends<T, Q>>) -> u128
     requires { AreAllEnds ends.items }
-    ensures { (left : List ℕ) × (length left ≡ result) × ((h : ℕ → ℕ) → weight_put h ends.items ≡ weight_taken h ends.items + sum_by h left) }
+    ensures { (left : List ℕ) × (length left ≡ result)
+        × ((h : ℕ → ℕ) → weight_put h ends.items ≡ weight_taken h ends.items + sum_by h left) }
 {
     for worker in (0..ends.len()).rev() {
         give_back(worker, &mut ends);

@@ -1,5 +1,6 @@
 -- Each generated source is the canonical text of its program, and is accepted.
-use Rattle.std.proofs.Common.{◌≡◌, ◌≤◌, subst, length, length-append, refl, ℕ, pos, ◌*ℤ◌, None, false, true, arith, ap, sym, cond, Bool, ◌+◌, ◌∙◌, ◌∷◌, [], List, ◌++◌, append_assoc, int_lt}
+use Rattle.std.proofs.Common.{◌≡◌, ◌≤◌, subst, length, length-append, refl, ℕ, pos, ◌*ℤ◌, None, false, true, arith, ap, sym, cond, Bool}
+use Rattle.std.proofs.Common.{◌+◌, ◌∙◌, ◌∷◌, [], List, ◌++◌, append_assoc, int_lt}
 use Rattle.std.specs.Fmt.{decimal, digits}
 use Rattle.std.specs.List.{count_by}
 use Rattle.std.proofs.lemmas.Bool.Decides.{nat_tests}
@@ -139,7 +140,19 @@ spells size few = record {
         omega arith,
         (
           omega arith,
-          (omega arith, (omega arith, (omega arith, (omega arith, (omega arith, (omega arith, (omega arith, (omega arith, (omega arith, tt))))))))),
+          (
+            omega arith,
+            (
+              omega arith,
+              (
+                omega arith,
+                (
+                  omega arith,
+                  (omega arith, (omega arith, (omega arith, (omega arith, (omega arith, tt))))),
+                ),
+              ),
+            ),
+          ),
         ),
       ),
     ),
@@ -158,5 +171,10 @@ pub accepted : (size : ℕ) → 1 ≤ size → size ≤ MOST_SIZE → IsAccepted
 accepted size some few =
     let made = program_source (generated_tree size) (writable size few) (text_short size few) in
     let spelled : SourceSpells (program_text (generated_tree size)) (generated_tree size) =
-    record { tokens = made.tokens; lexed = made.lexed; spelled = subst (λ ts. Spells ts (generated_tree size)) (sym made.same) (spells size few) } in
+    record {
+      tokens = made.tokens;
+      lexed = made.lexed;
+      spelled = subst (λ ts. Spells ts (generated_tree size)) (sym made.same)
+          (spells size few);
+    } in
     record { spelled = subst (λ text. SourceSpells text (generated_tree size)) (text_is size) spelled; obeys = obeys size some few }

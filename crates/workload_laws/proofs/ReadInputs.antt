@@ -1,6 +1,7 @@
 -- Each generated input is read as its items.
 use Rattle.workload_laws.proofs.DecimalValues.{decimal_value}
-use Rattle.std.proofs.Common.{◌≡◌, ◌∙◌, ap, sym, subst, refl, ℕ, zero, suc, pos, ◌+◌, ◌-◌, ◌*◌, ◌%◌, ◌<◌, ◌≤◌, List, [], ◌++◌, length, length-append, All, arith, append_assoc, append-nil, codes}
+use Rattle.std.proofs.Common.{◌≡◌, ◌∙◌, ap, sym, subst, refl, ℕ, zero, suc, pos, ◌+◌, ◌-◌, ◌*◌, ◌%◌, ◌<◌, ◌≤◌, List, [], ◌++◌, length}
+use Rattle.std.proofs.Common.{length-append, All, arith, append_assoc, append-nil, codes}
 use Rattle.std.specs.Fmt.{decimal}
 use Rattle.std.proofs.lemmas.Int.{ints}
 use Rattle.std.proofs.lemmas.Fmt.{length-decimal-le}
@@ -42,7 +43,8 @@ lines_listed : (seed j n : ℕ) → ListsNumbers (lines_from seed j n) (items_fr
 lines_listed seed j zero = EndsHere []
 lines_listed seed j (suc n) =
     let small = item_small seed j in
-    subst (λ x. ListsNumbers x (items_from seed j (suc n)) []) (sym (append_assoc (decimal (item seed j)) (codes "\n") (lines_from seed (suc j) n)))
+    subst (λ x. ListsNumbers x (items_from seed j (suc n)) [])
+    (sym (append_assoc (decimal (item seed j)) (codes "\n") (lines_from seed (suc j) n)))
     (Number (decimal (item seed j)) (pos (item seed j)) (decimal_value (item seed j) (omega (arith, small))) refl
     (Separator 10 refl (lines_listed seed (suc j) n)))
 
@@ -51,7 +53,8 @@ lines_short : (seed j n : ℕ) → length (lines_from seed j n) ≤ 4 * n
 lines_short seed j zero = omega arith
 lines_short seed j (suc n) =
     let small = item_small seed j in
-    let d : length (decimal (item seed j)) ≤ 3 = length-decimal-le 3 (item seed j) (omega arith) (omega (arith, small)) (omega (arith, small)) in
+    let d : length (decimal (item seed j)) ≤ 3 = length-decimal-le 3 (item seed j) (omega arith) (omega (arith, small))
+    (omega (arith, small)) in
     let rest = lines_short seed (suc j) n in
     let whole = length-append (line seed j) (lines_from seed (suc j) n) in
     let here = length-append (decimal (item seed j)) (codes "\n") in

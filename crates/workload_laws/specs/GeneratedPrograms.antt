@@ -4,7 +4,8 @@ use Rattle.pipe_model.specs.declared.operator_codes.TheConstants.{PLUS, REMAINDE
 use Rattle.pipe_model.specs.declared.tree.StageKind.TheVariants as kinds
 use Rattle.pipe_model.specs.Language.Grammar.{declaration}
 use Rattle.pipe_model.specs.Language.SourceRefusals.{IsAccepted}
-use Rattle.pipe_model.specs.Language.SyntaxTree.{Expression, Number, Name, Binary, More, Take, Statement, Statements, Empty, Then, Let, Assign, Emit, Stage, SyntaxTree}
+use Rattle.pipe_model.specs.Language.SyntaxTree.{Expression, Number, Name, Binary, More, Take, Statement, Statements, Empty, Then, Let}
+use Rattle.pipe_model.specs.Language.SyntaxTree.{Assign, Emit, Stage, SyntaxTree}
 use Rattle.pipe_gen.specs.Workload.{source_text}
 use Rattle.pipe_gen.specs.declared.workload.TheConstants.{MOST_SIZE}
 

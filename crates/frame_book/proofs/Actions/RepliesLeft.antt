@@ -1,5 +1,6 @@
 -- What an iteration has left to do, by its actions and by its replies.
-use Rattle.std.proofs.Common.{◌≡◌, ◌∙◌, ℕ, ℤ, suc, ◌+◌, List, [], ◌∷◌, ◌++◌, Bool, true, false, length, map, get_or, refl, ap, ap₂, sym, subst, arith, append_assoc, Some, None, ◌==◌}
+use Rattle.std.proofs.Common.{◌≡◌, ◌∙◌, ℕ, ℤ, suc, ◌+◌, List, [], ◌∷◌, ◌++◌, Bool, true, false, length, map, get_or, refl, ap, ap₂, sym}
+use Rattle.std.proofs.Common.{subst, arith, append_assoc, Some, None, ◌==◌}
 use Rattle.std.proofs.lemmas.List.{map-append}
 use Rattle.pipe_model.specs.declared.access.Access.{Access as Cell_access}
 use Rattle.pipe_model.specs.declared.event.Event.{Event}
@@ -8,7 +9,8 @@ use Rattle.pipe_model.specs.declared.node.Kind.{Kind}
 use Rattle.pipe_model.specs.declared.ticket.BookEntry.{BookEntry}
 use Rattle.pipe_model.specs.declared.ticket.Entry.{Entry}
 use Rattle.pipe_model.specs.Language.Interaction.{reply_of}
-use Rattle.pipe_model.specs.Pipelines.Behaviour.{Action, Accessed, Staged, Ended, Behaviour, Reading, Writing, Staging, Ending, Performs, accesses_in, behaviour_after, behaviour_after_all, read_access, trace_end, write_access}
+use Rattle.pipe_model.specs.Pipelines.Behaviour.{Action, Accessed, Staged, Ended, Behaviour, Reading, Writing, Staging, Ending, Performs}
+use Rattle.pipe_model.specs.Pipelines.Behaviour.{accesses_in, behaviour_after, behaviour_after_all, read_access, trace_end, write_access}
 use Rattle.pipe_model.specs.Runs.TicketLogs.{TimedAction, laid_traces, end_action, end_actions, if_end}
 use Rattle.pipe_frame.specs.Replies.{accessed, after_instance, after_instances, replies_of}
 use Rattle.frame_book.specs.BookStates.{made, timed_access}
@@ -18,7 +20,8 @@ use Rattle.frame_book.proofs.Actions.TraceActions.{untimed}
 
 -- ---- behaviours
 
-after_all-append : (d : Behaviour) (xs ys : List Action) → behaviour_after_all d (xs ++ ys) ≡ behaviour_after_all (behaviour_after_all d xs) ys
+after_all-append : (d : Behaviour) (xs ys : List Action) → behaviour_after_all d (xs ++ ys) ≡ behaviour_after_all
+    (behaviour_after_all d xs) ys
 after_all-append d [] ys = refl
 after_all-append d (x ∷ xs) ys = after_all-append (behaviour_after d x) xs ys
 
@@ -75,7 +78,8 @@ laid_is of k (e ∷ ends) (t ∷ ts) l h =
     (laid_is of (k + 1) ends ts (omega (arith, l)) (λ j. let s : k + 1 + j ≡ k + suc j = omega arith in ap of s ∙ h (suc j)))
 
 -- the same is left by the actions and by the replies, as long as the iteration has not ended
-left_is : (ts : List (List Entry)) (xs : List Action) → length ts ≡ length xs → accesses_in xs ≡ [] → (d : Behaviour) → Performs d (laid_out ts xs)
+left_is : (ts : List (List Entry)) (xs : List Action) → length ts ≡ length xs → accesses_in xs ≡ [] → (d : Behaviour)
+    → Performs d (laid_out ts xs)
     → trace_end (laid_out ts xs) ≡ None → behaviour_after_all d (laid_out ts xs) ≡ after_instances d (map replies_of ts)
 left_is [] xs l a d p e = refl
 left_is (t ∷ ts) [] l a d p e = absurd (omega (arith, l))
@@ -84,7 +88,8 @@ left_is (t ∷ ts) (Ended x ∷ xs) l a d p e =
     absurd (let q : Some x ≡ None = sym (end_after_accesses t (Ended x ∷ laid_out ts xs)) ∙ e in cc)
 left_is (t ∷ ts) (Staged k n ∷ xs) l a d p e =
     let rest : List Action = laid_out ts xs in
-    let two = performs_split d (accessed t ++ Staged k n ∷ []) rest (subst (Performs d) (sym (append_assoc (accessed t) (Staged k n ∷ []) rest)) p) in
+    let two = performs_split d (accessed t ++ Staged k n ∷ []) rest
+    (subst (Performs d) (sym (append_assoc (accessed t) (Staged k n ∷ []) rest)) p) in
     let first = after_trace d t k n two.0 in
     let after = after_all-append d (accessed t) (Staged k n ∷ []) ∙ first in
     after_all-append d (accessed t) (Staged k n ∷ rest)
@@ -125,10 +130,13 @@ module _ (d : Behaviour) (log : List BookEntry) (traces : List (List (List Entry
 
   pub left_after_replies : behaviour_after_all d (actions_in log traces i) ≡ after_instances d (map replies_of (get_or traces i []))
   left_after_replies =
-      let ends : length (actions_of (end_actions i log)) ≡ length (end_actions i log) = Rattle.std.proofs.lemmas.List.length-map (end_actions i log) (λ (a : TimedAction). a.action) in
+      let ends : length (actions_of (end_actions i log)) ≡ length (end_actions i log) = Rattle.std.proofs.lemmas.List.length-map
+      (end_actions i log) (λ (a : TimedAction). a.action) in
       ap (behaviour_after_all d) laid
-      ∙ left_is (get_or traces i []) (actions_of (end_actions i log)) (sym (ends ∙ counted)) (no_access i log) d (subst (Performs d) laid performs) (sym (ap trace_end laid) ∙ going)
+      ∙ left_is (get_or traces i []) (actions_of (end_actions i log)) (sym (ends ∙ counted)) (no_access i log) d
+      (subst (Performs d) laid performs) (sym (ap trace_end laid) ∙ going)
 
   -- what is performed after the replies is performed after the actions
-  pub performs_next : (xs : List Action) → Performs (after_instances d (map replies_of (get_or traces i []))) xs → Performs d (actions_in log traces i ++ xs)
+  pub performs_next : (xs : List Action) → Performs (after_instances d (map replies_of (get_or traces i []))) xs
+      → Performs d (actions_in log traces i ++ xs)
   performs_next xs h = performs_join d (actions_in log traces i) xs performs (subst (λ b. Performs b xs) (sym left_after_replies) h)

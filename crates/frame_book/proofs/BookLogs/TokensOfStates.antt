@@ -20,7 +20,9 @@ pub record IsTokenAt (c : State) (starts : List NodeId) (t : TokenFields) : Type
   pub folded : IsNotAhead c.frames t.iteration t.folded
 
 -- the same at events
-pub token_at_events : (es : List Event) (c : State) (starts : List NodeId) (t : TokenFields) → state_after es ≡ c → starts_of es ≡ starts → IsTokenAt c starts t → IsTokenOf es t
+pub token_at_events : (es : List Event) (c : State) (starts : List NodeId) (t : TokenFields) → state_after es ≡ c → starts_of es ≡ starts
+    → IsTokenAt c starts t → IsTokenOf es t
 token_at_events es c starts t e s h =
-    let q : IsTokenAt (state_after es) (starts_of es) t = subst (λ x. IsTokenAt x (starts_of es) t) (sym e) (subst (λ x. IsTokenAt c x t) (sym s) h) in
+    let q : IsTokenAt (state_after es) (starts_of es) t = subst (λ x. IsTokenAt x (starts_of es) t) (sym e)
+    (subst (λ x. IsTokenAt c x t) (sym s) h) in
     record { running = q.running; index = q.index; marks = q.marks; joined = q.joined; folded = q.folded }

@@ -1,5 +1,6 @@
 -- A book after an iteration has named a stage, and after it has entered the stage.
-use Rattle.std.proofs.Common.{◌≡◌, ℕ, ℤ, zero, suc, ◌+◌, ◌<◌, ◌≤◌, List, [], ◌∷◌, ◌++◌, length, max, set, get_or, refl, ap, ap₂, sym, ◌∙◌, arith, subst, Bool, true, false, not, cond, ◌&&◌, Option}
+use Rattle.std.proofs.Common.{◌≡◌, ℕ, ℤ, zero, suc, ◌+◌, ◌<◌, ◌≤◌, List, [], ◌∷◌, ◌++◌, length, max, set, get_or, refl, ap, ap₂, sym, ◌∙◌}
+use Rattle.std.proofs.Common.{arith, subst, Bool, true, false, not, cond, ◌&&◌, Option}
 use Rattle.std.proofs.lemmas.List.{get_or-set_same, set-set}
 use Rattle.pipe_model.specs.declared.event.Event.TheVariants.{Advance, Enter}
 use Rattle.pipe_model.specs.declared.node.Kind.{Kind}
@@ -35,10 +36,12 @@ count_small true = omega arith
 count_small false = omega arith
 
 -- if nothing was stopped, whether the counter is read depends on the kept one alone
-pub reads_is : (v : BookState) (t : TokenFields) (end : StageEnd) → (state_of v).stopped ≡ false → reads_left v t end ≡ must_read_left t.iteration t.folded end
+pub reads_is : (v : BookState) (t : TokenFields) (end : StageEnd) → (state_of v).stopped ≡ false
+    → reads_left v t end ≡ must_read_left t.iteration t.folded end
 reads_is v t end going = ap (λ s. not s && must_read_left t.iteration t.folded end) going
 
-module _ (v : BookState) (t : TokenFields) (kind : Kind) (n : ℤ) (trace : List Entry) (folded : Option Counter) (going : (state_of v).stopped ≡ false) (out : IsOutOf v t) where
+module _ (v : BookState) (t : TokenFields) (kind : Kind) (n : ℤ) (trace : List Entry) (folded : Option Counter)
+    (going : (state_of v).stopped ≡ false) (out : IsOutOf v t) where
   abbrev pub t1 : TokenFields
   t1 = record t { folded = folded }
 
@@ -49,7 +52,8 @@ module _ (v : BookState) (t : TokenFields) (kind : Kind) (n : ℤ) (trace : List
   u = with_action (Staged kind n) (Pending kind n)
 
   state_is : state_of v1 ≡ next_state (state_of v) (Advance t.iteration kind n)
-  state_is = ap state_after (events_of_with v.log t.now (Advance t.iteration kind n)) ∙ state_after-push (events_of v.log) (Advance t.iteration kind n)
+  state_is = ap state_after (events_of_with v.log t.now (Advance t.iteration kind n)) ∙ state_after-push (events_of v.log)
+      (Advance t.iteration kind n)
 
   pub going1 : (state_of v1).stopped ≡ false
   going1 = ap (λ (s : State). s.stopped) state_is ∙ going
@@ -72,7 +76,8 @@ module _ (v : BookState) (t : TokenFields) (kind : Kind) (n : ℤ) (trace : List
       a ∙ (b ∙ (omega (arith, d)))
 
   place1 : get_or v1.tokens t.iteration Spent ≡ Kept (record t1 { now = 1 + max (last_ticket v.log) t.now })
-  place1 = get_or-set_same v.tokens t.iteration (Kept (record t1 { now = 1 + max (last_ticket v.log) t.now })) Spent (out_inside v.tokens t.iteration out.out)
+  place1 = get_or-set_same v.tokens t.iteration (Kept (record t1 { now = 1 + max (last_ticket v.log) t.now })) Spent
+      (out_inside v.tokens t.iteration out.out)
 
   pub folded1 : kept_folded (get_or v1.tokens t.iteration Spent) ≡ folded
   folded1 = ap kept_folded place1
@@ -84,6 +89,7 @@ module _ (v : BookState) (t : TokenFields) (kind : Kind) (n : ℤ) (trace : List
     reads = v.reads + one;
   }
   entered1 one =
-      let log = ap (λ p. with_events v1.log (kept_now p) (Enter t.iteration ∷ [])) place1 ∙ two_events v.log t.now (Advance t.iteration kind n) (Enter t.iteration) in
+      let log = ap (λ p. with_events v1.log (kept_now p) (Enter t.iteration ∷ [])) place1 ∙ two_events v.log t.now
+      (Advance t.iteration kind n) (Enter t.iteration) in
       let places = set-set v.tokens t.iteration (Kept (record t1 { now = 1 + max (last_ticket v.log) t.now })) Out in
       ap₂ (λ l p. record v { log = l; traces = v1.traces; tokens = p; reads = v.reads + one }) log places

@@ -1,5 +1,6 @@
 -- What the entering of a stage needs of rows.
-use Rattle.std.proofs.Common.{◌≡◌, ℕ, ℤ, zero, suc, pos, ◌-◌, ◌*◌, ◌<◌, ◌≤◌, ◌≤ℤ◌, List, [], ◌∷◌, ◌++◌, length, map, set, get_or, refl, ap, sym, ◌∙◌, arith, subst, Bool, Option, Some, None, inl, inr}
+use Rattle.std.proofs.Common.{◌≡◌, ℕ, ℤ, zero, suc, pos, ◌-◌, ◌*◌, ◌<◌, ◌≤◌, ◌≤ℤ◌, List, [], ◌∷◌, ◌++◌, length, map, set, get_or, refl, ap}
+use Rattle.std.proofs.Common.{sym, ◌∙◌, arith, subst, Bool, Option, Some, None, inl, inr}
 use Rattle.std.proofs.lemmas.Bool.{cases_eq}
 use Rattle.std.proofs.lemmas.Int.{ints}
 use Rattle.std.proofs.lemmas.List.{length-map}
@@ -7,7 +8,8 @@ use Rattle.order_2d.specs.OrderPairs.{down_taken, right_taken}
 use Rattle.pipe_model.specs.declared.node.Kind.{Kind}
 use Rattle.pipe_model.specs.declared.node.Node.{Node}
 use Rattle.pipe_model.specs.declared.node.NodeId.{NodeId}
-use Rattle.pipe_model.specs.Pipelines.Behaviour.{Action, Accessed, Staged, Ended, Behaviour, Reading, Writing, Staging, Ending, Performs, nodes_in, column_of}
+use Rattle.pipe_model.specs.Pipelines.Behaviour.{Action, Accessed, Staged, Ended, Behaviour, Reading, Writing, Staging, Ending, Performs}
+use Rattle.pipe_model.specs.Pipelines.Behaviour.{nodes_in, column_of}
 use Rattle.pipe_model.specs.Races.Columns.{node_at}
 use Rattle.pipe_model.specs.Orders.OrderMarks.{instance_marks}
 use Rattle.pipe_model.specs.Orders.Starts.{start_number}
@@ -22,7 +24,8 @@ use Rattle.frame_book.specs.IterationRows.{IterationRow, row_at, marks_at, marks
 use Rattle.frame_book.proofs.StartedInstances.StartMarks.{parent_marks}
 
 -- marks by the list of all
-pub marks_at_map : {M : Type 0} → (rs : List (IterationRow M)) (i k : ℕ) → marks_at rs i k ≡ get_or (get_or (map (λ r. r.marks) rs) i []) k no_marks
+pub marks_at_map : {M : Type 0} → (rs : List (IterationRow M)) (i k : ℕ) → marks_at rs i k ≡ get_or
+    (get_or (map (λ r. r.marks) rs) i []) k no_marks
 marks_at_map [] i k = refl
 marks_at_map (r ∷ rs) zero k = refl
 marks_at_map (r ∷ rs) (suc i) k = marks_at_map rs i k
@@ -32,7 +35,8 @@ marks_row_map [] i = refl
 marks_row_map (r ∷ rs) zero = refl
 marks_row_map (r ∷ rs) (suc i) = marks_row_map rs i
 
-pub numbers_row_map : {M : Type 0} → (rs : List (IterationRow M)) (i : ℕ) → numbers_of_row (row_at rs i) ≡ get_or (map (λ r. r.numbers) rs) i []
+pub numbers_row_map : {M : Type 0} → (rs : List (IterationRow M)) (i : ℕ) → numbers_of_row (row_at rs i) ≡ get_or
+    (map (λ r. r.numbers) rs) i []
 numbers_row_map [] i = refl
 numbers_row_map (r ∷ rs) zero = refl
 numbers_row_map (r ∷ rs) (suc i) = numbers_row_map rs i
@@ -61,7 +65,8 @@ names_few m (Staging k q d) (Ended e ∷ xs) n p = absurd (let z : Ended e ≡ S
 names_few m (Ending f) (Ended e ∷ xs) n p = ending_names_few m f xs p.1
 
 -- one row has room for more, so there is more room in all
-pub rows_fit_more : {M : Type 0} → (going : Bool) (fs : List Frame) (rs : List (IterationRow M)) (i : ℕ) (r : IterationRow M) → AreRows going fs rs → row_at rs i ≡ Some r → length r.numbers < r.room → total (λ r. length r.numbers) rs < total (λ r. r.room) rs
+pub rows_fit_more : {M : Type 0} → (going : Bool) (fs : List Frame) (rs : List (IterationRow M)) (i : ℕ) (r : IterationRow M)
+    → AreRows going fs rs → row_at rs i ≡ Some r → length r.numbers < r.room → total (λ r. length r.numbers) rs < total (λ r. r.room) rs
 rows_fit_more going [] [] i r h e l = absurd (cc)
 rows_fit_more going [] (x ∷ rs) i r h e l = absurd h
 rows_fit_more going (f ∷ fs) [] i r h e l = absurd h
@@ -77,19 +82,22 @@ rows_fit_more going (f ∷ fs) (x ∷ rs) (suc i) r h e l =
     omega (arith, a, b, c)
 
 -- one row is in the sum
-pub total_at : {X : Type 0} → (m : IterationRow X → ℕ) (rs : List (IterationRow X)) (i : ℕ) (r : IterationRow X) → row_at rs i ≡ Some r → m r ≤ total m rs
+pub total_at : {X : Type 0} → (m : IterationRow X → ℕ) (rs : List (IterationRow X)) (i : ℕ) (r : IterationRow X) → row_at rs i ≡ Some r
+    → m r ≤ total m rs
 total_at m [] i r e = absurd (cc)
 total_at m (x ∷ rs) zero r e = let s : m x ≡ m r = ap m (let z : x ≡ r = cc in z) in omega (arith, s)
 total_at m (x ∷ rs) (suc i) r e = let h = total_at m rs i r e in omega (arith, h)
 
 -- a measure of one row rises
-pub total_set_more : {M : Type 0} → (m : IterationRow M → ℕ) (rs : List (IterationRow M)) (i : ℕ) (r y : IterationRow M) → row_at rs i ≡ Some r → m y ≡ suc (m r) → total m (set rs i y) ≡ suc (total m rs)
+pub total_set_more : {M : Type 0} → (m : IterationRow M → ℕ) (rs : List (IterationRow M)) (i : ℕ) (r y : IterationRow M)
+    → row_at rs i ≡ Some r → m y ≡ suc (m r) → total m (set rs i y) ≡ suc (total m rs)
 total_set_more m [] i r y e q = absurd (cc)
 total_set_more m (x ∷ rs) zero r y e q = let s : m x ≡ m r = ap m (let z : x ≡ r = cc in z) in omega (arith, s, q)
 total_set_more m (x ∷ rs) (suc i) r y e q = let h = total_set_more m rs i r y e q in omega (arith, h)
 
 -- one running instance more
-pub running_more : (fs : List Frame) (i : ℕ) (f : Frame) (u : Frame → Frame) → frame_at fs i ≡ Some f → running_of_status f.status ≡ 0 → running_of_status (u f).status ≡ 1 → running_in_frames (update_frame fs i u) ≡ suc (running_in_frames fs)
+pub running_more : (fs : List Frame) (i : ℕ) (f : Frame) (u : Frame → Frame) → frame_at fs i ≡ Some f → running_of_status f.status ≡ 0
+    → running_of_status (u f).status ≡ 1 → running_in_frames (update_frame fs i u) ≡ suc (running_in_frames fs)
 running_more [] i f u e a b = absurd (cc)
 running_more (x ∷ fs) zero f u e a b =
     let s : x ≡ f = cc in
@@ -123,8 +131,10 @@ named_above f xs k n w t e =
     ]
 
 -- the instance and its left parent have started, so their placeholders are in the lists
-pub taken_below : (columns : List (List Node)) (starts : List NodeId) (i k : ℕ) (left : Option ℕ) → start_number starts i k < length starts → ((a j : ℕ) → i ≡ suc a → left ≡ Some j → start_number starts a j < length starts)
-    → (down_taken (Some (instance_marks columns starts i k)) (parent_marks columns starts i left) ≤ 2 * length starts) × (right_taken (Some (instance_marks columns starts i k)) (parent_marks columns starts i left) ≤ 2 * length starts)
+pub taken_below : (columns : List (List Node)) (starts : List NodeId) (i k : ℕ) (left : Option ℕ) → start_number starts i k < length starts
+    → ((a j : ℕ) → i ≡ suc a → left ≡ Some j → start_number starts a j < length starts)
+    → (down_taken (Some (instance_marks columns starts i k)) (parent_marks columns starts i left) ≤ 2 * length starts)
+    × (right_taken (Some (instance_marks columns starts i k)) (parent_marks columns starts i left) ≤ 2 * length starts)
 taken_below columns starts i k None l h = (omega (arith, l), omega (arith, l))
 taken_below columns starts zero k (Some j) l h = (omega (arith, l), omega (arith, l))
 taken_below columns starts (suc a) k (Some j) l h = let w = h a j refl refl in (omega (arith, l), omega (arith, w))

@@ -1,5 +1,6 @@
 -- Whether a named stage may be entered at once, by the kept counter.
-use Rattle.std.proofs.Common.{◌≡◌, ◌≢◌, ℕ, ℤ, zero, suc, ◌+◌, ◌<◌, ◌≤◌, List, [], ◌∷◌, ◌++◌, length, max, refl, ap, ap₂, sym, ◌∙◌, arith, subst, Bool, true, false, not, cond, Option, Some, None, append_assoc}
+use Rattle.std.proofs.Common.{◌≡◌, ◌≢◌, ℕ, ℤ, zero, suc, ◌+◌, ◌<◌, ◌≤◌, List, [], ◌∷◌, ◌++◌, length, max, refl, ap, ap₂, sym, ◌∙◌, arith}
+use Rattle.std.proofs.Common.{subst, Bool, true, false, not, cond, Option, Some, None, append_assoc}
 use Rattle.std.proofs.lemmas.Int.{ints}
 use Rattle.dep_fold.specs.Folding.{FoldedPasses, folded_passes}
 use Rattle.pipe_model.specs.declared.event.Event.{Event}
@@ -23,7 +24,8 @@ use Rattle.frame_book.proofs.BookLogs.LogEntries.{last_ticket_with, entry_of}
 use Rattle.frame_book.proofs.Iterations.FrameRows.{left_passes, counter_same}
 
 -- the left counter by rows and by frames
-pub left_counter_same : {M : Type 0} → (going : Bool) (fs : List Frame) (rs : List (IterationRow M)) (i : ℕ) → AreRows going fs rs → left_row_counter rs i ≡ left_counter fs i
+pub left_counter_same : {M : Type 0} → (going : Bool) (fs : List Frame) (rs : List (IterationRow M)) (i : ℕ) → AreRows going fs rs
+    → left_row_counter rs i ≡ left_counter fs i
 left_counter_same going fs rs zero h = refl
 left_counter_same going [] [] (suc j) h = refl
 left_counter_same going [] (r ∷ rs) (suc j) h = absurd h
@@ -37,7 +39,9 @@ passes_option None n p = absurd p
 passes_option (Some c) n p = p
 
 -- the kept counter after a read is not ahead
-pub not_ahead : {M : Type 0} → (going : Bool) (fs : List Frame) (rs : List (IterationRow M)) (i : ℕ) (read : Bool) (folded : Option Counter) → AreRows going fs rs → i ≤ length rs → IsNotAhead fs i folded → IsNotAhead fs i (cond read (left_row_counter rs i) folded)
+pub not_ahead : {M : Type 0} → (going : Bool) (fs : List Frame) (rs : List (IterationRow M)) (i : ℕ) (read : Bool)
+    (folded : Option Counter) → AreRows going fs rs → i ≤ length rs → IsNotAhead fs i folded
+    → IsNotAhead fs i (cond read (left_row_counter rs i) folded)
 not_ahead going fs rs i true folded h l a = λ n p. (left_passes going fs rs i n h l).0 (passes_option (left_row_counter rs i) n p)
 not_ahead going fs rs i false folded h l a = a
 
@@ -48,42 +52,46 @@ test_passes (Some (At m)) n e = grind (arith, ints)
 test_passes (Some Ended) n e = tt
 
 -- a left counter that is there passes as a kept one
-pub passes_left : {M : Type 0} → (going : Bool) (fs : List Frame) (rs : List (IterationRow M)) (j : ℕ) (n : ℤ) → AreRows going fs rs → suc j ≤ length rs → CounterPasses (left_row_counter rs (suc j)) n → FoldedPasses (left_row_counter rs (suc j)) n
+pub passes_left : {M : Type 0} → (going : Bool) (fs : List Frame) (rs : List (IterationRow M)) (j : ℕ) (n : ℤ) → AreRows going fs rs
+    → suc j ≤ length rs → CounterPasses (left_row_counter rs (suc j)) n → FoldedPasses (left_row_counter rs (suc j)) n
 passes_left going fs [] j n h l p = absurd (omega (arith, l))
 passes_left going [] (r ∷ rs) j n h l p = absurd h
 passes_left going (f ∷ fs) (r ∷ rs) zero n h l p = p
 passes_left going (f ∷ fs) (r ∷ rs) (suc j) n h l p = passes_left going fs rs j n h.1 (omega (arith, l)) p
 
-module _ {M : Type 0} (going : Bool) (fs : List Frame) (rs : List (IterationRow M)) (i : ℕ) (kind : Kind) (n : ℤ) (read : Bool) (folded : Option Counter)
-    (h : AreRows going fs rs) (l : i ≤ length rs) (a : IsNotAhead fs i folded) (is : read ≡ must_read_left i folded (stage_end kind n)) where
-  abbrev pub now : Option Counter
-  now = cond read (left_row_counter rs i) folded
+module _ {M : Type 0} (going : Bool) (fs : List Frame) (rs : List (IterationRow M)) (i : ℕ) (kind : Kind) (n : ℤ) (read : Bool)
+    (folded : Option Counter)
+    (h : AreRows going fs rs) (l : i ≤ length rs) (a : IsNotAhead fs i folded) (is : read ≡ must_read_left i folded (stage_end kind n))
+  where
+    abbrev pub now : Option Counter
+    now = cond read (left_row_counter rs i) folded
 
-  -- if the kept counter lets it enter, the left neighbour has passed the stage
-  pub lets : (WaitsAt kind i → FoldedPasses now n) → kind ≡ Wait → LeftHasPassed fs i n
-  lets p w = by i refl
-    where
-      by : (k : ℕ) → i ≡ k → LeftHasPassed fs k n
-      by zero e = tt
-      by (suc j) e = subst (λ k. LeftHasPassed fs k n) e (not_ahead going fs rs i read folded h l a n (p (w, omega (arith, e))))
+    -- if the kept counter lets it enter, the left neighbour has passed the stage
+    pub lets : (WaitsAt kind i → FoldedPasses now n) → kind ≡ Wait → LeftHasPassed fs i n
+    lets p w = by i refl
+      where
+        by : (k : ℕ) → i ≡ k → LeftHasPassed fs k n
+        by zero e = tt
+        by (suc j) e = subst (λ k. LeftHasPassed fs k n) e (not_ahead going fs rs i read folded h l a n (p (w, omega (arith, e))))
 
-  -- and the other way round
-  pub let_by : (kind ≡ Wait → LeftHasPassed fs i n) → WaitsAt kind i → FoldedPasses now n
-  let_by p w = by read i refl refl
-    where
-      by : (t : Bool) (k : ℕ) → read ≡ t → i ≡ k → FoldedPasses (cond t (left_row_counter rs i) folded) n
-      by t zero e s = absurd (let x = w.1 in omega (arith, x, s))
-      by true (suc j) e s =
-          let q = (left_passes going fs rs i n h l).1 (p w.0) in
-          let q' : CounterPasses (left_row_counter rs (suc j)) n = subst (λ k. CounterPasses (left_row_counter rs k) n) s q in
-          subst (λ k. FoldedPasses (left_row_counter rs k) n) (sym s) (passes_left going fs rs j n h (omega (arith, l, s)) q')
-      by false (suc j) e s =
-          let z : not (folded_passes folded n) ≡ false = sym (ap₂ (λ k q. must_read_left k folded (stage_end q n)) s w.0) ∙ (sym is ∙ e) in
-          test_passes folded n (by_not (folded_passes folded n) z)
-        where
-          by_not : (t : Bool) → not t ≡ false → t ≡ true
-          by_not true e = refl
-          by_not false e = absurd (let q : true ≡ false = e in cc)
+    -- and the other way round
+    pub let_by : (kind ≡ Wait → LeftHasPassed fs i n) → WaitsAt kind i → FoldedPasses now n
+    let_by p w = by read i refl refl
+      where
+        by : (t : Bool) (k : ℕ) → read ≡ t → i ≡ k → FoldedPasses (cond t (left_row_counter rs i) folded) n
+        by t zero e s = absurd (let x = w.1 in omega (arith, x, s))
+        by true (suc j) e s =
+            let q = (left_passes going fs rs i n h l).1 (p w.0) in
+            let q' : CounterPasses (left_row_counter rs (suc j)) n = subst (λ k. CounterPasses (left_row_counter rs k) n) s q in
+            subst (λ k. FoldedPasses (left_row_counter rs k) n) (sym s) (passes_left going fs rs j n h (omega (arith, l, s)) q')
+        by false (suc j) e s =
+            let z : not (folded_passes folded n) ≡ false = sym (ap₂ (λ k q. must_read_left k folded (stage_end q n)) s w.0)
+            ∙ (sym is ∙ e) in
+            test_passes folded n (by_not (folded_passes folded n) z)
+          where
+            by_not : (t : Bool) → not t ≡ false → t ≡ true
+            by_not true e = refl
+            by_not false e = absurd (let q : true ≡ false = e in cc)
 
 -- an iteration that is not to read has nothing to its left, or does not wait, or has read
 pub reads_within : (i : ℕ) (folded : Option Counter) (kind : Kind) (n : ℤ) → must_read_left i folded (stage_end kind n) ≡ true → 0 < i
@@ -96,7 +104,8 @@ goes_by s i Wait n p = p refl
 goes_by s i Continue n p = tt
 goes_by s i Zero n p = tt
 
-pub waits_by : (s : State) (i : ℕ) (kind : Kind) (n : ℤ) → ((kind ≡ Wait → LeftHasPassed s.frames i n) → ⊥) → MustWait s i (stage_end kind n)
+pub waits_by : (s : State) (i : ℕ) (kind : Kind) (n : ℤ) → ((kind ≡ Wait → LeftHasPassed s.frames i n) → ⊥)
+    → MustWait s i (stage_end kind n)
 waits_by s i Wait n p = λ x. p (λ w. x)
 waits_by s i Continue n p = absurd (p (λ w. (let q : Continue ≡ Wait = w in absurd (cc))))
 waits_by s i Zero n p = absurd (p (λ w. (let q : Zero ≡ Wait = w in absurd (cc))))
@@ -113,8 +122,10 @@ passed_beside fs zero u n p = tt
 passed_beside fs (suc j) u n p = λ f e. p f (sym (frame_at_other fs (suc j) j u (λ z. (omega (arith, z)))) ∙ e)
 
 -- two events one after the other
-pub two_events : (log : List BookEntry) (now : ℕ) (e e' : Event) → with_events (with_events log now (e ∷ [])) (1 + max (last_ticket log) now) (e' ∷ []) ≡ with_events log now (e ∷ e' ∷ [])
+pub two_events : (log : List BookEntry) (now : ℕ) (e e' : Event) → with_events (with_events log now (e ∷ []))
+    (1 + max (last_ticket log) now) (e' ∷ []) ≡ with_events log now (e ∷ e' ∷ [])
 two_events log now e e' =
-    let m : max (last_ticket (with_events log now (e ∷ []))) (1 + max (last_ticket log) now) ≡ suc (max (last_ticket log) now) = (let q = last_ticket_with log now e in omega (arith, q)) in
+    let m : max (last_ticket (with_events log now (e ∷ []))) (1 + max (last_ticket log) now) ≡ suc (max (last_ticket log) now) =
+    (let q = last_ticket_with log now e in omega (arith, q)) in
     ap (λ k. with_events log now (e ∷ []) ++ stamped k (e' ∷ [])) m
     ∙ append_assoc log (entry_of log now e ∷ []) (stamped (suc (max (last_ticket log) now)) (e' ∷ []))

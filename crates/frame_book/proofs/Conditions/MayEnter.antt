@@ -19,9 +19,13 @@ may_in s i (Some f) e h = may_by s i f f.status e refl h
 
 -- in the words of the rows and of the control part
 pub free_is_may : (s : State) (i : ℕ) → IsFree s.frames i ↔ MayEnter s i
-free_is_may s i = ((λ h. may_in s i (frame_at s.frames i) refl h), (λ m. subst (IsFreeIn s.frames i) (sym m.is) (subst (IsFreeBy s.frames i) (sym m.named) m.free)))
+free_is_may s i = (
+  (λ h. may_in s i (frame_at s.frames i) refl h),
+  (λ m. subst (IsFreeIn s.frames i) (sym m.is) (subst (IsFreeBy s.frames i) (sym m.named) m.free)),
+)
 
-pub free_as : (s : State) (i : ℕ) (j k : Kind) (m n : ℤ) → Pending j m ≡ Pending k n → (j ≡ Wait → LeftHasPassed s.frames i m) → k ≡ Wait → LeftHasPassed s.frames i n
+pub free_as : (s : State) (i : ℕ) (j k : Kind) (m n : ℤ) → Pending j m ≡ Pending k n → (j ≡ Wait → LeftHasPassed s.frames i m) → k ≡ Wait
+    → LeftHasPassed s.frames i n
 free_as s i j k m n e free w = let a : j ≡ k = cc in let b : m ≡ n = cc in subst (LeftHasPassed s.frames i) b (free (a ∙ w))
 
 -- the same with the kind and the number of the status

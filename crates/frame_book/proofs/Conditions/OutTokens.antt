@@ -1,5 +1,6 @@
 -- If a book was not stopped, each token that is out belongs to a running instance.
-use Rattle.std.proofs.Common.{◌≡◌, ℕ, zero, suc, List, [], ◌∷◌, map, not, refl, ap, sym, ◌∙◌, subst, Bool, true, false, Option, Some, None, get_or}
+use Rattle.std.proofs.Common.{◌≡◌, ℕ, zero, suc, List, [], ◌∷◌, map, not, refl, ap, sym, ◌∙◌, subst, Bool, true, false, Option, Some, None}
+use Rattle.std.proofs.Common.{get_or}
 use Rattle.pipe_model.specs.declared.status.Status.{Status}
 use Rattle.pipe_model.specs.declared.status.Status.TheVariants.{Running, Pending, Completed}
 use Rattle.pipe_model.specs.Language.SyntaxTree.{SyntaxTree}
@@ -16,7 +17,8 @@ use Rattle.frame_book.specs.Tables.{Tables, book_state, token_state_by, token_st
 use Rattle.std.specs.Prelude.{ℤ}
 
 -- if a token is out, its row has a running instance
-runs_by : {M : Type 0} → (status : Status) (token : Option (FrameToken M)) → TokenFits status token → token_state_by token status ≡ Out → status ≡ Running
+runs_by : {M : Type 0} → (status : Status) (token : Option (FrameToken M)) → TokenFits status token → token_state_by token status ≡ Out
+    → status ≡ Running
 runs_by Running token fits out = refl
 runs_by (Pending k n) token fits out =
     let kept : Kept (fields_of fits.0) ≡ Out = sym (ap (λ o. token_state_by o (Pending k n)) fits.1) ∙ out in
@@ -31,7 +33,8 @@ record Runs (fs : List Frame) (i : ℕ) : Type 0 where
   pub is : frame_at fs i ≡ Some frame
   pub runs : frame.status ≡ Running
 
-out_row : {M : Type 0} → (fs : List Frame) (rows : List (IterationRow M)) (i : ℕ) → AreRows true fs rows → item_or Spent (map token_state_of rows) i ≡ Out → Runs fs i
+out_row : {M : Type 0} → (fs : List Frame) (rows : List (IterationRow M)) (i : ℕ) → AreRows true fs rows
+    → item_or Spent (map token_state_of rows) i ≡ Out → Runs fs i
 out_row [] [] i h out = absurd (let spent : Spent ≡ Out = out in cc)
 out_row [] (r ∷ rows) i h out = absurd h
 out_row (f ∷ fs) [] i h out = absurd h
@@ -45,8 +48,10 @@ out_row (f ∷ fs) (r ∷ rows) (suc i) h out =
     let q = out_row fs rows i h.1 out in
     record { frame = q.frame; is = q.is; runs = q.runs }
 
-pub out_tokens_run : {M : Type 0} (Whole : SyntaxTree → M → Type 0) (ReadyAt : SyntaxTree → List ℤ → M → ℕ → List (List ℤ) → Type 0) (tie : M → Tie) (b : Tables M)
-    → IsBook Whole ReadyAt tie b → (state_of (book_state b)).stopped ≡ false → (i : ℕ) → IsOut (book_state b) i → IsRunning (state_of (book_state b)) i
+pub out_tokens_run : {M : Type 0} (Whole : SyntaxTree → M → Type 0) (ReadyAt : SyntaxTree → List ℤ → M → ℕ → List (List ℤ) → Type 0)
+    (tie : M → Tie) (b : Tables M)
+    → IsBook Whole ReadyAt tie b → (state_of (book_state b)).stopped ≡ false → (i : ℕ) → IsOut (book_state b) i
+    → IsRunning (state_of (book_state b)) i
 out_tokens_run Whole ReadyAt tie b h going i out =
     let rows = subst (λ s. AreRows (not s) (state_of (book_state b)).frames b.rows) going h.rows.each in
     let q = out_row (state_of (book_state b)).frames b.rows i rows out in

@@ -1,5 +1,6 @@
 -- Which action the rows, the pool and the closed flag allow next.
-use Rattle.std.proofs.Common.{◌≡◌, ◌↔◌, ℕ, zero, suc, ◌+◌, ◌<◌, List, [], ◌∷◌, length, refl, ap, sym, ◌∙◌, arith, subst, Bool, true, false, Option, Some, None, inl, inr, IsSome}
+use Rattle.std.proofs.Common.{◌≡◌, ◌↔◌, ℕ, zero, suc, ◌+◌, ◌<◌, List, [], ◌∷◌, length, refl, ap, sym, ◌∙◌, arith, subst, Bool, true, false}
+use Rattle.std.proofs.Common.{Option, Some, None, inl, inr, IsSome}
 use Rattle.std.proofs.lemmas.Bool.{cases_lt}
 use Rattle.pipe_model.specs.Runs.Allowed.{MayBegin, IsClosed, LastEndedFirstInstance}
 use Rattle.pipe_model.specs.Runs.Run.{IsFinished}
@@ -30,7 +31,8 @@ is_some None x e = absurd (let q : None ≡ Some x = e in cc)
 is_some (Some y) x e = refl
 
 -- an iteration can go on exactly if its row goes on
-pub can_is : {M : Type 0} → (going : Bool) (b : Tables M) (i : ℕ) → AreRows going (state_of (book_state b)).frames b.rows → RowGoesOn (state_of (book_state b)).frames b.rows i ↔ CanGoOn (IsReady (book_state b)) (state_of (book_state b)) i
+pub can_is : {M : Type 0} → (going : Bool) (b : Tables M) (i : ℕ) → AreRows going (state_of (book_state b)).frames b.rows
+    → RowGoesOn (state_of (book_state b)).frames b.rows i ↔ CanGoOn (IsReady (book_state b)) (state_of (book_state b)) i
 can_is {M} going b i h = (
   (λ x. elim x [
     | inl y ↦ (
@@ -47,7 +49,8 @@ can_is {M} going b i h = (
     | inl y ↦ (
         let q = row_of_frame going (state_of (book_state b)).frames b.rows i y.runs.frame h y.runs.is in
         let s : q.row.status ≡ Running = q.matches.status ∙ y.runs.runs in
-        let p : token_state_by q.row.token Running ≡ Kept y.fields = ap (token_state_by q.row.token) (sym s) ∙ (sym (map_at token_state_of b.rows i q.row Spent q.is) ∙ y.kept) in
+        let p : token_state_by q.row.token Running ≡ Kept y.fields = ap (token_state_by q.row.token) (sym s)
+        ∙ (sym (map_at token_state_of b.rows i q.row Spent q.is) ∙ y.kept) in
         let t = kept_token q.row.token y.fields p in
         inl (q.row, q.is, s, is_some q.row.token t.0 t.1))
     | inr m ↦ inr ((free_is_may (state_of (book_state b)) i).1 m)
@@ -67,7 +70,8 @@ dead_by (Completed x) e = refl
 -- if none is alive, all have ended
 all_completed : (fs : List Frame) → alive_in fs ≡ 0 → (i : ℕ) (f : Frame) → frame_at fs i ≡ Some f → is_completed f.status ≡ true
 all_completed [] a i f e = absurd (let q : None ≡ Some f = e in cc)
-all_completed (x ∷ fs) a zero f e = let s : x ≡ f = cc in subst (λ (g : Frame). is_completed g.status ≡ true) s (completed_by x.status (omega (arith, a)))
+all_completed (x ∷ fs) a zero f e = let s : x ≡ f = cc in subst (λ (g : Frame). is_completed g.status ≡ true) s
+    (completed_by x.status (omega (arith, a)))
 all_completed (x ∷ fs) a (suc i) f e = all_completed fs (omega (arith, a)) i f e
 
 pub none_alive : (fs : List Frame) → ((i : ℕ) (f : Frame) → frame_at fs i ≡ Some f → is_completed f.status ≡ true) → alive_in fs ≡ 0
@@ -82,14 +86,17 @@ pub closed_by_finish : (s : State) → IsFinished s → IsClosed s.frames × (al
 closed_by_finish s h = (h.shut, none_alive s.frames h.over)
 
 -- when the next iteration may begin
-pub begins_by : (limit : ℕ) (s : State) → IsSound s.frames → (IsClosed s.frames → ⊥) → LastEndedFirstInstance s.frames → alive s < limit → MayBegin limit s (length s.frames)
+pub begins_by : (limit : ℕ) (s : State) → IsSound s.frames → (IsClosed s.frames → ⊥) → LastEndedFirstInstance s.frames → alive s < limit
+    → MayBegin limit s (length s.frames)
 begins_by limit s sound n e r = record {
   number = refl;
   room = r;
-  follows = λ j f z is. goes_on_by f.status f.nodes (sound.well j f is).filled (e j f z is) (λ x. n (record { iteration = j; frame = f; is = is; closes = x }));
+  follows = λ j f z is. goes_on_by f.status f.nodes (sound.well j f is).filled (e j f z is)
+      (λ x. n (record { iteration = j; frame = f; is = is; closes = x }));
 }
 
-pub open_by_begin : (limit : ℕ) (s : State) → IsSound s.frames → MayBegin limit s (length s.frames) → (IsClosed s.frames → ⊥) × LastEndedFirstInstance s.frames
+pub open_by_begin : (limit : ℕ) (s : State) → IsSound s.frames → MayBegin limit s (length s.frames)
+    → (IsClosed s.frames → ⊥) × LastEndedFirstInstance s.frames
 open_by_begin limit s sound m = (
   (λ q. elim (cases_lt (q.iteration + 1) (length s.frames)) [
     | inl less ↦ (ended_by_going q.frame.status q.frame.nodes (sound.goes q.iteration q.frame q.is less)).1 q.closes

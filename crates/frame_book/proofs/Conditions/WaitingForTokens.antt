@@ -1,5 +1,6 @@
 -- Why a token is out if nothing can be done.
-use Rattle.std.proofs.Common.{◌≡◌, ◌↔◌, ℕ, zero, suc, ℤ, ◌<◌, ◌⊎◌, List, [], ◌∷◌, length, not, refl, ap, sym, ◌∙◌, arith, subst, Bool, true, false, Option, Some, None, IsTrue, inl, inr}
+use Rattle.std.proofs.Common.{◌≡◌, ◌↔◌, ℕ, zero, suc, ℤ, ◌<◌, ◌⊎◌, List, [], ◌∷◌, length, not, refl, ap, sym, ◌∙◌, arith, subst, Bool, true}
+use Rattle.std.proofs.Common.{false, Option, Some, None, IsTrue, inl, inr}
 use Rattle.pipe_model.specs.declared.node.Node.{Node}
 use Rattle.pipe_model.specs.declared.status.Status.{Status}
 use Rattle.pipe_model.specs.declared.status.Status.TheVariants.{Running, Pending, Completed}
@@ -36,7 +37,9 @@ first_alive : (fs : List Frame) → FirstAlive fs ⊎ AllEnded fs
 first_alive [] = inr (λ i f e. absurd (let q : None ≡ Some f = e in cc))
 first_alive (x ∷ fs) = by_status (is_completed x.status) refl (first_alive fs)
   where
-    ended : is_completed x.status ≡ true → (i : ℕ) (f : Frame) → ((k : ℕ) → i ≡ suc k → frame_at fs k ≡ Some f → is_completed f.status ≡ true) → frame_at (x ∷ fs) i ≡ Some f → is_completed f.status ≡ true
+    ended : is_completed x.status ≡ true → (i : ℕ) (f : Frame)
+        → ((k : ℕ) → i ≡ suc k → frame_at fs k ≡ Some f → is_completed f.status ≡ true) → frame_at (x ∷ fs) i ≡ Some f
+        → is_completed f.status ≡ true
     ended e zero f more is = let same : x ≡ f = cc in subst (λ (g : Frame). is_completed g.status ≡ true) same e
     ended e (suc k) f more is = more k refl is
 
@@ -61,19 +64,22 @@ ended_first_by_end Running nodes e = absurd (let q : false ≡ true = e in cc)
 ended_first_by_end (Pending k m) nodes e = tt
 ended_first_by_end (Completed x) nodes e = tt
 
-left_passed : (fs : List Frame) (i : ℕ) (n : ℤ) → ((j : ℕ) (f : Frame) → j < i → frame_at fs j ≡ Some f → is_completed f.status ≡ true) → LeftHasPassed fs i n
+left_passed : (fs : List Frame) (i : ℕ) (n : ℤ) → ((j : ℕ) (f : Frame) → j < i → frame_at fs j ≡ Some f → is_completed f.status ≡ true)
+    → LeftHasPassed fs i n
 left_passed fs zero n before = tt
 left_passed fs (suc j) n before = λ f is. passed_by_end f.status f.nodes n (before j f (omega arith) is)
 
 -- if nothing can be done and the run is not over, an instance runs
-pub one_runs : (limit : ℕ) (s : State) (closed : Bool) → IsTrue closed ↔ IsClosed s.frames → IsSound s.frames → 0 < limit → s.stopped ≡ false
+pub one_runs : (limit : ℕ) (s : State) (closed : Bool) → IsTrue closed ↔ IsClosed s.frames → IsSound s.frames → 0 < limit
+    → s.stopped ≡ false
     → ((i : ℕ) → MayEnter s i → ⊥) → (MayBegin limit s (length s.frames) → ⊥) → (IsFinished s → ⊥) → (i : ℕ) × IsRunning s i
 one_runs limit s closed shut sound some going enters begins over = by_frames (first_alive s.frames)
   where
     by_frame : (i : ℕ) (f : Frame) → frame_at s.frames i ≡ Some f → (w : Status) → f.status ≡ w → is_completed w ≡ false
         → ((n : ℤ) → LeftHasPassed s.frames i n) → (i : ℕ) × IsRunning s i
     by_frame i f is Running runs lives passed = (i, record { frame = f; is = is; runs = runs })
-    by_frame i f is (Pending k n) named lives passed = absurd (enters i (record { frame = f; kind = k; number = n; is = is; named = named; free = λ w. passed n }))
+    by_frame i f is (Pending k n) named lives passed =
+        absurd (enters i (record { frame = f; kind = k; number = n; is = is; named = named; free = λ w. passed n }))
     by_frame i f is (Completed x) named lives passed = absurd (let q : true ≡ false = lives in cc)
 
     by_closed : AllEnded s.frames → (b : Bool) → closed ≡ b → (i : ℕ) × IsRunning s i
@@ -102,9 +108,13 @@ out_by {M} b i rows runs ready =
     by_token (Some t) e = absurd (ready (record { fields = fields_of t; kept = e; runs = runs }))
 
 -- if no iteration can go on and none may begin, and the run is not over, a token is out
-pub a_token_is_out : {M : Type 0} (Whole : SyntaxTree → M → Type 0) (ReadyAt : SyntaxTree → List ℤ → M → ℕ → List (List ℤ) → Type 0) (tie : M → Tie) (b : Tables M)
-    → IsBook Whole ReadyAt tie b → (state_of (book_state b)).stopped ≡ false → ((i : ℕ) → CanGoOn (IsReady (book_state b)) (state_of (book_state b)) i → ⊥)
-    → (MayBegin b.limit (state_of (book_state b)) (length (state_of (book_state b)).frames) → ⊥) → (IsFinished (state_of (book_state b)) → ⊥) → (i : ℕ) × IsOut (book_state b) i
+pub a_token_is_out : {M : Type 0} (Whole : SyntaxTree → M → Type 0) (ReadyAt : SyntaxTree → List ℤ → M → ℕ → List (List ℤ) → Type 0)
+    (tie : M → Tie) (b : Tables M)
+    → IsBook Whole ReadyAt tie b → (state_of (book_state b)).stopped ≡ false
+    → ((i : ℕ) → CanGoOn (IsReady (book_state b)) (state_of (book_state b)) i → ⊥)
+    → (MayBegin b.limit (state_of (book_state b)) (length (state_of (book_state b)).frames) → ⊥)
+    → (IsFinished (state_of (book_state b)) → ⊥) → (i : ℕ) × IsOut (book_state b) i
 a_token_is_out Whole ReadyAt tie b h going none begins over =
-    let found = one_runs b.limit (state_of (book_state b)) b.closed h.closed h.logged.sound.sound h.some going (λ i m. none i (inr m)) begins over in
+    let found = one_runs b.limit (state_of (book_state b)) b.closed h.closed h.logged.sound.sound h.some going
+    (λ i m. none i (inr m)) begins over in
     (found.0, out_by b found.0 h.rows.each found.1 (λ r. none found.0 (inl r)))

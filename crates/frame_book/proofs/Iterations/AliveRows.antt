@@ -1,5 +1,6 @@
 -- The list of alive iterations while rows change.
-use Rattle.std.proofs.Common.{◌≡◌, ◌≢◌, ℕ, zero, suc, ◌+◌, ◌<◌, ◌≤◌, List, [], ◌∷◌, ◌++◌, length, map, set, get_or, refl, ap, sym, ◌∙◌, arith, subst, Bool, true, false, not, cond, filter, Option, Some, None, inl, inr, All, Contains}
+use Rattle.std.proofs.Common.{◌≡◌, ◌≢◌, ℕ, zero, suc, ◌+◌, ◌<◌, ◌≤◌, List, [], ◌∷◌, ◌++◌, length, map, set, get_or, refl, ap, sym, ◌∙◌}
+use Rattle.std.proofs.Common.{arith, subst, Bool, true, false, not, cond, filter, Option, Some, None, inl, inr, All, Contains}
 use Rattle.std.proofs.lemmas.Bool.{cases_eq, cases_lt}
 use Rattle.std.proofs.lemmas.List.{length-set, length_push, get_or_default}
 use Rattle.std.proofs.lemmas.List.Elements.{All-filter, All-push, All-weaker, Contains-append_left, Contains-push}
@@ -27,11 +28,13 @@ out_by o (Pending k n) e = refl
 out_by None (Completed x) e = absurd (let z : Spent ≡ Out = e in cc)
 out_by (Some t) (Completed x) e = absurd (let z : Kept (fields_of t) ≡ Out = e in cc)
 
-pub out_alive : {M : Type 0} → (rs : List (IterationRow M)) (i : ℕ) (r : IterationRow M) → row_at rs i ≡ Some r → get_or (map token_state_of rs) i Spent ≡ Out → is_completed r.status ≡ false
+pub out_alive : {M : Type 0} → (rs : List (IterationRow M)) (i : ℕ) (r : IterationRow M) → row_at rs i ≡ Some r
+    → get_or (map token_state_of rs) i Spent ≡ Out → is_completed r.status ≡ false
 out_alive rs i r at out = out_by r.token r.status (sym (map_at token_state_of rs i r Spent at) ∙ out)
 
 -- a row that is read
-alive_row : {M : Type 0} → (rs : List (IterationRow M)) (i : ℕ) (r : IterationRow M) → row_at rs i ≡ Some r → is_completed r.status ≡ false → is_alive_in rs i ≡ true
+alive_row : {M : Type 0} → (rs : List (IterationRow M)) (i : ℕ) (r : IterationRow M) → row_at rs i ≡ Some r → is_completed r.status ≡ false
+    → is_alive_in rs i ≡ true
 alive_row rs i r at e = ap is_alive_row at ∙ ap not e
 
 -- an iteration that goes on is alive
@@ -40,13 +43,15 @@ free_alive fs i Running x = refl
 free_alive fs i (Pending k n) x = refl
 free_alive fs i (Completed e) x = absurd x
 
-pub going_alive : {M : Type 0} → (going : Bool) (fs : List Frame) (rs : List (IterationRow M)) (i : ℕ) → AreRows going fs rs → RowGoesOn fs rs i → is_alive_in rs i ≡ true
+pub going_alive : {M : Type 0} → (going : Bool) (fs : List Frame) (rs : List (IterationRow M)) (i : ℕ) → AreRows going fs rs
+    → RowGoesOn fs rs i → is_alive_in rs i ≡ true
 going_alive {M} going fs rs i h (inl y) = alive_row rs i y.0 y.1 (ap is_completed y.2)
 going_alive {M} going fs rs i h (inr x) = by (frame_at fs i) refl x
   where
     by : (o : Option Frame) → frame_at fs i ≡ o → IsFreeIn fs i o → is_alive_in rs i ≡ true
     by None e x = absurd x
-    by (Some f) e x = let q = row_of_frame going fs rs i f h e in alive_row rs i q.row q.is (ap is_completed q.matches.status ∙ free_alive fs i f.status x)
+    by (Some f) e x = let q = row_of_frame going fs rs i f h e in alive_row rs i q.row q.is
+        (ap is_completed q.matches.status ∙ free_alive fs i f.status x)
 
 -- ---- rows that change
 
@@ -57,7 +62,8 @@ other_row (r ∷ rs) zero (suc j) y n = refl
 other_row (r ∷ rs) (suc i) zero y n = refl
 other_row (r ∷ rs) (suc i) (suc j) y n = other_row rs i j y (λ e. n (ap suc e))
 
-earlier_row : {M : Type 0} → (rs : List (IterationRow M)) (y : IterationRow M) (i : ℕ) → i < length rs → row_at (rs ++ y ∷ []) i ≡ row_at rs i
+earlier_row : {M : Type 0} → (rs : List (IterationRow M)) (y : IterationRow M) (i : ℕ) → i < length rs
+    → row_at (rs ++ y ∷ []) i ≡ row_at rs i
 earlier_row [] y i l = absurd (omega (arith, l))
 earlier_row (r ∷ rs) y zero l = refl
 earlier_row (r ∷ rs) y (suc i) l = earlier_row rs y i (omega (arith, l))
@@ -69,7 +75,8 @@ row_past (r ∷ rs) zero l = absurd (omega (arith, l))
 row_past (r ∷ rs) (suc i) l = row_past rs i (omega (arith, l))
 
 -- a row of an alive iteration is changed
-lists_set : {M : Type 0} → (rs : List (IterationRow M)) (i : ℕ) (r y : IterationRow M) (alive : List ℕ) → row_at rs i ≡ Some r → is_completed r.status ≡ false → ListsAlive rs alive → ListsAlive (set rs i y) alive
+lists_set : {M : Type 0} → (rs : List (IterationRow M)) (i : ℕ) (r y : IterationRow M) (alive : List ℕ) → row_at rs i ≡ Some r
+    → is_completed r.status ≡ false → ListsAlive rs alive → ListsAlive (set rs i y) alive
 lists_set rs i r y alive at e h = record {
   rises = h.rises;
   begun = subst (λ n. All (λ k. k < n) alive) (sym (length-set rs i y)) h.begun;
@@ -79,19 +86,25 @@ lists_set rs i r y alive at e h = record {
   ];
 }
 
-pub alive_set : {M : Type 0} → (rs spare : List (IterationRow M)) (i : ℕ) (r y : IterationRow M) (alive : List ℕ) (room : ℕ) → row_at rs i ≡ Some r → is_completed r.status ≡ false → HasAliveList rs spare alive room → HasAliveList (set rs i y) spare alive room
+pub alive_set : {M : Type 0} → (rs spare : List (IterationRow M)) (i : ℕ) (r y : IterationRow M) (alive : List ℕ) (room : ℕ)
+    → row_at rs i ≡ Some r → is_completed r.status ≡ false → HasAliveList rs spare alive room → HasAliveList (set rs i y) spare alive room
 alive_set rs spare i r y alive room at e h = record { list = lists_set rs i r y alive at e h.list; room = h.room }
 
 -- a row of an iteration whose token is out is changed
-pub alive_out : {M : Type 0} → (rs spare : List (IterationRow M)) (i : ℕ) (r y : IterationRow M) (alive : List ℕ) (room : ℕ) → row_at rs i ≡ Some r → get_or (map token_state_of rs) i Spent ≡ Out → HasAliveList rs spare alive room → HasAliveList (set rs i y) spare alive room
+pub alive_out : {M : Type 0} → (rs spare : List (IterationRow M)) (i : ℕ) (r y : IterationRow M) (alive : List ℕ) (room : ℕ)
+    → row_at rs i ≡ Some r → get_or (map token_state_of rs) i Spent ≡ Out → HasAliveList rs spare alive room
+    → HasAliveList (set rs i y) spare alive room
 alive_out rs spare i r y alive room at out h = alive_set rs spare i r y alive room at (out_alive rs i r at out) h
 
 -- an iteration begins
-lists_push : {M : Type 0} → (rs : List (IterationRow M)) (y : IterationRow M) (alive : List ℕ) → ListsAlive rs alive → ListsAlive (rs ++ y ∷ []) (alive ++ length rs ∷ [])
+lists_push : {M : Type 0} → (rs : List (IterationRow M)) (y : IterationRow M) (alive : List ℕ) → ListsAlive rs alive
+    → ListsAlive (rs ++ y ∷ []) (alive ++ length rs ∷ [])
 lists_push rs y alive h =
     let wide : length (rs ++ y ∷ []) ≡ length rs + 1 = length_push rs y in record {
       rises = all_pairs_push (λ (i : ℕ) (j : ℕ). i < j) alive (length rs) h.rises h.begun;
-      begun = All-push (λ i. i < length (rs ++ y ∷ [])) alive (length rs) (All-weaker (λ i. i < length rs) (λ i. i < length (rs ++ y ∷ [])) (λ i l. (omega (arith, l, wide))) alive h.begun) (omega (arith, wide));
+      begun = All-push (λ i. i < length (rs ++ y ∷ [])) alive (length rs)
+          (All-weaker (λ i. i < length rs) (λ i. i < length (rs ++ y ∷ [])) (λ i l. (omega (arith, l, wide))) alive h.begun)
+          (omega (arith, wide));
       all = λ j a. elim (cases_lt j (length rs)) [
         | inl l ↦ Contains-append_left alive (length rs ∷ []) j (h.all j (ap is_alive_row (sym (earlier_row rs y j l)) ∙ a))
         | inr g ↦ elim (cases_eq j (length rs)) [
@@ -101,7 +114,8 @@ lists_push rs y alive h =
       ];
     }
 
-pub alive_push : {M : Type 0} → (rs spare : List (IterationRow M)) (row y : IterationRow M) (alive : List ℕ) (room : ℕ) → HasAliveList rs (spare ++ row ∷ []) alive room → HasAliveList (rs ++ y ∷ []) spare (alive ++ length rs ∷ []) room
+pub alive_push : {M : Type 0} → (rs spare : List (IterationRow M)) (row y : IterationRow M) (alive : List ℕ) (room : ℕ)
+    → HasAliveList rs (spare ++ row ∷ []) alive room → HasAliveList (rs ++ y ∷ []) spare (alive ++ length rs ∷ []) room
 alive_push rs spare row y alive room h = record {
   list = lists_push rs y alive h.list;
   room = (let a = h.room in let b = length_push spare row in let c = length_push alive (length rs) in omega (arith, a, b, c));
@@ -111,7 +125,8 @@ alive_push rs spare row y alive room h = record {
 
 kept_passing : {X : Type 0} → (p : X → Bool) (xs : List X) (x : X) → p x ≡ true → Contains xs x → Contains (filter p xs) x
 kept_passing p [] x e q = absurd (let l = q.1 in omega (arith, l))
-kept_passing p (y ∷ ys) x e (zero, l, s) = subst (λ b. Contains (cond b (y ∷ filter p ys) (filter p ys)) x) (sym (ap p (let z : y ≡ x = s in z) ∙ e)) (0, omega arith, s)
+kept_passing p (y ∷ ys) x e (zero, l, s) = subst (λ b. Contains (cond b (y ∷ filter p ys) (filter p ys)) x)
+    (sym (ap p (let z : y ≡ x = s in z) ∙ e)) (0, omega arith, s)
 kept_passing p (y ∷ ys) x e (suc k, l, s) = by (p y) (kept_passing p ys x e (k, omega (arith, l), s))
   where
     by : (b : Bool) → Contains (filter p ys) x → Contains (cond b (y ∷ filter p ys) (filter p ys)) x
@@ -126,7 +141,8 @@ length_filter p (x ∷ xs) = let h = length_filter p xs in by (p x) h
     by true l = omega (arith, l)
     by false l = omega (arith, l)
 
-pub alive_kept : {M : Type 0} → (rs spare : List (IterationRow M)) (alive : List ℕ) (room : ℕ) → HasAliveList rs spare alive room → HasAliveList rs spare (filter (is_alive_in rs) alive) room
+pub alive_kept : {M : Type 0} → (rs spare : List (IterationRow M)) (alive : List ℕ) (room : ℕ) → HasAliveList rs spare alive room
+    → HasAliveList rs spare (filter (is_alive_in rs) alive) room
 alive_kept rs spare alive room h = record {
   list = record {
     rises = AllPairs-filter (λ (i : ℕ) (j : ℕ). i < j) (is_alive_in rs) alive h.list.rises;
@@ -153,7 +169,8 @@ listed_at : (alive : List ℕ) (i : ℕ) (at : Contains alive i) → get_or aliv
 listed_at alive i at = get_or_default alive at.0 0 i at.1 ∙ at.2
 
 -- none of the listed ones before number k goes on: none below the k-th does
-pub none_before : {M : Type 0} → (going : Bool) (fs : List Frame) (rs : List (IterationRow M)) (alive : List ℕ) (k : ℕ) → AreRows going fs rs → ListsAlive rs alive → k < length alive
+pub none_before : {M : Type 0} → (going : Bool) (fs : List Frame) (rs : List (IterationRow M)) (alive : List ℕ) (k : ℕ)
+    → AreRows going fs rs → ListsAlive rs alive → k < length alive
     → ((m : ℕ) → m < k → RowGoesOn fs rs (get_or alive m 0) → ⊥) → (j : ℕ) → j < get_or alive k 0 → RowGoesOn fs rs j → ⊥
 none_before going fs rs alive k h q l before j less x =
     let at = q.all j (going_alive going fs rs j h x) in
@@ -167,7 +184,8 @@ none_before going fs rs alive k h q l before j less x =
     ]
 
 -- none of the listed ones goes on: none does
-pub none_at_all : {M : Type 0} → (going : Bool) (fs : List Frame) (rs : List (IterationRow M)) (alive : List ℕ) → AreRows going fs rs → ListsAlive rs alive
+pub none_at_all : {M : Type 0} → (going : Bool) (fs : List Frame) (rs : List (IterationRow M)) (alive : List ℕ) → AreRows going fs rs
+    → ListsAlive rs alive
     → ((m : ℕ) → m < length alive → RowGoesOn fs rs (get_or alive m 0) → ⊥) → (j : ℕ) → RowGoesOn fs rs j → ⊥
 none_at_all going fs rs alive h q none j x =
     let at = q.all j (going_alive going fs rs j h x) in

@@ -1,5 +1,6 @@
 -- Rows that no iteration has used yet.
-use Rattle.std.proofs.Common.{◌≡◌, ℕ, suc, pos, ◌+◌, ◌<◌, ◌≤◌, List, [], ◌∷◌, ◌++◌, length, length-append, map, get_or, refl, ap, ap₂, sym, ◌∙◌, arith, subst, true, Some, None, inl, inr, reverse, append_assoc, All}
+use Rattle.std.proofs.Common.{◌≡◌, ℕ, suc, pos, ◌+◌, ◌<◌, ◌≤◌, List, [], ◌∷◌, ◌++◌, length, length-append, map, get_or, refl, ap, ap₂, sym}
+use Rattle.std.proofs.Common.{◌∙◌, arith, subst, true, Some, None, inl, inr, reverse, append_assoc, All}
 use Rattle.std.proofs.lemmas.Bool.{cases_eq}
 use Rattle.std.proofs.lemmas.List.{length-map, length-reverse, map-append, reverse-append, get_or-append-add}
 use Rattle.std.proofs.Math.Seq.{get_or-append_seam}
@@ -8,7 +9,8 @@ use Rattle.pipe_model.specs.declared.column.ColumnEnd.{ColumnEnd}
 use Rattle.pipe_model.specs.declared.node.Kind.TheVariants.{Zero}
 use Rattle.pipe_model.specs.declared.node.Node.{Node}
 use Rattle.pipe_model.specs.Runs.Allowed.{ClosesLoop, ContinuesLoop, EndedFirstInstance}
-use Rattle.pipe_model.specs.Pipelines.Behaviour.{Action, Accessed, Staged, Ended, Behaviour, node_of, Reading, Writing, Staging, Ending, Performs, nodes_in, column_of, trace_end, closes_at_once}
+use Rattle.pipe_model.specs.Pipelines.Behaviour.{Action, Accessed, Staged, Ended, Behaviour, node_of, Reading, Writing, Staging, Ending}
+use Rattle.pipe_model.specs.Pipelines.Behaviour.{Performs, nodes_in, column_of, trace_end, closes_at_once}
 use Rattle.pipe_model.specs.Pipelines.Pipeline.{Pipeline, AlwaysClosesLoop}
 use Rattle.pipe_model.specs.declared.status.Status.{Status}
 use Rattle.pipe_model.specs.declared.status.Status.TheVariants.{Running, Pending, Completed}
@@ -26,7 +28,8 @@ total_append m (x ∷ xs) ys = let h = total_append m xs ys in omega (arith, h)
 -- at most as many items as their sum, if each counts
 pub few_of_total : {X : Type 0} → (m : X → ℕ) (xs : List X) → ((i : ℕ) → i < length xs → 0 < get_or (map m xs) i 0) → length xs ≤ total m xs
 few_of_total m [] h = omega arith
-few_of_total m (x ∷ xs) h = let a = h 0 (omega arith) in let b = few_of_total m xs (λ i l. h (suc i) (omega (arith, l))) in omega (arith, a, b)
+few_of_total m (x ∷ xs) h = let a = h 0 (omega arith) in let b = few_of_total m xs (λ i l. h (suc i) (omega (arith, l))) in
+    omega (arith, a, b)
 
 -- after the end no stage is named
 ending_names_none : (f : ColumnEnd) (xs : List Action) → Performs (Ending f) xs → nodes_in xs ≡ []
@@ -36,7 +39,8 @@ ending_names_none f (Staged j i ∷ xs) p = absurd (let q : Staged j i ≡ Ended
 ending_names_none f (Ended e ∷ xs) p = ending_names_none f xs p.1
 
 -- what always closes the loop names no stage, and its end closes
-pub closes_alone : (d : Behaviour) (xs : List Action) → AlwaysClosesLoop d → Performs d xs → (nodes_in xs ≡ []) × ((e : ColumnEnd) → trace_end xs ≡ Some e → closes_at_once e ≡ true)
+pub closes_alone : (d : Behaviour) (xs : List Action) → AlwaysClosesLoop d → Performs d xs
+    → (nodes_in xs ≡ []) × ((e : ColumnEnd) → trace_end xs ≡ Some e → closes_at_once e ≡ true)
 closes_alone d [] l p = (refl, (λ e q. absurd (let z : None ≡ Some e = q in cc)))
 closes_alone (Reading c go) (Accessed a ∷ xs) l p = closes_alone (go a.value) xs (l a.value) p.1
 closes_alone (Writing c v d) (Accessed a ∷ xs) l p = closes_alone d xs l p.1
@@ -49,10 +53,15 @@ closes_alone (Ending f) (Staged j i ∷ xs) l p = absurd (let q : Staged j i ≡
 closes_alone (Reading c go) (Ended e ∷ xs) l p = absurd (let q = p.0.1 in cc)
 closes_alone (Writing c v d) (Ended e ∷ xs) l p = absurd (let q = p.0 in cc)
 closes_alone (Staging k m d) (Ended e ∷ xs) l p = absurd l
-closes_alone (Ending f) (Ended e ∷ xs) l p = (ending_names_none f xs p.1, (λ x q. (let z : Ended e ≡ Ended f = p.0 in let s : e ≡ f = cc in let w : e ≡ x = (let y : Some e ≡ Some x = q in cc) in ap closes_at_once (sym w ∙ s) ∙ l)))
+closes_alone (Ending f) (Ended e ∷ xs) l p = (
+  ending_names_none f xs p.1,
+  (λ x q. (let z : Ended e ≡ Ended f = p.0 in let s : e ≡ f = cc in let w : e ≡ x = (let y : Some e ≡ Some x = q in cc) in
+      ap closes_at_once (sym w ∙ s) ∙ l)),
+)
 
 -- instance 0 has ended and did not close the loop: the loop goes on
-pub goes_on_by : (w : Status) (nodes : List Node) → 0 < length nodes → EndedFirstInstance w nodes → (ClosesLoop w nodes → ⊥) → ContinuesLoop w nodes
+pub goes_on_by : (w : Status) (nodes : List Node) → 0 < length nodes → EndedFirstInstance w nodes → (ClosesLoop w nodes → ⊥)
+    → ContinuesLoop w nodes
 goes_on_by Running nodes l e n = e
 goes_on_by (Pending k m) nodes l e n = tt
 goes_on_by (Completed x) nodes l e n = λ c. elim (cases_eq (length nodes) 1) [
@@ -67,13 +76,15 @@ ended_by_going (Pending k m) nodes c = (tt, (λ x. x))
 ended_by_going (Completed x) nodes c = (tt, (λ y. (let l = c y.0 in let e = y.1 in omega (arith, l, e))))
 
 -- an iteration that always closes the loop does not go on
-pub last_goes_not : (f : Frame) (d : Behaviour) (xs : List Action) → AlwaysClosesLoop d → Performs d xs → MatchesFrame f xs → 0 < length f.nodes → ContinuesLoop f.status f.nodes → ⊥
+pub last_goes_not : (f : Frame) (d : Behaviour) (xs : List Action) → AlwaysClosesLoop d → Performs d xs → MatchesFrame f xs
+    → 0 < length f.nodes → ContinuesLoop f.status f.nodes → ⊥
 last_goes_not f d xs l p t some c =
     let q = closes_alone d xs l p in
     let n : f.nodes ++ pending_nodes f.status ≡ column_of [] = sym t.nodes ∙ ap (λ ns. node_of Zero (pos 0) ∷ ns) q.0 in
     by f.status (sym t.end) (length-append f.nodes (pending_nodes f.status)) (ap length n) c q.1
   where
-    by : (w : Status) → end_of_status w ≡ trace_end xs → length (f.nodes ++ pending_nodes w) ≡ length f.nodes + length (pending_nodes w) → length (f.nodes ++ pending_nodes w) ≡ 1 → ContinuesLoop w f.nodes
+    by : (w : Status) → end_of_status w ≡ trace_end xs → length (f.nodes ++ pending_nodes w) ≡ length f.nodes + length (pending_nodes w)
+        → length (f.nodes ++ pending_nodes w) ≡ 1 → ContinuesLoop w f.nodes
         → ((e : ColumnEnd) → trace_end xs ≡ Some e → closes_at_once e ≡ true) → ⊥
     by Running e a b c z = omega (arith, a, b, c)
     by (Pending k m) e a b c z = omega (arith, a, b, some)
@@ -96,13 +107,15 @@ module _ {M : Type 0} (rows spare : List (IterationRow M)) (row y : IterationRow
   pub room_in_pop : room_in (rows ++ y ∷ []) spare ≡ room_in rows (spare ++ row ∷ [])
   room_in_pop =
       let a = total_append (λ (r : IterationRow M). r.room) rows (y ∷ []) in
-      let b : total (λ (r : IterationRow M). r.room) (reverse (spare ++ row ∷ [])) ≡ row.room + total (λ (r : IterationRow M). r.room) (reverse spare) = ap (total (λ (r : IterationRow M). r.room)) turned in
+      let b : total (λ (r : IterationRow M). r.room) (reverse (spare ++ row ∷ [])) ≡ row.room + total (λ (r : IterationRow M). r.room)
+      (reverse spare) = ap (total (λ (r : IterationRow M). r.room)) turned in
       omega (arith, a, b, same)
 
   pub fresh_pop : All IsFresh (spare ++ row ∷ []) → All IsFresh spare × IsFresh row
   fresh_pop h = All-pop IsFresh (spare ++ row ∷ []) spare (Some row) refl h
 
-  pub sized_pop : (p : Pipeline) (down right log : ℕ) → IsSized p rows (spare ++ row ∷ []) down right log → IsSized p (rows ++ y ∷ []) spare down right log
+  pub sized_pop : (p : Pipeline) (down right log : ℕ) → IsSized p rows (spare ++ row ∷ []) down right log
+      → IsSized p (rows ++ y ∷ []) spare down right log
   sized_pop p down right log h = record {
     planned = subst (IsPlanned p) (sym rooms_pop) h.planned;
     fresh = (fresh_pop h.fresh).0;
@@ -116,17 +129,21 @@ module _ {M : Type 0} (rows spare : List (IterationRow M)) (row y : IterationRow
   pub room_of_spare : (p : Pipeline) → IsPlanned p (rooms_of rows (spare ++ row ∷ [])) → 0 < row.room
   room_of_spare p h =
       let f : IterationRow M → ℕ = λ r. r.room in
-      let e : rooms_of rows (spare ++ row ∷ []) ≡ map f rows ++ row.room ∷ map f (reverse spare) = ap (λ l. map f (rows ++ l)) turned ∙ map-append f rows (row ∷ reverse spare) in
+      let e : rooms_of rows (spare ++ row ∷ []) ≡ map f rows ++ row.room ∷ map f (reverse spare) = ap (λ l. map f (rows ++ l)) turned
+      ∙ map-append f rows (row ∷ reverse spare) in
       let n : length (map f rows) ≡ length rows = length-map rows f in
-      let wide : length (rooms_of rows (spare ++ row ∷ [])) ≡ length (map f rows) + length (row.room ∷ map f (reverse spare)) = ap length e ∙ length-append (map f rows) (row.room ∷ map f (reverse spare)) in
+      let wide : length (rooms_of rows (spare ++ row ∷ [])) ≡ length (map f rows) + length (row.room ∷ map f (reverse spare)) = ap length e
+      ∙ length-append (map f rows) (row.room ∷ map f (reverse spare)) in
       let l : length rows < length (rooms_of rows (spare ++ row ∷ [])) = omega (arith, wide, n) in
       let q = h.room (length rows) l in
-      let here : get_or (rooms_of rows (spare ++ row ∷ [])) (length rows) 0 ≡ row.room = ap₂ (λ k i. get_or k i 0) e (sym n) ∙ get_or-append_seam (map f rows) row.room (map f (reverse spare)) 0 in
+      let here : get_or (rooms_of rows (spare ++ row ∷ [])) (length rows) 0 ≡ row.room = ap₂ (λ k i. get_or k i 0) e (sym n)
+      ∙ get_or-append_seam (map f rows) row.room (map f (reverse spare)) 0 in
       let z = q.1 in
       omega (arith, here, z)
 
 -- there are not many rows
-pub few_rows : {M : Type 0} → (p : Pipeline) (rows spare : List (IterationRow M)) (down right log : ℕ) → IsSized p rows spare down right log → length rows + length spare ≤ room_in rows spare
+pub few_rows : {M : Type 0} → (p : Pipeline) (rows spare : List (IterationRow M)) (down right log : ℕ)
+    → IsSized p rows spare down right log → length rows + length spare ≤ room_in rows spare
 few_rows p rows spare down right log h =
     let f : IterationRow _ → ℕ = λ r. r.room in
     let a = few_of_total f (rows ++ reverse spare) (λ i l. (
@@ -140,7 +157,8 @@ few_rows p rows spare down right log h =
     omega (arith, a, b, c, d)
 
 -- the spare rows have room
-pub spare_room : {M : Type 0} → (p : Pipeline) (rows spare : List (IterationRow M)) (down right log : ℕ) → IsSized p rows spare down right log → length spare ≤ total (λ (r : IterationRow M). r.room) (reverse spare)
+pub spare_room : {M : Type 0} → (p : Pipeline) (rows spare : List (IterationRow M)) (down right log : ℕ)
+    → IsSized p rows spare down right log → length spare ≤ total (λ (r : IterationRow M). r.room) (reverse spare)
 spare_room p rows spare down right log h =
     let f : IterationRow _ → ℕ = λ r. r.room in
     let w : length (rooms_of rows spare) ≡ length (rows ++ reverse spare) = length-map (rows ++ reverse spare) f in
@@ -148,13 +166,16 @@ spare_room p rows spare down right log h =
     let d = length-reverse spare in
     let a = few_of_total f (reverse spare) (λ i l. (
     let q = h.planned.room (length rows + i) (omega (arith, l, w, c)) in
-    let here : get_or (rooms_of rows spare) (length rows + i) 0 ≡ get_or (map f (reverse spare)) i 0 = ap₂ (λ k n. get_or k n 0) (map-append f rows (reverse spare)) (ap (λ z. z + i) (sym (length-map rows f))) ∙ get_or-append-add (map f rows) (map f (reverse spare)) i 0 in
+    let here : get_or (rooms_of rows spare) (length rows + i) 0 ≡ get_or (map f (reverse spare)) i 0 =
+    ap₂ (λ k n. get_or k n 0) (map-append f rows (reverse spare)) (ap (λ z. z + i) (sym (length-map rows f)))
+    ∙ get_or-append-add (map f rows) (map f (reverse spare)) i 0 in
     let z = q.1 in
     omega (arith, z, here))) in
     omega (arith, a, d)
 
 -- if no spare row is left, the last iteration has begun, after which the loop does not go on
-pub spare_left : {M : Type 0} → (p : Pipeline) (rows spare : List (IterationRow M)) (fs : List Frame) (down right log : ℕ) (acts : ℕ → List Action) → IsSized p rows spare down right log → length fs ≡ length rows
+pub spare_left : {M : Type 0} → (p : Pipeline) (rows spare : List (IterationRow M)) (fs : List Frame) (down right log : ℕ)
+    (acts : ℕ → List Action) → IsSized p rows spare down right log → length fs ≡ length rows
     → ((i : ℕ) → Performs (p.behaviour i) (acts i)) → ((i : ℕ) (f : Frame) → frame_at fs i ≡ Some f → MatchesFrame f (acts i))
     → ((i : ℕ) (f : Frame) → frame_at fs i ≡ Some f → 0 < length f.nodes)
     → ((j : ℕ) (f : Frame) → length fs ≡ suc j → frame_at fs j ≡ Some f → ContinuesLoop f.status f.nodes) → length spare ≡ 0 → ⊥
@@ -166,4 +187,5 @@ spare_left p rows spare fs down right log acts h same performs matches filled fo
     let r = h.planned.rows in
     let n : length fs ≡ suc p.last_iteration = omega (arith, w, c, d, r, none, same) in
     let it = frame_at_exists fs p.last_iteration (omega (arith, n)) in
-    last_goes_not it.0 (p.behaviour p.last_iteration) (acts p.last_iteration) h.planned.proper.closes (performs p.last_iteration) (matches p.last_iteration it.0 it.1) (filled p.last_iteration it.0 it.1) (follows p.last_iteration it.0 n it.1)
+    last_goes_not it.0 (p.behaviour p.last_iteration) (acts p.last_iteration) h.planned.proper.closes (performs p.last_iteration)
+    (matches p.last_iteration it.0 it.1) (filled p.last_iteration it.0 it.1) (follows p.last_iteration it.0 n it.1)

@@ -7,7 +7,8 @@ use Rattle.frame_book.specs.RowsOfFrames.{AreRows}
 use Rattle.frame_book.specs.Rooms.{total}
 
 -- no more instances than rooms
-pub rows_fit : {M : Type 0} → (going : Bool) (fs : List Frame) (rs : List (IterationRow M)) → AreRows going fs rs → total (λ r. length r.numbers) rs ≤ total (λ r. r.room) rs
+pub rows_fit : {M : Type 0} → (going : Bool) (fs : List Frame) (rs : List (IterationRow M)) → AreRows going fs rs
+    → total (λ r. length r.numbers) rs ≤ total (λ r. r.room) rs
 rows_fit going [] [] h = omega arith
 rows_fit going [] (r ∷ rs) h = absurd h
 rows_fit going (f ∷ fs) [] h = absurd h

@@ -1,5 +1,7 @@
 -- The beginning of an iteration keeps the tables.
-use Rattle.std.proofs.Common.{◌≡◌, ◌≢◌, ℕ, ℤ, zero, suc, pos, ◌+◌, ◌-◌, ◌*◌, ◌^◌, ◌<◌, ◌≤◌, ◌↔◌, max, List, [], ◌∷◌, ◌++◌, length, map, get_or, refl, ap, sym, ◌∙◌, arith, subst, Bool, true, false, not, Option, Some, None, inl, inr, append-nil, All}
+use Rattle.std.proofs.Common.{◌≡◌, ◌≢◌, ℕ, ℤ, zero, suc, pos, ◌+◌, ◌-◌, ◌*◌, ◌^◌, ◌<◌, ◌≤◌, ◌↔◌, max, List, [], ◌∷◌, ◌++◌, length, map}
+use Rattle.std.proofs.Common.{get_or, refl, ap, sym, ◌∙◌, arith, subst, Bool, true, false, not, Option, Some, None, inl, inr, append-nil}
+use Rattle.std.proofs.Common.{All}
 use Rattle.std.proofs.lemmas.Bool.{cases_eq, cases_lt}
 use Rattle.std.proofs.lemmas.List.{map-append, length_push, length-map, get_or_append_left, get_or_push, get_or_past, length-append}
 use Rattle.std.proofs.lemmas.List.Elements.{All-pop}
@@ -47,23 +49,28 @@ use Rattle.frame_book.specs.GivenTokens.{IsGivenBy}
 use Rattle.frame_book.proofs.Actions.TraceActions.{laid_same}
 use Rattle.frame_book.proofs.BookLogs.AtEvents.{after_event}
 use Rattle.frame_book.proofs.Iterations.Totals.{rows_fit}
-use Rattle.frame_book.proofs.BookLogs.LogEntries.{last_ticket_with, length_with, entry_of, end_actions-push, rise_with, events_of_with, starts_of-push, state_after-push}
+use Rattle.frame_book.proofs.BookLogs.LogEntries.{last_ticket_with, length_with, entry_of, end_actions-push, rise_with, events_of_with}
+use Rattle.frame_book.proofs.BookLogs.LogEntries.{starts_of-push, state_after-push}
 use Rattle.frame_book.proofs.Iterations.FrameRows.{row_of_frame, rows_length, row_at_within}
 use Rattle.frame_book.proofs.Iterations.ChangedRows.{map_at}
-use Rattle.frame_book.proofs.Iterations.SpareRows.{sized_pop, fresh_pop, room_of_spare, few_rows, spare_room, spare_left, goes_on_by, total_append}
-use Rattle.frame_book.proofs.StartedInstances.GrownMarks.{down_grows, right_grows, marks_grow, marks_same, kept_grows, names_seen, knows_new, length_entries}
+use Rattle.frame_book.proofs.Iterations.SpareRows.{sized_pop, fresh_pop, room_of_spare, few_rows, spare_room, spare_left, goes_on_by}
+use Rattle.frame_book.proofs.Iterations.SpareRows.{total_append}
+use Rattle.frame_book.proofs.StartedInstances.GrownMarks.{down_grows, right_grows, marks_grow, marks_same, kept_grows, names_seen}
+use Rattle.frame_book.proofs.StartedInstances.GrownMarks.{knows_new, length_entries}
 use Rattle.frame_book.proofs.BookLogs.TokensOfStates.{token_at_events}
 use Rattle.frame_book.proofs.StartedInstances.StartRows.{head_marks_is, head_marks_none}
 
 -- rows and frames with one more of each
-pub rows_push : {M : Type 0} → (going : Bool) (fs : List Frame) (rs : List (IterationRow M)) (f : Frame) (y : IterationRow M) → AreRows going fs rs → IsRowOf going f y → AreRows going (fs ++ f ∷ []) (rs ++ y ∷ [])
+pub rows_push : {M : Type 0} → (going : Bool) (fs : List Frame) (rs : List (IterationRow M)) (f : Frame) (y : IterationRow M)
+    → AreRows going fs rs → IsRowOf going f y → AreRows going (fs ++ f ∷ []) (rs ++ y ∷ [])
 rows_push going [] [] f y h q = (q, tt)
 rows_push going [] (r ∷ rs) f y h q = absurd h
 rows_push going (x ∷ fs) [] f y h q = absurd h
 rows_push going (x ∷ fs) (r ∷ rs) f y h q = (h.0, rows_push going fs rs f y h.1 q)
 
 -- the token of a row before the last
-pub token_at_push : {M : Type 0} → (rs : List (IterationRow M)) (y : IterationRow M) (j : ℕ) → y.token ≡ None → token_at (rs ++ y ∷ []) j ≡ token_at rs j
+pub token_at_push : {M : Type 0} → (rs : List (IterationRow M)) (y : IterationRow M) (j : ℕ) → y.token ≡ None
+    → token_at (rs ++ y ∷ []) j ≡ token_at rs j
 token_at_push [] y zero e = e
 token_at_push [] y (suc j) e = refl
 token_at_push (r ∷ rs) y zero e = refl
@@ -94,7 +101,13 @@ alive_push (f ∷ fs) = let h = alive_push fs in omega (arith, h)
 -- a beginning closes no loop
 closed_push : (fs : List Frame) → IsClosed fs ↔ IsClosed (fs ++ fresh_frame ∷ [])
 closed_push fs = (
-  (λ q. record { iteration = q.iteration; frame = q.frame; is = frame_at_push fs fresh_frame q.iteration (frame_at_within fs q.iteration q.frame q.is) ∙ q.is; closes = q.closes }),
+  (λ q. record {
+    iteration = q.iteration;
+    frame = q.frame;
+    is = frame_at_push fs fresh_frame q.iteration
+        (frame_at_within fs q.iteration q.frame q.is) ∙ q.is;
+    closes = q.closes;
+  }),
   (λ q. elim (frame_at_begun fs q.iteration q.frame q.is) [
     | inl new ↦ absurd (subst (λ (f : Frame). ClosesLoop f.status f.nodes) new.1 q.closes)
     | inr old ↦ record { iteration = q.iteration; frame = q.frame; is = old.1; closes = q.closes }
@@ -102,20 +115,24 @@ closed_push fs = (
 )
 
 -- what the left neighbour of an iteration has passed stays
-pub passed_push : (fs : List Frame) (i : ℕ) (f : Frame) → frame_at fs i ≡ Some f → (m : ℤ) → LeftHasPassed fs i m → LeftHasPassed (fs ++ fresh_frame ∷ []) i m
+pub passed_push : (fs : List Frame) (i : ℕ) (f : Frame) → frame_at fs i ≡ Some f → (m : ℤ) → LeftHasPassed fs i m
+    → LeftHasPassed (fs ++ fresh_frame ∷ []) i m
 passed_push fs zero f e m l = tt
-passed_push fs (suc j) f e m l = λ g is. (let w = frame_at_within fs (suc j) f e in l g (sym (frame_at_push fs fresh_frame j (omega (arith, w))) ∙ is))
+passed_push fs (suc j) f e m l = λ g is. (let w = frame_at_within fs (suc j) f e in
+    l g (sym (frame_at_push fs fresh_frame j (omega (arith, w))) ∙ is))
 
 -- the marks of the head before
 abbrev pub head_of : List (List Node) → List NodeId → ℕ → Option Marks
 head_of columns starts zero = None
 head_of columns starts (suc j) = Some (instance_marks columns starts j 0)
 
-head_down : (columns : List (List Node)) (starts : List NodeId) (n : ℕ) → down_taken None (head_of columns starts n) ≡ down_first_taken (start_number starts) n 0
+head_down : (columns : List (List Node)) (starts : List NodeId) (n : ℕ) → down_taken None (head_of columns starts n) ≡ down_first_taken
+    (start_number starts) n 0
 head_down columns starts zero = refl
 head_down columns starts (suc j) = refl
 
-head_right : (columns columns' : List (List Node)) (starts : List NodeId) (n : ℕ) → right_taken None (head_of columns starts n) ≡ right_first_taken columns' (start_number starts) n 0
+head_right : (columns columns' : List (List Node)) (starts : List NodeId) (n : ℕ) → right_taken None
+    (head_of columns starts n) ≡ right_first_taken columns' (start_number starts) n 0
 head_right columns columns' starts zero = refl
 head_right columns columns' starts (suc j) = refl
 
@@ -131,7 +148,8 @@ joined_head columns zero = refl
 joined_head columns (suc n) = refl
 
 module _ {M : Type 0} (Whole : SyntaxTree → M → Type 0) (ReadyAt : SyntaxTree → List ℤ → M → ℕ → List (List ℤ) → Type 0) (tie : M → Tie)
-    (b : Tables M) (h : IsBook Whole ReadyAt tie b) (going : b.stopped ≡ false) (unclosed : b.closed ≡ false) (ended : LastEndedFirstInstance (state_after (events_of b.ledger.log)).frames)
+    (b : Tables M) (h : IsBook Whole ReadyAt tie b) (going : b.stopped ≡ false) (unclosed : b.closed ≡ false)
+    (ended : LastEndedFirstInstance (state_after (events_of b.ledger.log)).frames)
     (home : List M) (m : M) (taken : b.pool.home ≡ home ++ m ∷ []) where
   abbrev pub c : State
   c = state_after (events_of b.ledger.log)
@@ -159,17 +177,20 @@ module _ {M : Type 0} (Whole : SyntaxTree → M → Type 0) (ReadyAt : SyntaxTre
   may = record {
     number = sym same_length;
     room = (let a = h.alive in let s = h.size in let w = ap length taken ∙ length_push home m in omega (arith, a, s, w));
-    follows = λ j f e is. goes_on_by f.status f.nodes (filled j f is) (ended j f (same_length ∙ e) is) (λ x. not_closed (record { iteration = j; frame = f; is = is; closes = x }));
+    follows = λ j f e is. goes_on_by f.status f.nodes (filled j f is) (ended j f (same_length ∙ e) is)
+        (λ x. not_closed (record { iteration = j; frame = f; is = is; closes = x }));
   }
 
   -- there is a spare row
   pub spare_some : length b.spare ≡ 0 → ⊥
-  spare_some e = spare_left (pipeline_of (tree_of b.program) b.input) b.rows b.spare c.frames _ _ _ (actions_in b.ledger.log (map (λ r. r.traces) b.rows)) h.sized same_length h.actions.performs h.actions.matches filled
+  spare_some e = spare_left (pipeline_of (tree_of b.program) b.input) b.rows b.spare c.frames _ _ _
+      (actions_in b.ledger.log (map (λ r. r.traces) b.rows)) h.sized same_length h.actions.performs h.actions.matches filled
       (λ j f q is. may.follows j f (sym same_length ∙ q) is) e
 
   -- iterations are few
   pub few : length b.rows < 2 ^ 31
-  few = let a = few_rows (pipeline_of (tree_of b.program) b.input) b.rows b.spare _ _ _ h.sized in let z = h.sized.few in omega (arith, a, z)
+  few = let a = few_rows (pipeline_of (tree_of b.program) b.input) b.rows b.spare _ _ _ h.sized in let z = h.sized.few in
+      omega (arith, a, z)
 
   -- the number of entries of the lists
   down_length : length b.orders.down.log ≡ 2 * length starts
@@ -181,7 +202,8 @@ module _ {M : Type 0} (Whole : SyntaxTree → M → Type 0) (ReadyAt : SyntaxTre
   -- the head of the last row has marks
   pub there : (r : IterationRow M) → row_at b.rows (length b.rows - 1) ≡ Some r → 0 < length r.marks
   there r at =
-      let q = Rattle.frame_book.proofs.Iterations.FrameRows.frame_of_row (not c.stopped) c.frames b.rows (length b.rows - 1) r h.rows.each at in
+      let q = Rattle.frame_book.proofs.Iterations.FrameRows.frame_of_row (not c.stopped) c.frames b.rows
+      (length b.rows - 1) r h.rows.each at in
       let a = q.matches.marks in
       let z = filled (length b.rows - 1) q.frame q.is in
       omega (arith, a, z)
@@ -193,9 +215,11 @@ module _ {M : Type 0} (Whole : SyntaxTree → M → Type 0) (ReadyAt : SyntaxTre
       let q = row_of_frame (not c.stopped) c.frames b.rows j it.0 h.rows.each it.1 in
       let p : length b.rows - 1 ≡ j = omega (arith, e) in
       let some = filled j it.0 it.1 in
-      let wide : 0 < length (nodes_at (own_columns c) j) = (let z = ap length (nodes_at_frame c.frames j it.0 it.1) in omega (arith, z, some)) in
+      let wide : 0 < length (nodes_at (own_columns c) j) =
+      (let z = ap length (nodes_at_frame c.frames j it.0 it.1) in omega (arith, z, some)) in
       head_marks_is b.rows q.row (subst (λ k. row_at b.rows k ≡ Some q.row) (sym p) q.is)
-      ∙ ap Some (ap (λ ms. get_or ms 0 no_marks) (sym (map_at (λ (z : IterationRow M). z.marks) b.rows j q.row [] q.is)) ∙ h.rows.marks j 0 wide)
+      ∙ ap Some (ap (λ ms. get_or ms 0 no_marks) (sym (map_at (λ (z : IterationRow M). z.marks) b.rows j q.row [] q.is))
+      ∙ h.rows.marks j 0 wide)
 
   pub head_is : head_marks b.rows ≡ head_of (own_columns c) starts n
   head_is = head_marks_are n refl
@@ -206,7 +230,8 @@ module _ {M : Type 0} (Whole : SyntaxTree → M → Type 0) (ReadyAt : SyntaxTre
       let some = filled j it.0 it.1 in
       h.logged.sound.all j 0 (let z = ap length (nodes_at_frame c.frames j it.0 it.1) in omega (arith, z, some))
 
-  below : (down_taken None (head_of (own_columns c) starts n) ≤ 2 * length starts) × (right_taken None (head_of (own_columns c) starts n) ≤ 2 * length starts)
+  below : (down_taken None (head_of (own_columns c) starts n) ≤ 2 * length starts)
+      × (right_taken None (head_of (own_columns c) starts n) ≤ 2 * length starts)
   below = head_below (own_columns c) starts n started_before
 
   -- the elements are in the lists
@@ -238,7 +263,8 @@ module _ {M : Type 0} (Whole : SyntaxTree → M → Type 0) (ReadyAt : SyntaxTre
   marks = marks_after (length b.orders.down.log) down_at right_at
 
   marks_are : marks ≡ instance_marks cols (starts ++ at n 0 ∷ []) n 0
-  marks_are = marks_grow c.frames (c.frames ++ fresh_frame ∷ []) starts (at n 0) h.logged.sound grew (length b.orders.down.log) down_at right_at down_length down_is right_is
+  marks_are = marks_grow c.frames (c.frames ++ fresh_frame ∷ []) starts (at n 0) h.logged.sound grew
+      (length b.orders.down.log) down_at right_at down_length down_is right_is
 
   -- the lists have room
   pub room : HasRoom b.orders
@@ -260,10 +286,12 @@ module _ {M : Type 0} (Whole : SyntaxTree → M → Type 0) (ReadyAt : SyntaxTre
 
   -- the payload that was at home
   pub was_home : IsAtHome (Whole (tree_of b.program)) tie (identities_of_orders b.orders) m
-  was_home = (All-pop (IsAtHome (Whole (tree_of b.program)) tie (identities_of_orders b.orders)) b.pool.home home (Some m) taken h.tokens.at_home).1
+  was_home = (All-pop (IsAtHome (Whole (tree_of b.program)) tie (identities_of_orders b.orders)) b.pool.home home
+      (Some m) taken h.tokens.at_home).1
 
   stay_home : All (IsAtHome (Whole (tree_of b.program)) tie (identities_of_orders b.orders)) home
-  stay_home = (All-pop (IsAtHome (Whole (tree_of b.program)) tie (identities_of_orders b.orders)) b.pool.home home (Some m) taken h.tokens.at_home).0
+  stay_home = (All-pop (IsAtHome (Whole (tree_of b.program)) tie (identities_of_orders b.orders)) b.pool.home home
+      (Some m) taken h.tokens.at_home).0
 
 -- a list without length
 pub nil_of_length : {X : Type 0} → (xs : List X) → length xs ≡ 0 → xs ≡ []
@@ -271,8 +299,10 @@ nil_of_length [] e = refl
 nil_of_length (x ∷ xs) e = absurd (omega (arith, e))
 
 module _ {M : Type 0} (Whole : SyntaxTree → M → Type 0) (ReadyAt : SyntaxTree → List ℤ → M → ℕ → List (List ℤ) → Type 0) (tie : M → Tie)
-    (b : Tables M) (h : IsBook Whole ReadyAt tie b) (going : b.stopped ≡ false) (unclosed : b.closed ≡ false) (ended : LastEndedFirstInstance (state_after (events_of b.ledger.log)).frames)
-    (home : List M) (m : M) (taken : b.pool.home ≡ home ++ m ∷ []) (spare : List (IterationRow M)) (r : IterationRow M) (popped : b.spare ≡ spare ++ r ∷ []) where
+    (b : Tables M) (h : IsBook Whole ReadyAt tie b) (going : b.stopped ≡ false) (unclosed : b.closed ≡ false)
+    (ended : LastEndedFirstInstance (state_after (events_of b.ledger.log)).frames)
+    (home : List M) (m : M) (taken : b.pool.home ≡ home ++ m ∷ []) (spare : List (IterationRow M)) (r : IterationRow M)
+    (popped : b.spare ≡ spare ++ r ∷ []) where
   abbrev pub q_marks : Marks
   q_marks = marks Whole ReadyAt tie b h going unclosed ended home m taken
 
@@ -326,7 +356,8 @@ module _ {M : Type 0} (Whole : SyntaxTree → M → Type 0) (ReadyAt : SyntaxTre
   token_none = ap (λ (z : IterationRow M). z.token) fresh
 
   has_room : 0 < r.room
-  has_room = room_of_spare b.rows spare r y refl (pipeline_of (tree_of b.program) b.input) (subst (λ l. IsPlanned (pipeline_of (tree_of b.program) b.input) (rooms_of b.rows l)) popped h.sized.planned)
+  has_room = room_of_spare b.rows spare r y refl (pipeline_of (tree_of b.program) b.input)
+      (subst (λ l. IsPlanned (pipeline_of (tree_of b.program) b.input) (rooms_of b.rows l)) popped h.sized.planned)
 
   -- there is room for the instance
   pub row_room : (length r.numbers < r.room) × (length r.marks < r.room)
@@ -349,23 +380,32 @@ module _ {M : Type 0} (Whole : SyntaxTree → M → Type 0) (ReadyAt : SyntaxTre
   traces_are = map-append (λ (z : IterationRow M). z.traces) b.rows (y ∷ []) ∙ ap (λ l. traces ++ l ∷ []) traces_none
 
   places_are : map token_state_of (b.rows ++ y ∷ []) ≡ map token_state_of b.rows ++ Out ∷ []
-  places_are = map-append token_state_of b.rows (y ∷ []) ∙ ap (λ o. map token_state_of b.rows ++ Rattle.frame_book.specs.Tables.token_state_by o Running ∷ []) token_none
+  places_are = map-append token_state_of b.rows (y ∷ [])
+      ∙ ap (λ o. map token_state_of b.rows ++ Rattle.frame_book.specs.Tables.token_state_by o Running ∷ []) token_none
 
   grown : Grew s.frames fs (starts_of (events_of b.ledger.log)) (at (length b.rows) 0)
   grown = grew Whole ReadyAt tie b h going unclosed ended home m taken
 
   at_new : get_or (map (λ (z : IterationRow M). z.marks) (b.rows ++ y ∷ [])) (length b.rows) [] ≡ q_marks ∷ []
   at_new = ap (λ l. get_or l (length b.rows) []) (map-append (λ (z : IterationRow M). z.marks) b.rows (y ∷ []))
-      ∙ (get_or_push (map (λ (z : IterationRow M). z.marks) b.rows) y.marks [] (length b.rows) (length-map b.rows (λ (z : IterationRow M). z.marks)) ∙ ap (λ l. l ++ q_marks ∷ []) marks_none)
+      ∙ (get_or_push (map (λ (z : IterationRow M). z.marks) b.rows) y.marks [] (length b.rows)
+      (length-map b.rows (λ (z : IterationRow M). z.marks)) ∙ ap (λ l. l ++ q_marks ∷ []) marks_none)
 
-  marks_of_new : (k : ℕ) → k < length (nodes_at (columns_of_frames fs) (length b.rows)) → get_or (get_or (map (λ (z : IterationRow M). z.marks) (b.rows ++ y ∷ [])) (length b.rows) []) k no_marks ≡ instance_marks (columns_of_frames fs) news (length b.rows) k
+  marks_of_new : (k : ℕ) → k < length (nodes_at (columns_of_frames fs) (length b.rows)) → get_or
+      (get_or (map (λ (z : IterationRow M). z.marks) (b.rows ++ y ∷ [])) (length b.rows) []) k no_marks ≡ instance_marks
+      (columns_of_frames fs) news (length b.rows) k
   marks_of_new k l =
       let here : frame_at fs (length b.rows) ≡ Some fresh_frame = ap (frame_at fs) (sym same) ∙ frame_at_last s.frames fresh_frame in
-      let w : length (nodes_at (columns_of_frames fs) (length b.rows)) ≡ 1 = ap length (nodes_at_frame fs (length b.rows) fresh_frame here) in
+      let w : length (nodes_at (columns_of_frames fs) (length b.rows)) ≡ 1 = ap length (nodes_at_frame fs (length b.rows) fresh_frame here)
+      in
       let z : k ≡ 0 = omega (arith, l, w) in
-      ap (λ ms. get_or ms k no_marks) at_new ∙ (ap (λ i. get_or (q_marks ∷ []) i no_marks) z ∙ (marks_are Whole ReadyAt tie b h going unclosed ended home m taken ∙ ap (instance_marks (columns_of_frames fs) news (length b.rows)) (sym z)))
+      ap (λ ms. get_or ms k no_marks) at_new ∙ (ap (λ i. get_or (q_marks ∷ []) i no_marks) z
+      ∙ (marks_are Whole ReadyAt tie b h going unclosed ended home m taken
+      ∙ ap (instance_marks (columns_of_frames fs) news (length b.rows)) (sym z)))
 
-  marks_of_old : (j k : ℕ) → j ≢ length b.rows → k < length (nodes_at (columns_of_frames fs) j) → get_or (get_or (map (λ (z : IterationRow M). z.marks) (b.rows ++ y ∷ [])) j []) k no_marks ≡ instance_marks (columns_of_frames fs) news j k
+  marks_of_old : (j k : ℕ) → j ≢ length b.rows → k < length (nodes_at (columns_of_frames fs) j)
+      → get_or (get_or (map (λ (z : IterationRow M). z.marks) (b.rows ++ y ∷ [])) j []) k no_marks ≡ instance_marks
+      (columns_of_frames fs) news j k
   marks_of_old j k o l =
       let other = nodes_at_begun s.frames fresh_frame j (λ x. o (x ∙ same)) in
       let l' : k < length (nodes_at (own_columns s) j) = subst (λ ns. k < length ns) other l in
@@ -375,13 +415,19 @@ module _ {M : Type 0} (Whole : SyntaxTree → M → Type 0) (ReadyAt : SyntaxTre
       ] in
       let wide = length-map b.rows (λ (z : IterationRow M). z.marks) in
       ap (λ ms. get_or (get_or ms j []) k no_marks) (map-append (λ (z : IterationRow M). z.marks) b.rows (y ∷ []))
-      ∙ (ap (λ ms. get_or ms k no_marks) (get_or_append_left (map (λ (z : IterationRow M). z.marks) b.rows) (y.marks ∷ []) [] j (omega (arith, w, wide)))
-      ∙ (h.rows.marks j k l' ∙ sym (marks_same s.frames fs (starts_of (events_of b.ledger.log)) (at (length b.rows) 0) h.logged.sound grown j k l')))
+      ∙ (ap (λ ms. get_or ms k no_marks) (get_or_append_left (map (λ (z : IterationRow M). z.marks) b.rows) (y.marks ∷ []) [] j
+      (omega (arith, w, wide)))
+      ∙ (h.rows.marks j k l' ∙ sym (marks_same s.frames fs (starts_of (events_of b.ledger.log))
+      (at (length b.rows) 0) h.logged.sound grown j k l')))
 
   actions_same : (j : ℕ) → actions_in log (traces ++ [] ∷ []) j ≡ actions_in b.ledger.log traces j
   actions_same j =
-      ap (λ es. map (λ (a : Rattle.pipe_model.specs.Runs.TicketLogs.TimedAction). a.action) (laid_traces (made (traces ++ [] ∷ []) j) 0 es)) (end_actions-push j b.ledger.log (entry_of b.ledger.log 0 e) ∙ append-nil (end_actions j b.ledger.log))
-      ∙ ap (map (λ (a : Rattle.pipe_model.specs.Runs.TicketLogs.TimedAction). a.action)) (laid_same (made traces j) (made (traces ++ [] ∷ []) j) 0 (end_actions j b.ledger.log) (λ q. ap (λ ts. map timed_access (get_or ts q [])) (get_or_empty traces j)))
+      ap (λ es. map (λ (a : Rattle.pipe_model.specs.Runs.TicketLogs.TimedAction). a.action)
+      (laid_traces (made (traces ++ [] ∷ []) j) 0 es)) (end_actions-push j b.ledger.log (entry_of b.ledger.log 0 e)
+      ∙ append-nil (end_actions j b.ledger.log))
+      ∙ ap (map (λ (a : Rattle.pipe_model.specs.Runs.TicketLogs.TimedAction). a.action))
+      (laid_same (made traces j) (made (traces ++ [] ∷ []) j) 0 (end_actions j b.ledger.log)
+      (λ q. ap (λ ts. map timed_access (get_or ts q [])) (get_or_empty traces j)))
 
   counted_same : (j : ℕ) → length (end_actions j log) ≡ length (get_or (traces ++ [] ∷ []) j [])
   counted_same j =
@@ -390,9 +436,12 @@ module _ {M : Type 0} (Whole : SyntaxTree → M → Type 0) (ReadyAt : SyntaxTre
 
   actions_none : actions_in b.ledger.log traces (length b.rows) ≡ []
   actions_none =
-      let past : get_or traces (length b.rows) [] ≡ [] = get_or_past traces (length b.rows) [] (let w = length-map b.rows (λ (z : IterationRow M). z.traces) in omega (arith, w)) in
-      let ends : end_actions (length b.rows) b.ledger.log ≡ [] = nil_of_length (end_actions (length b.rows) b.ledger.log) (h.counted (length b.rows) (inl (sym h.stopped ∙ going)) ∙ ap length past) in
-      ap (λ es. map (λ (a : Rattle.pipe_model.specs.Runs.TicketLogs.TimedAction). a.action) (laid_traces (made traces (length b.rows)) 0 es)) ends
+      let past : get_or traces (length b.rows) [] ≡ [] = get_or_past traces (length b.rows) []
+      (let w = length-map b.rows (λ (z : IterationRow M). z.traces) in omega (arith, w)) in
+      let ends : end_actions (length b.rows) b.ledger.log ≡ [] = nil_of_length (end_actions (length b.rows) b.ledger.log)
+      (h.counted (length b.rows) (inl (sym h.stopped ∙ going)) ∙ ap length past) in
+      ap (λ es. map (λ (a : Rattle.pipe_model.specs.Runs.TicketLogs.TimedAction). a.action)
+      (laid_traces (made traces (length b.rows)) 0 es)) ends
       ∙ ap (λ ts. map (λ (a : Rattle.pipe_model.specs.Runs.TicketLogs.TimedAction). a.action) (map timed_access (get_or ts 0 []))) past
 
   actions_keep : HasActions p log (traces ++ [] ∷ []) (next_state s e)
@@ -408,12 +457,16 @@ module _ {M : Type 0} (Whole : SyntaxTree → M → Type 0) (ReadyAt : SyntaxTre
     ];
   }
 
-  tokens_keep : (j : ℕ) (f : Frame) (t : FrameToken M) → frame_at fs j ≡ Some f → token_at (b.rows ++ y ∷ []) j ≡ Some t → IsKeptToken (ReadyAt (tree_of b.program) b.input) tie (identities_of_orders b.orders) (traces ++ [] ∷ []) news (next_state s e) j f t
+  tokens_keep : (j : ℕ) (f : Frame) (t : FrameToken M) → frame_at fs j ≡ Some f → token_at (b.rows ++ y ∷ []) j ≡ Some t
+      → IsKeptToken (ReadyAt (tree_of b.program) b.input) tie (identities_of_orders b.orders) (traces ++ [] ∷ []) news
+      (next_state s e) j f t
   tokens_keep j f t is q =
       let w : token_at b.rows j ≡ Some t = sym (token_at_push b.rows y j token_none) ∙ q in
       elim (frame_at_begun s.frames j f is) [
         | inl new ↦ (let z = new.0 in let x : None ≡ Some t = sym (token_at_past b.rows j (omega (arith, z, same))) ∙ w in absurd (cc))
-        | inr old ↦ kept_grows s.frames fs (starts_of (events_of b.ledger.log)) (at (length b.rows) 0) h.logged.sound grown (ReadyAt (tree_of b.program) b.input) tie (identities_of_orders b.orders) traces (traces ++ [] ∷ []) s (next_state s e) j f t refl refl old.1
+        | inr old ↦ kept_grows s.frames fs (starts_of (events_of b.ledger.log)) (at (length b.rows) 0) h.logged.sound grown
+            (ReadyAt (tree_of b.program) b.input) tie (identities_of_orders b.orders) traces (traces ++ [] ∷ []) s
+            (next_state s e) j f t refl refl old.1
             (get_or_empty traces j) (passed_push s.frames j f old.1) (h.tokens.tokens (sym h.stopped ∙ going) j f t old.1 w)
       ]
 
@@ -424,7 +477,9 @@ module _ {M : Type 0} (Whole : SyntaxTree → M → Type 0) (ReadyAt : SyntaxTre
       let may' = may Whole ReadyAt tie b h going unclosed ended home m taken in
       let running' : s.stopped ≡ false = sym h.stopped ∙ going in
       after_event Whole ReadyAt tie with_begin b.ledger.log 0 e news refl refl record {
-        sized = sized_pop b.rows spare r y refl p b.orders.down.capacity b.orders.right.capacity b.ledger.room (subst (λ l. Rattle.frame_book.specs.Rooms.IsSized p b.rows l b.orders.down.capacity b.orders.right.capacity b.ledger.room) popped h.sized);
+        sized = sized_pop b.rows spare r y refl p b.orders.down.capacity b.orders.right.capacity b.ledger.room
+            (subst (λ l. Rattle.frame_book.specs.Rooms.IsSized p b.rows l b.orders.down.capacity b.orders.right.capacity b.ledger.room)
+            popped h.sized);
         logged = record {
           run = ControlRunThen h.logged.run e refl running' may';
           sound = grown.sound;
@@ -438,7 +493,9 @@ module _ {M : Type 0} (Whole : SyntaxTree → M → Type 0) (ReadyAt : SyntaxTre
         rows = record {
           each = rows_push (not s.stopped) s.frames b.rows fresh_frame y h.rows.each new_row_matches;
           marks = λ j k l. elim (cases_eq j (length b.rows)) [
-            | inl z ↦ subst (λ i. get_or (get_or (map (λ (x : IterationRow M). x.marks) (b.rows ++ y ∷ [])) i []) k no_marks ≡ instance_marks (columns_of_frames fs) news i k) (sym z) (marks_of_new k (subst (λ i. k < length (nodes_at (columns_of_frames fs) i)) z l))
+            | inl z ↦ subst (λ i. get_or (get_or (map (λ (x : IterationRow M). x.marks) (b.rows ++ y ∷ [])) i []) k no_marks
+                ≡ instance_marks (columns_of_frames fs) news i k) (sym z)
+                (marks_of_new k (subst (λ i. k < length (nodes_at (columns_of_frames fs) i)) z l))
             | inr o ↦ marks_of_old j k o l
           ];
           started = (
@@ -451,12 +508,15 @@ module _ {M : Type 0} (Whole : SyntaxTree → M → Type 0) (ReadyAt : SyntaxTre
         actions = subst (λ ts. HasActions p log ts (next_state s e)) (sym traces_are) actions_keep;
         counted = λ j u. counted_same j ∙ ap (λ ts. length (get_or ts j [])) (sym traces_are);
         tokens = record {
-          tokens = λ go j f t is q. subst (λ ts. IsKeptToken (ReadyAt (tree_of b.program) b.input) tie (identities_of_orders b.orders) ts news (next_state s e) j f t) (sym traces_are) (tokens_keep j f t is q);
+          tokens = λ go j f t is q. subst (λ ts. IsKeptToken (ReadyAt (tree_of b.program) b.input) tie
+              (identities_of_orders b.orders) ts news (next_state s e) j f t) (sym traces_are) (tokens_keep j f t is q);
           nows = λ j t q. (let a = h.tokens.nows j t (sym (token_at_push b.rows y j token_none) ∙ q) in omega (arith, a, long));
           at_home = stay_home Whole ReadyAt tie b h going unclosed ended home m taken;
         };
-        down = down_grows s.frames fs (starts_of (events_of b.ledger.log)) (at (length b.rows) 0) h.logged.sound grown b.orders.down.log _ h.down (down_is Whole ReadyAt tie b h going unclosed ended home m taken);
-        right = right_grows s.frames fs (starts_of (events_of b.ledger.log)) (at (length b.rows) 0) h.logged.sound grown b.orders.right.log _ h.right (right_is Whole ReadyAt tie b h going unclosed ended home m taken);
+        down = down_grows s.frames fs (starts_of (events_of b.ledger.log)) (at (length b.rows) 0) h.logged.sound grown b.orders.down.log _
+            h.down (down_is Whole ReadyAt tie b h going unclosed ended home m taken);
+        right = right_grows s.frames fs (starts_of (events_of b.ledger.log)) (at (length b.rows) 0) h.logged.sound grown b.orders.right.log
+            _ h.right (right_is Whole ReadyAt tie b h going unclosed ended home m taken);
         stopped = h.stopped;
         closed = (let q = closed_push s.frames in ((λ x. q.0 (h.closed.0 x)), (λ x. h.closed.1 (q.1 x))));
         alive = (let a = alive_push s.frames in let z = h.alive in let w = ap length taken ∙ length_push home m in omega (arith, a, z, w));
@@ -464,43 +524,84 @@ module _ {M : Type 0} (Whole : SyntaxTree → M → Type 0) (ReadyAt : SyntaxTre
         some = h.some;
         last = (let q = last_ticket_with b.ledger.log 0 e in let l = h.last in omega (arith, q, long, l));
         reads = (let z = h.reads in omega (arith, z, long));
-        reserve = (let a = length_push b.rows y in let z = h.reserve in let w = ap length popped ∙ length_push spare r in omega (arith, a, z, w));
+        reserve = (let a = length_push b.rows y in let z = h.reserve in let w = ap length popped ∙ length_push spare r in
+            omega (arith, a, z, w));
         rise = rise_with b.ledger.log 0 e h.rise;
       }
 
   -- what contracts see
-  pub begin_view : book_state with_begin ≡ record (book_state b) { log = log; traces = traces ++ [] ∷ []; tokens = map token_state_of b.rows ++ Out ∷ [] }
+  pub begin_view : book_state with_begin ≡ record (book_state b)
+      { log = log; traces = traces ++ [] ∷ []; tokens = map token_state_of b.rows ++ Out ∷ [] }
   begin_view = rw (traces_are, places_are) refl
 
   -- the token
-  pub begin_given : (m' : M) → ReadyAt (tree_of b.program) b.input m' (length b.rows) [] → tie m' ≡ record { lists = seen_whole (tie m).lists with_begin.orders; seat = (tie m).seat }
-      → IsGivenBy ReadyAt tie (book_state with_begin) (record { iteration = length b.rows; index = 0; now = 1 + max (last_ticket b.ledger.log) 0; joined = 0; folded = None; marks = q_marks; payload = m' })
+  pub begin_given : (m' : M) → ReadyAt (tree_of b.program) b.input m' (length b.rows) [] → tie m'
+      ≡ record { lists = seen_whole (tie m).lists with_begin.orders; seat = (tie m).seat }
+      → IsGivenBy ReadyAt tie (book_state with_begin) (record {
+        iteration = length b.rows;
+        index = 0;
+        now =
+            1 + max (last_ticket b.ledger.log) 0;
+        joined = 0;
+        folded = None;
+        marks = q_marks;
+        payload = m';
+      })
   begin_given m' ready tied =
-      let t : FrameToken M = record { iteration = length b.rows; index = 0; now = 1 + max (last_ticket b.ledger.log) 0; joined = 0; folded = None; marks = q_marks; payload = m' } in
+      let t : FrameToken M = record {
+        iteration = length b.rows;
+        index = 0;
+        now = 1 + max (last_ticket b.ledger.log) 0;
+        joined =
+            0;
+        folded = None;
+        marks = q_marks;
+        payload = m';
+      } in
       let long = length_with b.ledger.log 0 e in
       let last = h.last in
       let at_place = placed Whole ReadyAt tie b h going unclosed ended home m taken in
-      let ld = length-append b.orders.down.log (down_at Whole ReadyAt tie b h going unclosed ended home m taken ∷ (1 + length b.orders.down.log) ∷ []) in
-      let lr = length-append b.orders.right.log (right_at Whole ReadyAt tie b h going unclosed ended home m taken ∷ (1 + length b.orders.right.log) ∷ []) in
+      let ld = length-append b.orders.down.log (down_at Whole ReadyAt tie b h going unclosed ended home m
+      taken ∷ (1 + length b.orders.down.log) ∷ []) in
+      let lr = length-append b.orders.right.log (right_at Whole ReadyAt tie b h going unclosed ended home m
+      taken ∷ (1 + length b.orders.right.log) ∷ []) in
       let dl = down_length Whole ReadyAt tie b h going unclosed ended home m taken in
       let rl = right_length Whole ReadyAt tie b h going unclosed ended home m taken in
       let was = was_home Whole ReadyAt tie b h going unclosed ended home m taken in
       record {
         out = record {
-          out = ap (λ ps. get_or ps (length b.rows) Rattle.frame_book.specs.BookStates.Spent) places_are ∙ get_or_push (map token_state_of b.rows) Out Rattle.frame_book.specs.BookStates.Spent (length b.rows) (length-map b.rows token_state_of);
-          token = token_at_events (events_of log) (next_state s e) news (fields_of t) (ap state_after (events_of_with b.ledger.log 0 e) ∙ state_after-push (events_of b.ledger.log) e) (ap starts_of (events_of_with b.ledger.log 0 e) ∙ starts_of-push (events_of b.ledger.log) e) record {
-            running = record { frame = fresh_frame; is = ap (frame_at fs) (sym same) ∙ frame_at_last s.frames fresh_frame; runs = refl };
-            index = refl;
-            marks = marks_are Whole ReadyAt tie b h going unclosed ended home m taken;
-            joined = joined_head (columns_of_frames fs) (length b.rows);
-            folded = λ k x. absurd x;
-          };
+          out = ap (λ ps. get_or ps (length b.rows) Rattle.frame_book.specs.BookStates.Spent) places_are
+              ∙ get_or_push (map token_state_of b.rows) Out Rattle.frame_book.specs.BookStates.Spent (length b.rows)
+              (length-map b.rows token_state_of);
+          token = token_at_events (events_of log) (next_state s e) news (fields_of t)
+              (ap state_after (events_of_with b.ledger.log 0 e) ∙ state_after-push (events_of b.ledger.log) e)
+              (ap starts_of (events_of_with b.ledger.log 0 e) ∙ starts_of-push (events_of b.ledger.log) e) record {
+                running = record {
+                  frame = fresh_frame;
+                  is = ap (frame_at fs) (sym same) ∙ frame_at_last s.frames fresh_frame;
+                  runs =
+                      refl;
+                };
+                index = refl;
+                marks = marks_are Whole ReadyAt tie b h going unclosed ended home m taken;
+                joined = joined_head (columns_of_frames fs) (length b.rows);
+                folded = λ k x. absurd x;
+              };
           now = omega (arith, long, last);
         };
         payload = record {
-          belongs = subst (λ z. BelongsTo z (identities_of_orders b.orders)) (sym tied) (names_seen (tie m).lists with_begin.orders (identities_of_orders b.orders) was.belongs);
-          ready = subst (λ ts. ReadyAt (tree_of b.program) b.input m' (length b.rows) (map replies_of ts)) (sym (ap (λ ts. get_or ts (length b.rows) []) traces_are ∙ (get_or_push traces [] [] (length b.rows) (length-map b.rows (λ (z : IterationRow M). z.traces))))) ready;
+          belongs = subst (λ z. BelongsTo z (identities_of_orders b.orders)) (sym tied)
+              (names_seen (tie m).lists with_begin.orders (identities_of_orders b.orders) was.belongs);
+          ready = subst (λ ts. ReadyAt (tree_of b.program) b.input m' (length b.rows) (map replies_of ts))
+              (sym (ap (λ ts. get_or ts (length b.rows) []) traces_are
+              ∙ (get_or_push traces [] [] (length b.rows) (length-map b.rows (λ (z : IterationRow M). z.traces))))) ready;
         };
-        knows = subst (λ z. KnowsMarks z q_marks) (sym tied) (knows_new (tie m).lists with_begin.orders (length b.orders.down.log) (down_at Whole ReadyAt tie b h going unclosed ended home m taken) (right_at Whole ReadyAt tie b h going unclosed ended home m taken) (omega (arith, ld)) (omega (arith, lr, dl, rl)) at_place.down at_place.right);
-        parts = ap (λ ts. length (map replies_of (get_or ts (length b.rows) []))) traces_are ∙ ap (λ ts. length (map replies_of ts)) (get_or_push traces [] [] (length b.rows) (length-map b.rows (λ (z : IterationRow M). z.traces)));
+        knows = subst (λ z. KnowsMarks z q_marks) (sym tied)
+            (knows_new (tie m).lists with_begin.orders (length b.orders.down.log)
+            (down_at Whole ReadyAt tie b h going unclosed ended home m taken)
+            (right_at Whole ReadyAt tie b h going unclosed ended home m taken) (omega (arith, ld))
+            (omega (arith, lr, dl, rl)) at_place.down at_place.right);
+        parts = ap (λ ts. length (map replies_of (get_or ts (length b.rows) []))) traces_are
+            ∙ ap (λ ts. length (map replies_of ts)) (get_or_push traces [] [] (length b.rows)
+            (length-map b.rows (λ (z : IterationRow M). z.traces)));
       }

@@ -1,5 +1,6 @@
 -- A book that has made no event keeps the tables.
-use Rattle.std.proofs.Common.{◌≡◌, ℕ, ℤ, zero, suc, pos, ◌+◌, ◌*◌, ◌^◌, ◌<◌, ◌≤◌, ◌≤ℤ◌, List, [], ◌∷◌, ◌++◌, length, map, replicate, reverse, refl, ap, ap₂, sym, ◌∙◌, arith, subst, true, false, Some, None, All, w64}
+use Rattle.std.proofs.Common.{◌≡◌, ℕ, ℤ, zero, suc, pos, ◌+◌, ◌*◌, ◌^◌, ◌<◌, ◌≤◌, ◌≤ℤ◌, List, [], ◌∷◌, ◌++◌, length, map, replicate}
+use Rattle.std.proofs.Common.{reverse, refl, ap, ap₂, sym, ◌∙◌, arith, subst, true, false, Some, None, All, w64}
 use lib.Dec.{T}
 use lib.IntN.{nat_abs, negsuc}
 use lib.Signed.{non_neg}
@@ -37,7 +38,8 @@ non_neg_is (pos n) l = tt
 non_neg_is (negsuc n) l = absurd (omega (arith, ints, l))
 
 -- small numbers fit
-pub fits_small : (x y : ℕ) → x ≡ y → y + 1 ≤ 262145 → (x < 2 ^ 32) × Fits w64 x × Fits w64 (x + 1) × Fits w64 (2 * (x + 1)) × Fits w64 (2 * (x + 1) + 1)
+pub fits_small : (x y : ℕ) → x ≡ y → y + 1 ≤ 262145 → (x < 2 ^ 32) × Fits w64 x × Fits w64 (x + 1) × Fits w64 (2 * (x + 1))
+    × Fits w64 (2 * (x + 1) + 1)
 fits_small x y e l =
     let a : x < 2 ^ 32 = omega (arith, e, l) in
     let b : x + 1 < 2 ^ 32 = omega (arith, e, l) in
@@ -61,9 +63,13 @@ total_same m zero x = omega arith
 total_same m (suc n) x = let h = total_same m n x in let e : suc n * m x ≡ m x + n * m x = grind arith in omega (arith, h, e)
 
 module _ {M : Type 0} (Whole : SyntaxTree → M → Type 0) (ReadyAt : SyntaxTree → List ℤ → M → ℕ → List (List ℤ) → Type 0) (tie : M → Tie)
-    (program : Program) (input : List ℤ) (limit : ℕ) (planned : IsPlannedProgram (tree_of program) input) (some : 0 < limit) (home : List M) (many : length home ≡ limit)
-    (o : OrderPair) (whole : All (λ m. Whole (tree_of program) m × BelongsTo (tie m) (identities_of_orders o)) home) (down : o.down.log ≡ []) (right : o.right.log ≡ [])
-    (down_room : 2 * most_instances (tree_of program) < o.down.capacity) (right_room : 2 * most_instances (tree_of program) < o.right.capacity) (room : ℕ) (wide : natural program.limits.iterations + 1 ≤ room) where
+    (program : Program) (input : List ℤ) (limit : ℕ) (planned : IsPlannedProgram (tree_of program) input) (some : 0 < limit)
+    (home : List M) (many : length home ≡ limit)
+    (o : OrderPair) (whole : All (λ m. Whole (tree_of program) m × BelongsTo (tie m) (identities_of_orders o)) home)
+    (down : o.down.log ≡ []) (right : o.right.log ≡ [])
+    (down_room : 2 * most_instances (tree_of program) < o.down.capacity)
+    (right_room : 2 * most_instances (tree_of program) < o.right.capacity) (room : ℕ)
+    (wide : natural program.limits.iterations + 1 ≤ room) where
   abbrev pub n : ℕ
   n = natural program.limits.iterations
 
@@ -93,14 +99,19 @@ module _ {M : Type 0} (Whole : SyntaxTree → M → Type 0) (ReadyAt : SyntaxTre
   turned = reverse-append (empty_row 1 ∷ []) (replicate n (empty_row s)) ∙ ap (λ l. l ++ empty_row 1 ∷ []) (reverse_same n (empty_row s))
 
   rooms : rooms_of {M = M} [] spare ≡ replicate n s ++ 1 ∷ []
-  rooms = ap (map (λ (r : IterationRow M). r.room)) turned ∙ (map-append (λ (r : IterationRow M). r.room) (replicate n (empty_row s)) (empty_row 1 ∷ []) ∙ ap (λ l. l ++ 1 ∷ []) (map_same (λ (r : IterationRow M). r.room) n (empty_row s)))
+  rooms = ap (map (λ (r : IterationRow M). r.room)) turned
+      ∙ (map-append (λ (r : IterationRow M). r.room) (replicate n (empty_row s)) (empty_row 1 ∷ [])
+      ∙ ap (λ l. l ++ 1 ∷ []) (map_same (λ (r : IterationRow M). r.room) n (empty_row s)))
 
   rooms_in : room_in {M = M} [] spare ≡ most_instances (tree_of program)
   rooms_in =
-      let a : total (λ (r : IterationRow M). r.room) (reverse spare) ≡ total (λ (r : IterationRow M). r.room) (replicate n (empty_row s) ++ empty_row 1 ∷ []) = ap (total (λ (r : IterationRow M). r.room)) turned in
+      let a : total (λ (r : IterationRow M). r.room) (reverse spare) ≡ total (λ (r : IterationRow M). r.room)
+      (replicate n (empty_row s) ++ empty_row 1 ∷ []) = ap (total (λ (r : IterationRow M). r.room)) turned in
       let b = total_append (λ (r : IterationRow M). r.room) (replicate n (empty_row s)) (empty_row 1 ∷ []) in
-      let d : total (λ (r : IterationRow M). r.room) (replicate n (empty_row s)) ≡ n * s = total_same (λ (r : IterationRow M). r.room) n (empty_row s) in
-      let e : total (λ (r : IterationRow M). r.room) (reverse spare) ≡ most_instances (tree_of program) = a ∙ (b ∙ (let z : total (λ (r : IterationRow M). r.room) (empty_row {M = M} 1 ∷ []) ≡ 1 = refl in ap₂ (λ p q. p + q) d z)) in
+      let d : total (λ (r : IterationRow M). r.room) (replicate n (empty_row s)) ≡ n * s =
+      total_same (λ (r : IterationRow M). r.room) n (empty_row s) in
+      let e : total (λ (r : IterationRow M). r.room) (reverse spare) ≡ most_instances (tree_of program) = a
+      ∙ (b ∙ (let z : total (λ (r : IterationRow M). r.room) (empty_row {M = M} 1 ∷ []) ≡ 1 = refl in ap₂ (λ p q. p + q) d z)) in
       omega (arith, e)
 
   pub new_keeps : IsBook Whole ReadyAt tie tables
@@ -116,14 +127,20 @@ module _ {M : Type 0} (Whole : SyntaxTree → M → Type 0) (ReadyAt : SyntaxTre
           right_room = omega (arith, t, right_room);
           log_room = omega (arith, t);
         };
-        logged = record { run = EmptyControlRun; sound = (let run : Run (pipeline_of (tree_of program) input) limit [] initial_state = EmptyRun in run_starts_sound run); entries = refl };
+        logged = record {
+          run = EmptyControlRun;
+          sound = (let run : Run (pipeline_of (tree_of program) input) limit [] initial_state =
+              EmptyRun in run_starts_sound run);
+          entries = refl;
+        };
         rows = record { each = tt; marks = λ i k l. absurd (omega (arith, l)); started = refl };
         actions = record { performs = λ i. tt; matches = λ i f e. absurd (let q : None ≡ Some f = e in cc) };
         counted = λ i u. refl;
         tokens = record {
           tokens = λ g i f t e. absurd (let q : None ≡ Some f = e in cc);
           nows = λ i t e. absurd (let q : None ≡ Some t = e in cc);
-          at_home = All-weaker (λ m. Whole (tree_of program) m × BelongsTo (tie m) (identities_of_orders o)) (IsAtHome (Whole (tree_of program)) tie (identities_of_orders o)) (λ m q. record { whole = q.0; belongs = q.1 }) home whole;
+          at_home = All-weaker (λ m. Whole (tree_of program) m × BelongsTo (tie m) (identities_of_orders o))
+              (IsAtHome (Whole (tree_of program)) tie (identities_of_orders o)) (λ m q. record { whole = q.0; belongs = q.1 }) home whole;
         };
         down = down;
         right = right;

@@ -1,5 +1,6 @@
 -- A last ticket that was raised keeps the tables.
-use Rattle.std.proofs.Common.{◌≡◌, ℕ, ℤ, zero, suc, ◌+◌, ◌^◌, ◌<◌, ◌≤◌, List, [], ◌∷◌, ◌++◌, length, map, max, get_or, refl, ap, ap₂, sym, ◌∙◌, arith, subst, Bool, true, false, append-nil}
+use Rattle.std.proofs.Common.{◌≡◌, ℕ, ℤ, zero, suc, ◌+◌, ◌^◌, ◌<◌, ◌≤◌, List, [], ◌∷◌, ◌++◌, length, map, max, get_or, refl, ap, ap₂, sym}
+use Rattle.std.proofs.Common.{◌∙◌, arith, subst, Bool, true, false, append-nil}
 use Rattle.std.proofs.lemmas.List.{map-append, length-map}
 use Rattle.pipe_model.specs.declared.event.Event.{Event}
 use Rattle.pipe_model.specs.declared.event.Event.TheVariants.{Begin, Advance, Enter, Finish, Stop, Access}
@@ -29,11 +30,13 @@ length_raised [] least = refl
 length_raised (b ∷ []) least = refl
 length_raised (b ∷ (c ∷ bs)) least = ap suc (length_raised (c ∷ bs) least)
 
-if_end_same : (t : Bool) (n m : ℕ) (x : Action) → map (λ (a : TimedAction). a.action) (if_end t n x) ≡ map (λ (a : TimedAction). a.action) (if_end t m x)
+if_end_same : (t : Bool) (n m : ℕ) (x : Action) → map (λ (a : TimedAction). a.action) (if_end t n x) ≡ map (λ (a : TimedAction). a.action)
+    (if_end t m x)
 if_end_same true n m x = refl
 if_end_same false n m x = refl
 
-end_action_same : (i : ℕ) (e : Event) (n m : ℕ) → map (λ (a : TimedAction). a.action) (end_action i e n) ≡ map (λ (a : TimedAction). a.action) (end_action i e m)
+end_action_same : (i : ℕ) (e : Event) (n m : ℕ) → map (λ (a : TimedAction). a.action) (end_action i e n) ≡ map
+    (λ (a : TimedAction). a.action) (end_action i e m)
 end_action_same i (Begin j) n m = refl
 end_action_same i (Enter j) n m = refl
 end_action_same i (Access j a) n m = refl
@@ -42,18 +45,21 @@ end_action_same i (Finish j e) n m = if_end_same _ n m _
 end_action_same i Stop n m = refl
 
 -- the ends stay, but for a ticket
-ends_raised : (i : ℕ) (log : List BookEntry) (least : ℕ) → map (λ (a : TimedAction). a.action) (end_actions i (with_last_raised log least)) ≡ map (λ (a : TimedAction). a.action) (end_actions i log)
+ends_raised : (i : ℕ) (log : List BookEntry) (least : ℕ) → map (λ (a : TimedAction). a.action)
+    (end_actions i (with_last_raised log least)) ≡ map (λ (a : TimedAction). a.action) (end_actions i log)
 ends_raised i [] least = refl
 ends_raised i (b ∷ []) least =
     ap (map (λ (a : TimedAction). a.action)) (append-nil (end_action i b.event (max b.ticket least)))
-    ∙ (end_action_same i b.event (max b.ticket least) b.ticket ∙ ap (map (λ (a : TimedAction). a.action)) (sym (append-nil (end_action i b.event b.ticket))))
+    ∙ (end_action_same i b.event (max b.ticket least) b.ticket ∙ ap (map (λ (a : TimedAction). a.action))
+    (sym (append-nil (end_action i b.event b.ticket))))
 ends_raised i (b ∷ (c ∷ bs)) least =
     map-append (λ (a : TimedAction). a.action) (end_action i b.event b.ticket) (end_actions i (with_last_raised (c ∷ bs) least))
     ∙ (ap (λ l. map (λ (a : TimedAction). a.action) (end_action i b.event b.ticket) ++ l) (ends_raised i (c ∷ bs) least)
     ∙ sym (map-append (λ (a : TimedAction). a.action) (end_action i b.event b.ticket) (end_actions i (c ∷ bs))))
 
 -- traces laid with equal ends
-laid_by_actions : (made' : ℕ → List TimedAction) (k : ℕ) (xs ys : List TimedAction) → map (λ (a : TimedAction). a.action) xs ≡ map (λ (a : TimedAction). a.action) ys
+laid_by_actions : (made' : ℕ → List TimedAction) (k : ℕ) (xs ys : List TimedAction) → map (λ (a : TimedAction). a.action) xs ≡ map
+    (λ (a : TimedAction). a.action) ys
     → map (λ (a : TimedAction). a.action) (laid_traces made' k xs) ≡ map (λ (a : TimedAction). a.action) (laid_traces made' k ys)
 laid_by_actions made' k [] [] e = refl
 laid_by_actions made' k [] (y ∷ ys) e = absurd (let q = ap length e in omega (arith, q))
@@ -66,10 +72,13 @@ laid_by_actions made' k (x ∷ xs) (y ∷ ys) e =
     ∙ sym (map-append (λ (a : TimedAction). a.action) (made' k) (y ∷ laid_traces made' (k + 1) ys)))
 
 -- what the iterations have done stays
-pub actions_raised : (log : List BookEntry) (least : ℕ) (traces : List (List (List Entry))) (i : ℕ) → actions_in (with_last_raised log least) traces i ≡ actions_in log traces i
-actions_raised log least traces i = laid_by_actions (made traces i) 0 (end_actions i (with_last_raised log least)) (end_actions i log) (ends_raised i log least)
+pub actions_raised : (log : List BookEntry) (least : ℕ) (traces : List (List (List Entry))) (i : ℕ)
+    → actions_in (with_last_raised log least) traces i ≡ actions_in log traces i
+actions_raised log least traces i = laid_by_actions (made traces i) 0 (end_actions i (with_last_raised log least)) (end_actions i log)
+    (ends_raised i log least)
 
-pub ends_length : (i : ℕ) (log : List BookEntry) (least : ℕ) → length (end_actions i (with_last_raised log least)) ≡ length (end_actions i log)
+pub ends_length : (i : ℕ) (log : List BookEntry) (least : ℕ) → length (end_actions i (with_last_raised log least)) ≡ length
+    (end_actions i log)
 ends_length i log least =
     let e = ap length (ends_raised i log least) in
     let a = length-map (end_actions i (with_last_raised log least)) (λ (a : TimedAction). a.action) in
@@ -77,13 +86,15 @@ ends_length i log least =
     omega (arith, e, a, b)
 
 -- entries before the last stay, and no ticket falls
-raised_before : (log : List BookEntry) (least k : ℕ) (d : BookEntry) → suc k < length log → get_or (with_last_raised log least) k d ≡ get_or log k d
+raised_before : (log : List BookEntry) (least k : ℕ) (d : BookEntry) → suc k < length log → get_or
+    (with_last_raised log least) k d ≡ get_or log k d
 raised_before [] least k d l = absurd (omega (arith, l))
 raised_before (b ∷ []) least k d l = absurd (omega (arith, l))
 raised_before (b ∷ (c ∷ bs)) least zero d l = refl
 raised_before (b ∷ (c ∷ bs)) least (suc k) d l = raised_before (c ∷ bs) least k d (omega (arith, l))
 
-raised_at_least : (log : List BookEntry) (least k : ℕ) (d : BookEntry) → k < length log → (get_or log k d).ticket ≤ (get_or (with_last_raised log least) k d).ticket
+raised_at_least : (log : List BookEntry) (least k : ℕ) (d : BookEntry) → k < length log → (get_or log k d).ticket
+    ≤ (get_or (with_last_raised log least) k d).ticket
 raised_at_least [] least k d l = absurd (omega (arith, l))
 raised_at_least (b ∷ []) least zero d l = omega arith
 raised_at_least (b ∷ []) least (suc k) d l = absurd (omega (arith, l))
@@ -101,23 +112,32 @@ rise_raised log least h = λ i j d l w.
     omega (arith, a, b, q)
 
 module _ {M : Type 0} (Whole : SyntaxTree → M → Type 0) (ReadyAt : SyntaxTree → List ℤ → M → ℕ → List (List ℤ) → Type 0) (tie : M → Tie)
-    (b : Tables M) (h : IsBook Whole ReadyAt tie b) (least : ℕ) (bound : least ≤ 2 ^ 62 + length b.ledger.log) (some : 0 < length b.ledger.log) where
+    (b : Tables M) (h : IsBook Whole ReadyAt tie b) (least : ℕ) (bound : least ≤ 2 ^ 62 + length b.ledger.log)
+    (some : 0 < length b.ledger.log) where
   abbrev pub with_raise : Tables M
   with_raise = record b { ledger = record { log = with_last_raised b.ledger.log least; room = b.ledger.room } }
 
   pub raise_keeps : IsBook Whole ReadyAt tie with_raise
   raise_keeps =
       let n = length_raised b.ledger.log least in
-      at_events Whole ReadyAt tie with_raise (events_of b.ledger.log) (starts_of (events_of b.ledger.log)) (state_after (events_of b.ledger.log)) (events_raised b.ledger.log least) refl refl record {
+      at_events Whole ReadyAt tie with_raise (events_of b.ledger.log) (starts_of (events_of b.ledger.log))
+      (state_after (events_of b.ledger.log)) (events_raised b.ledger.log least) refl refl record {
         sized = h.sized;
         logged = h.logged;
         rows = h.rows;
         actions = record {
-          performs = λ i. subst (Performs ((pipeline_of (tree_of b.program) b.input).behaviour i)) (sym (actions_raised b.ledger.log least (map (λ r. r.traces) b.rows) i)) (h.actions.performs i);
-          matches = λ i f e. subst (MatchesFrame f) (sym (actions_raised b.ledger.log least (map (λ r. r.traces) b.rows) i)) (h.actions.matches i f e);
+          performs = λ i. subst (Performs ((pipeline_of (tree_of b.program) b.input).behaviour i))
+              (sym (actions_raised b.ledger.log least (map (λ r. r.traces) b.rows) i)) (h.actions.performs i);
+          matches = λ i f e. subst (MatchesFrame f) (sym (actions_raised b.ledger.log least (map (λ r. r.traces) b.rows) i))
+              (h.actions.matches i f e);
         };
         counted = λ i u. ends_length i b.ledger.log least ∙ h.counted i u;
-        tokens = record { tokens = h.tokens.tokens; nows = λ i t e. (let a = h.tokens.nows i t e in omega (arith, a, n)); at_home = h.tokens.at_home };
+        tokens = record {
+          tokens = h.tokens.tokens;
+          nows = λ i t e. (let a = h.tokens.nows i t e in omega (arith, a, n));
+          at_home =
+              h.tokens.at_home;
+        };
         down = h.down;
         right = h.right;
         stopped = h.stopped;

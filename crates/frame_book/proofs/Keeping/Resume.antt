@@ -1,5 +1,6 @@
 -- The token of an iteration that was left ready, taken out again.
-use Rattle.std.proofs.Common.{◌≡◌, ℕ, ℤ, zero, suc, List, [], ◌∷◌, length, map, set, get_or, refl, ap, sym, ◌∙◌, arith, subst, false, not, Option, Some, None, inl, inr, append-nil}
+use Rattle.std.proofs.Common.{◌≡◌, ℕ, ℤ, zero, suc, List, [], ◌∷◌, length, map, set, get_or, refl, ap, sym, ◌∙◌, arith, subst, false, not}
+use Rattle.std.proofs.Common.{Option, Some, None, inl, inr, append-nil}
 use Rattle.std.proofs.lemmas.Bool.{cases_eq}
 use Rattle.std.proofs.lemmas.List.{map-set, length-set, length-map, get_or-set_same}
 use Rattle.pipe_model.specs.declared.event.Event.TheVariants.{Enter}
@@ -26,7 +27,8 @@ use Rattle.frame_book.specs.Tables.{Tables, book_state, token_state_of, token_st
 use Rattle.frame_book.specs.GivenTokens.{IsGivenBeside, IsGivenBy}
 use Rattle.frame_book.proofs.Keeping.LeaveReady.{sized_set}
 use Rattle.frame_book.proofs.Iterations.FrameRows.{row_of_frame, row_at_within, token_of_row}
-use Rattle.frame_book.proofs.Iterations.ChangedRows.{rows_set_same, token_at_set, token_at_other, map_at, map_set_same, total_set_same, traces_of_row}
+use Rattle.frame_book.proofs.Iterations.ChangedRows.{rows_set_same, token_at_set, token_at_other, map_at, map_set_same, total_set_same}
+use Rattle.frame_book.proofs.Iterations.ChangedRows.{traces_of_row}
 
 -- a row that is put back
 pub set_itself : {M : Type 0} → (rs : List (IterationRow M)) (i : ℕ) (r : IterationRow M) → row_at rs i ≡ Some r → set rs i r ≡ rs
@@ -40,7 +42,8 @@ can_frame v i (inl q) = (q.runs.frame, q.runs.is)
 can_frame v i (inr m) = (m.frame, m.is)
 
 -- one that can go on and runs was left ready
-pub can_run : (v : BookState) (i : ℕ) (f : Frame) → frame_at (state_of v).frames i ≡ Some f → f.status ≡ Running → CanGoOn (IsReady v) (state_of v) i → IsReady v i
+pub can_run : (v : BookState) (i : ℕ) (f : Frame) → frame_at (state_of v).frames i ≡ Some f → f.status ≡ Running
+    → CanGoOn (IsReady v) (state_of v) i → IsReady v i
 can_run v i f e s (inl q) = q
 can_run v i f e s (inr m) = (
     let z : f ≡ m.frame = (let y : Some f ≡ Some m.frame = sym e ∙ m.is in cc) in
@@ -48,7 +51,8 @@ can_run v i f e s (inr m) = (
     absurd (cc))
 
 -- one that can go on and has named a stage may enter it
-pub can_enter : (v : BookState) (i : ℕ) (f : Frame) (k : _) (n : _) → frame_at (state_of v).frames i ≡ Some f → f.status ≡ Pending k n → CanGoOn (IsReady v) (state_of v) i → MayEnter (state_of v) i
+pub can_enter : (v : BookState) (i : ℕ) (f : Frame) (k : _) (n : _) → frame_at (state_of v).frames i ≡ Some f → f.status ≡ Pending k n
+    → CanGoOn (IsReady v) (state_of v) i → MayEnter (state_of v) i
 can_enter v i f k n e s (inl q) = (
     let z : f ≡ q.runs.frame = (let y : Some f ≡ Some q.runs.frame = sym e ∙ q.runs.is in cc) in
     let w : Pending k n ≡ Running = sym s ∙ (ap (λ (g : Frame). g.status) z ∙ q.runs.runs) in
@@ -56,7 +60,8 @@ can_enter v i f k n e s (inl q) = (
 can_enter v i f k n e s (inr m) = m
 
 -- none that has ended can go on
-pub can_not : (v : BookState) (i : ℕ) (f : Frame) (x : _) → frame_at (state_of v).frames i ≡ Some f → f.status ≡ Completed x → CanGoOn (IsReady v) (state_of v) i → ⊥
+pub can_not : (v : BookState) (i : ℕ) (f : Frame) (x : _) → frame_at (state_of v).frames i ≡ Some f → f.status ≡ Completed x
+    → CanGoOn (IsReady v) (state_of v) i → ⊥
 can_not v i f x e s (inl q) = (
     let z : f ≡ q.runs.frame = (let y : Some f ≡ Some q.runs.frame = sym e ∙ q.runs.is in cc) in
     let w : Completed x ≡ Running = sym s ∙ (ap (λ (g : Frame). g.status) z ∙ q.runs.runs) in
@@ -67,7 +72,8 @@ can_not v i f x e s (inr m) = (
     absurd (cc))
 
 -- a row whose token is kept
-pub kept_token : {M : Type 0} → (token : Option (FrameToken M)) (f : _) → token_state_by token Running ≡ Kept f → (t : FrameToken M) × (token ≡ Some t)
+pub kept_token : {M : Type 0} → (token : Option (FrameToken M)) (f : _) → token_state_by token Running ≡ Kept f
+    → (t : FrameToken M) × (token ≡ Some t)
 kept_token None f e = absurd (let q : Out ≡ Kept f = e in cc)
 kept_token (Some t) f e = (t, refl)
 
@@ -77,14 +83,22 @@ kept_none None f z e = absurd (let q : Out ≡ Kept f = e in cc)
 kept_none (Some t) f z e = absurd (let q : Some t ≡ None = z in cc)
 
 -- entering is what a suspended iteration resumes with
-pub resumes_by_entering : (v : BookState) (i : ℕ) (f : Frame) (k : _) (n : _) → frame_at (state_of v).frames i ≡ Some f → f.status ≡ Pending k n → with_entered v i ≡ with_resumed v i
+pub resumes_by_entering : (v : BookState) (i : ℕ) (f : Frame) (k : _) (n : _) → frame_at (state_of v).frames i ≡ Some f
+    → f.status ≡ Pending k n → with_entered v i ≡ with_resumed v i
 resumes_by_entering v i f k n e s =
-    let z : Enter i ∷ [] ≡ resume_events (frame_at (state_of v).frames i) i = sym (ap (λ o. resume_events o i) e ∙ ap (λ w. pending_events w i) s) in
-    ap (λ es. record v { log = with_events v.log (Rattle.frame_book.specs.CallEffects.kept_now (Rattle.frame_book.specs.BookStates.item_or Spent v.tokens i)) es; tokens = set v.tokens i Out }) z
+    let z : Enter i ∷ [] ≡ resume_events (frame_at (state_of v).frames i) i =
+    sym (ap (λ o. resume_events o i) e ∙ ap (λ w. pending_events w i) s) in
+    ap (λ es. record v {
+      log = with_events v.log (Rattle.frame_book.specs.CallEffects.kept_now
+          (Rattle.frame_book.specs.BookStates.item_or Spent v.tokens i)) es;
+      tokens = set v.tokens i Out;
+    }) z
 
 module _ {M : Type 0} (Whole : SyntaxTree → M → Type 0) (ReadyAt : SyntaxTree → List ℤ → M → ℕ → List (List ℤ) → Type 0) (tie : M → Tie)
     (b : Tables M) (h : IsBook Whole ReadyAt tie b) (i : ℕ) (going : (state_after (events_of b.ledger.log)).stopped ≡ false)
-    (r : IterationRow M) (at_row : row_at b.rows i ≡ Some r) (f : Frame) (is : frame_at (state_after (events_of b.ledger.log)).frames i ≡ Some f) (runs : f.status ≡ Running) (t : FrameToken M) (held : r.token ≡ Some t) where
+    (r : IterationRow M) (at_row : row_at b.rows i ≡ Some r) (f : Frame)
+    (is : frame_at (state_after (events_of b.ledger.log)).frames i ≡ Some f) (runs : f.status ≡ Running) (t : FrameToken M)
+    (held : r.token ≡ Some t) where
   abbrev pub c : State
   c = state_after (events_of b.ledger.log)
 
@@ -107,12 +121,14 @@ module _ {M : Type 0} (Whole : SyntaxTree → M → Type 0) (ReadyAt : SyntaxTre
   traces_are : map (λ (z : IterationRow M). z.traces) (set b.rows i r0) ≡ traces
   traces_are = map_set_same (λ z. z.traces) b.rows i r r0 at_row refl
 
-  pub kept : IsKeptToken (ReadyAt (tree_of b.program) b.input) tie (identities_of_orders b.orders) traces (starts_of (events_of b.ledger.log)) c i f t
+  pub kept : IsKeptToken (ReadyAt (tree_of b.program) b.input) tie (identities_of_orders b.orders) traces
+      (starts_of (events_of b.ledger.log)) c i f t
   kept = h.tokens.tokens going i f t is (token_of_row b.rows i r at_row ∙ held)
 
   pub resume_keeps : IsBook Whole ReadyAt tie with_resume
   resume_keeps = record {
-    sized = sized_set (pipeline_of (tree_of b.program) b.input) b.rows b.spare i r r0 b.orders.down.capacity b.orders.right.capacity b.ledger.room at_row refl h.sized;
+    sized = sized_set (pipeline_of (tree_of b.program) b.input) b.rows b.spare i r r0 b.orders.down.capacity b.orders.right.capacity
+        b.ledger.room at_row refl h.sized;
     logged = h.logged;
     rows = record {
       each = rows_set_same (not c.stopped) c.frames b.rows i f r0 h.rows.each is (record {
@@ -123,18 +139,22 @@ module _ {M : Type 0} (Whole : SyntaxTree → M → Type 0) (ReadyAt : SyntaxTre
         traces = λ u. row_matches.traces (inl (ap (λ s. not (not s)) going));
         home = λ e. subst (λ w. TokenFits {M = M} w None) (sym runs) tt;
       });
-      marks = λ j k l. ap (λ ms. get_or (get_or ms j []) k no_marks) (map_set_same (λ (z : IterationRow M). z.marks) b.rows i r r0 at_row refl) ∙ h.rows.marks j k l;
+      marks = λ j k l. ap (λ ms. get_or (get_or ms j []) k no_marks)
+          (map_set_same (λ (z : IterationRow M). z.marks) b.rows i r r0 at_row refl) ∙ h.rows.marks j k l;
       started = h.rows.started ∙ sym (total_set_same (λ z. length z.numbers) b.rows i r r0 at_row refl);
     };
     actions = subst (λ ts. HasActions (pipeline_of (tree_of b.program) b.input) b.ledger.log ts c) (sym traces_are) h.actions;
     counted = λ j u. h.counted j (inl going) ∙ ap (λ ts. length (get_or ts j [])) (sym traces_are);
     tokens = record {
-      tokens = λ go j g t' e q. subst (λ ts. IsKeptToken (ReadyAt (tree_of b.program) b.input) tie (identities_of_orders b.orders) ts (starts_of (events_of b.ledger.log)) c j g t') (sym traces_are) (elim (cases_eq j i) [
-        | inl s ↦ (let z : None ≡ Some t' = sym (token_at_set b.rows i r0 (row_at_within b.rows i r at_row)) ∙ (ap (token_at (set b.rows i r0)) (sym s) ∙ q) in absurd (cc))
-        | inr m ↦ h.tokens.tokens go j g t' e (sym (token_at_other b.rows i j r0 m) ∙ q)
-      ]);
+      tokens = λ go j g t' e q. subst (λ ts. IsKeptToken (ReadyAt (tree_of b.program) b.input) tie (identities_of_orders b.orders) ts
+          (starts_of (events_of b.ledger.log)) c j g t') (sym traces_are) (elim (cases_eq j i) [
+            | inl s ↦ (let z : None ≡ Some t' = sym (token_at_set b.rows i r0 (row_at_within b.rows i r at_row))
+                ∙ (ap (token_at (set b.rows i r0)) (sym s) ∙ q) in absurd (cc))
+            | inr m ↦ h.tokens.tokens go j g t' e (sym (token_at_other b.rows i j r0 m) ∙ q)
+          ]);
       nows = λ j t' q. elim (cases_eq j i) [
-        | inl s ↦ (let z : None ≡ Some t' = sym (token_at_set b.rows i r0 (row_at_within b.rows i r at_row)) ∙ (ap (token_at (set b.rows i r0)) (sym s) ∙ q) in absurd (cc))
+        | inl s ↦ (let z : None ≡ Some t' = sym (token_at_set b.rows i r0 (row_at_within b.rows i r at_row))
+            ∙ (ap (token_at (set b.rows i r0)) (sym s) ∙ q) in absurd (cc))
         | inr m ↦ h.tokens.nows j t' (sym (token_at_other b.rows i j r0 m) ∙ q)
       ];
       at_home = h.tokens.at_home;
@@ -153,14 +173,17 @@ module _ {M : Type 0} (Whole : SyntaxTree → M → Type 0) (ReadyAt : SyntaxTre
   }
 
   places_are : map token_state_of (set b.rows i r0) ≡ set (map token_state_of b.rows) i Out
-  places_are = map-set token_state_of b.rows i r0 ∙ ap (λ w. set (map token_state_of b.rows) i (token_state_by {M = M} None w)) (row_matches.status ∙ runs)
+  places_are = map-set token_state_of b.rows i r0 ∙ ap (λ w. set (map token_state_of b.rows) i (token_state_by {M = M} None w))
+      (row_matches.status ∙ runs)
 
   -- what contracts see
   pub resume_view : book_state with_resume ≡ with_resumed (book_state b) i
   resume_view =
       let none : resume_events (frame_at c.frames i) i ≡ [] = ap (λ o. resume_events o i) is ∙ ap (λ w. pending_events w i) runs in
-      let log : with_events b.ledger.log (Rattle.frame_book.specs.CallEffects.kept_now (get_or (map token_state_of b.rows) i Spent)) (resume_events (frame_at c.frames i) i) ≡ b.ledger.log =
-      ap (with_events b.ledger.log (Rattle.frame_book.specs.CallEffects.kept_now (get_or (map token_state_of b.rows) i Spent))) none ∙ append-nil b.ledger.log in
+      let log : with_events b.ledger.log (Rattle.frame_book.specs.CallEffects.kept_now (get_or (map token_state_of b.rows) i Spent))
+      (resume_events (frame_at c.frames i) i) ≡ b.ledger.log =
+      ap (with_events b.ledger.log (Rattle.frame_book.specs.CallEffects.kept_now (get_or (map token_state_of b.rows) i Spent))) none
+      ∙ append-nil b.ledger.log in
       rw (traces_are, places_are, log) refl
 
   -- the token
@@ -171,16 +194,28 @@ module _ {M : Type 0} (Whole : SyntaxTree → M → Type 0) (ReadyAt : SyntaxTre
       subst (λ k. IsGivenBy ReadyAt tie (book_state with_resume) (record t { iteration = k })) (sym kept.iteration) (record {
         out = record {
           out = ap (λ ps. get_or ps i Spent) places_are ∙ get_or-set_same (map token_state_of b.rows) i Out Spent (omega (arith, w, wide));
-          token = record { running = record { frame = f; is = is; runs = runs }; index = kept.index; marks = kept.marks runs; joined = kept.joined; folded = kept.folded };
+          token = record {
+            running = record { frame = f; is = is; runs = runs };
+            index = kept.index;
+            marks = kept.marks runs;
+            joined =
+                kept.joined;
+            folded = kept.folded;
+          };
           now = h.tokens.nows i t (token_of_row b.rows i r at_row ∙ held);
         };
-        payload = record { belongs = kept.belongs; ready = subst (λ ts. ReadyAt (tree_of b.program) b.input t.payload i (map replies_of (get_or ts i []))) (sym traces_are) kept.ready };
+        payload = record {
+          belongs = kept.belongs;
+          ready =
+              subst (λ ts. ReadyAt (tree_of b.program) b.input t.payload i (map replies_of (get_or ts i []))) (sym traces_are) kept.ready;
+        };
         knows = kept.knows runs;
         parts = (
             let same = ap (λ ts. length (map replies_of (get_or ts i []))) traces_are in
             let row = ap (λ ts. length (map replies_of ts)) (traces_of_row b.rows i r at_row) in
             let long = length-map r.traces replies_of in
-            let counted : suc (length r.traces) ≡ length f.nodes = subst (λ w. HasTraceCount w (length r.traces) (length f.nodes)) runs (row_matches.traces (inl (ap (λ s. not (not s)) going))) in
+            let counted : suc (length r.traces) ≡ length f.nodes = subst (λ w. HasTraceCount w (length r.traces) (length f.nodes)) runs
+            (row_matches.traces (inl (ap (λ s. not (not s)) going))) in
             let index = kept.index in
             omega (arith, same, row, long, counted, index));
       })
@@ -189,11 +224,14 @@ module _ {M : Type 0} (Whole : SyntaxTree → M → Type 0) (ReadyAt : SyntaxTre
   pub resume_beside : IsGivenBeside (resume_events (frame_at c.frames i) i) (book_state b) (book_state with_resume) (fields_of t)
   resume_beside =
       let none : resume_events (frame_at c.frames i) i ≡ [] = ap (λ o. resume_events o i) is ∙ ap (λ w. pending_events w i) runs in
-      let place : get_or (map token_state_of b.rows) i Spent ≡ Kept (fields_of t) = map_at token_state_of b.rows i r Spent at_row ∙ ap (λ o. token_state_by o r.status) held in
-      subst (λ es. IsGivenBeside es (book_state b) (book_state with_resume) (fields_of t)) (sym none) (ap (λ k. get_or (map token_state_of b.rows) k Spent) kept.iteration ∙ place)
+      let place : get_or (map token_state_of b.rows) i Spent ≡ Kept (fields_of t) = map_at token_state_of b.rows i r Spent at_row
+      ∙ ap (λ o. token_state_by o r.status) held in
+      subst (λ es. IsGivenBeside es (book_state b) (book_state with_resume) (fields_of t)) (sym none)
+      (ap (λ k. get_or (map token_state_of b.rows) k Spent) kept.iteration ∙ place)
 
   -- its counter is the one that was kept
   pub resume_folded : t.folded ≡ kept_folded (item_or Spent (book_state b).tokens i)
   resume_folded =
-      let place : get_or (map token_state_of b.rows) i Spent ≡ Kept (fields_of t) = map_at token_state_of b.rows i r Spent at_row ∙ ap (λ o. token_state_by o r.status) held in
+      let place : get_or (map token_state_of b.rows) i Spent ≡ Kept (fields_of t) = map_at token_state_of b.rows i r Spent at_row
+      ∙ ap (λ o. token_state_by o r.status) held in
       ap kept_folded (sym place)

@@ -1,5 +1,6 @@
 -- A stop keeps the tables.
-use Rattle.std.proofs.Common.{◌≡◌, ℕ, ℤ, ◌^◌, ◌<◌, List, [], ◌∷◌, length, map, refl, ap, sym, ◌∙◌, arith, subst, Bool, true, false, not, append-nil, Option, inl, inr}
+use Rattle.std.proofs.Common.{◌≡◌, ℕ, ℤ, ◌^◌, ◌<◌, List, [], ◌∷◌, length, map, refl, ap, sym, ◌∙◌, arith, subst, Bool, true, false, not}
+use Rattle.std.proofs.Common.{append-nil, Option, inl, inr}
 use Rattle.std.proofs.lemmas.List.{length-map, length_push}
 use Rattle.pipe_model.specs.declared.event.Event.{Event}
 use Rattle.pipe_model.specs.declared.event.Event.TheVariants.{Stop}
@@ -28,24 +29,39 @@ rows_stopped : {M : Type 0} → (going : Bool) (fs : List Frame) (rs : List (Ite
 rows_stopped going [] [] h = tt
 rows_stopped going [] (r ∷ rs) h = absurd h
 rows_stopped going (f ∷ fs) [] h = absurd h
-rows_stopped going (f ∷ fs) (r ∷ rs) h = (record { numbers = h.0.numbers; status = h.0.status; marks = h.0.marks; fits = h.0.fits; traces = λ u. h.0.traces (held u); home = λ e. absurd (let q : false ≡ true = e in cc) }, rows_stopped going fs rs h.1)
+rows_stopped going (f ∷ fs) (r ∷ rs) h = (
+  record {
+    numbers = h.0.numbers;
+    status = h.0.status;
+    marks = h.0.marks;
+    fits = h.0.fits;
+    traces =
+        λ u. h.0.traces (held u);
+    home = λ e. absurd (let q : false ≡ true = e in cc);
+  },
+  rows_stopped going fs rs h.1,
+)
   where
     held : {X : Type 0} {token : Option X} → IsUnheld (not false) token → IsUnheld (not going) token
     held (inl e) = absurd (let q : true ≡ false = e in cc)
     held (inr e) = inr e
 
 -- a stop ends no instance
-actions-stop : (log : List BookEntry) (now : ℕ) (traces : List (List (List Entry))) (i : ℕ) → actions_in (with_events log now (Stop ∷ [])) traces i ≡ actions_in log traces i
-actions-stop log now traces i = ap (λ l. map (λ a. a.action) (laid_traces (made traces i) 0 l)) (end_actions-push i log (entry_of log now Stop) ∙ append-nil (end_actions i log))
+actions-stop : (log : List BookEntry) (now : ℕ) (traces : List (List (List Entry))) (i : ℕ)
+    → actions_in (with_events log now (Stop ∷ [])) traces i ≡ actions_in log traces i
+actions-stop log now traces i = ap (λ l. map (λ a. a.action) (laid_traces (made traces i) 0 l))
+    (end_actions-push i log (entry_of log now Stop) ∙ append-nil (end_actions i log))
 
 -- a stop keeps what the iterations have done
-actions_stopped : (p : Pipeline) (log : List BookEntry) (now : ℕ) (traces : List (List (List Entry))) (c : State) → HasActions p log traces c → HasActions p (with_events log now (Stop ∷ [])) traces (next_state c Stop)
+actions_stopped : (p : Pipeline) (log : List BookEntry) (now : ℕ) (traces : List (List (List Entry))) (c : State)
+    → HasActions p log traces c → HasActions p (with_events log now (Stop ∷ [])) traces (next_state c Stop)
 actions_stopped p log now traces c h = record {
   performs = λ i. subst (Performs (p.behaviour i)) (sym (actions-stop log now traces i)) (h.performs i);
   matches = λ i f e. subst (MatchesFrame f) (sym (actions-stop log now traces i)) (h.matches i f e);
 }
 
-module _ {M : Type 0} (Whole : SyntaxTree → M → Type 0) (ReadyAt : SyntaxTree → List ℤ → M → ℕ → List (List ℤ) → Type 0) (tie : M → Tie) where
+module _ {M : Type 0} (Whole : SyntaxTree → M → Type 0) (ReadyAt : SyntaxTree → List ℤ → M → ℕ → List (List ℤ) → Type 0)
+    (tie : M → Tie) where
   -- the tables after a stop
   abbrev pub with_stop : Tables M → Tables M
   with_stop b = record b { ledger = record { log = with_events b.ledger.log 0 (Stop ∷ []); room = b.ledger.room }; stopped = true }
@@ -87,12 +103,19 @@ module _ {M : Type 0} (Whole : SyntaxTree → M → Type 0) (ReadyAt : SyntaxTre
         logged = record {
           run = ControlRunThen h.logged.run Stop refl alive tt;
           sound = h.logged.sound;
-          entries = (let e = h.logged.entries in let z : stop_one c.stopped ≡ 0 = ap stop_one alive in let l = length_push es Stop in omega (arith, e, z, l));
+          entries = (let e = h.logged.entries in let z : stop_one c.stopped ≡ 0 = ap stop_one alive in let l = length_push es Stop in
+              omega (arith, e, z, l));
         };
         rows = record { each = rows_stopped _ _ b.rows h.rows.each; marks = h.rows.marks; started = h.rows.started };
         actions = actions_stopped _ log 0 _ c h.actions;
-        counted = λ i u. ap length (end_actions-push i log (entry_of log 0 Stop) ∙ append-nil (end_actions i log)) ∙ h.counted i (free alive u);
-        tokens = record { tokens = λ e. absurd (cc); nows = λ i t e. (let n = h.tokens.nows i t e in omega (arith, n, long)); at_home = h.tokens.at_home };
+        counted = λ i u. ap length (end_actions-push i log (entry_of log 0 Stop) ∙ append-nil (end_actions i log))
+            ∙ h.counted i (free alive u);
+        tokens = record {
+          tokens = λ e. absurd (cc);
+          nows = λ i t e. (let n = h.tokens.nows i t e in omega (arith, n, long));
+          at_home =
+              h.tokens.at_home;
+        };
         down = h.down;
         right = h.right;
         stopped = refl;

@@ -1,5 +1,6 @@
 -- What the search finds is the left parent.
-use Rattle.std.proofs.Common.{◌≡◌, ℕ, ℤ, zero, suc, ◌+◌, ◌<◌, ◌≤◌, ◌<ℤ◌, ◌≤ℤ◌, List, length, map, refl, ap, ap₂, sym, ◌∙◌, arith, subst, cond, ltb, Option, Some, None, IfSome, IfNone, max}
+use Rattle.std.proofs.Common.{◌≡◌, ℕ, ℤ, zero, suc, ◌+◌, ◌<◌, ◌≤◌, ◌<ℤ◌, ◌≤ℤ◌, List, length, map, refl, ap, ap₂, sym, ◌∙◌, arith, subst}
+use Rattle.std.proofs.Common.{cond, ltb, Option, Some, None, IfSome, IfNone, max}
 use Rattle.std.proofs.lemmas.Bool.{lt-ltb, le-ltb}
 use Rattle.std.proofs.lemmas.Int.{ints}
 use Rattle.std.proofs.lemmas.List.{length-map}
@@ -38,22 +39,27 @@ pub record IsLeft (columns : List (List Node)) (i k joined : ℕ) (left : Option
   pub parent : left ≡ left_parent columns i (suc k)
   pub joins : unwrap_or left joined ≡ left_joined columns i (suc k)
 
-module _ (columns : List (List Node)) (a k before : ℕ) (kind : Kind) (number : ℤ) (here : node_at (nodes_at columns (a + 1)) (suc k) ≡ node_of kind number) (joined_is : before ≡ joined_at columns a k) where
+module _ (columns : List (List Node)) (a k before : ℕ) (kind : Kind) (number : ℤ)
+    (here : node_at (nodes_at columns (a + 1)) (suc k) ≡ node_of kind number) (joined_is : before ≡ joined_at columns a k) where
   next_is : joined_at columns a (suc k) ≡ joined_by kind (joined_at columns a k) (last_up_to (nodes_at columns a) number)
   next_is = ap (λ (m : Node). joined_by m.kind (joined_at columns a k) (last_up_to (nodes_at columns a) m.number)) here
 
   -- without a search
-  left_none : joined_by kind (joined_at columns a k) (last_up_to (nodes_at columns a) number) ≡ joined_at columns a k → IsLeft columns (suc a) k before None
+  left_none : joined_by kind (joined_at columns a k) (last_up_to (nodes_at columns a) number) ≡ joined_at columns a k
+      → IsLeft columns (suc a) k before None
   left_none e = record {
     parent = sym (left_without_growth columns a k (next_is ∙ e));
     joins = joined_is ∙ sym (next_is ∙ e);
   }
 
   -- the left column has a last index
-  last_known : (j : ℕ) → kind ≡ Wait → IsLastUpTo (nodes_at columns a) j number → (left_parent columns (suc a) (suc k) ≡ cond (ltb (joined_at columns a k) j) (Some j) None) × (joined_at columns a (suc k) ≡ max (joined_at columns a k) j)
+  last_known : (j : ℕ) → kind ≡ Wait → IsLastUpTo (nodes_at columns a) j number
+      → (left_parent columns (suc a) (suc k) ≡ cond (ltb (joined_at columns a k) j) (Some j) None)
+      × (joined_at columns a (suc k) ≡ max (joined_at columns a k) j)
   last_known j w l =
       let found : last_up_to (nodes_at columns a) number ≡ Some j = last_up_to_is (nodes_at columns a) number j l in (
-        left_wait columns a k j (ap (λ (m : Node). m.kind) here ∙ w) (ap (λ (m : Node). last_up_to (nodes_at columns a) m.number) here ∙ found),
+        left_wait columns a k j (ap (λ (m : Node). m.kind) here ∙ w)
+            (ap (λ (m : Node). last_up_to (nodes_at columns a) m.number) here ∙ found),
         next_is ∙ ap₂ (λ q f. joined_by q (joined_at columns a k) f) w found,
       )
 
@@ -86,12 +92,14 @@ module _ (columns : List (List Node)) (a k before : ℕ) (kind : Kind) (number :
     where
       by : (found : Option ℕ) → last_up_to (nodes_at columns a) number ≡ found → IsLeft columns (suc a) k before None
       by None e = absurd (let q = (last_up_to_found (nodes_at columns a) number).none e 0 full in omega (arith, ints, q, first))
-      by (Some j) e = let l = (last_up_to_found (nodes_at columns a) number).some j e in left_past j w (nothing j (is_last_at (nodes_at columns a) j number l)) l
+      by (Some j) e = let l = (last_up_to_found (nodes_at columns a) number).some j e in left_past j w
+          (nothing j (is_last_at (nodes_at columns a) j number l)) l
 
 -- what the search finds is the left parent
 pub left_found : (columns : List (List Node)) (i k before : ℕ) (kind : Kind) (number : ℤ) (left : Option ℕ) (numbers : List ℤ)
     → node_at (nodes_at columns i) (suc k) ≡ node_of kind number → before ≡ left_joined columns i k
-    → ((a : ℕ) → i ≡ suc a → (numbers ≡ map (λ n. n.number) (nodes_at columns a)) × (0 < length (nodes_at columns a)) × (kind ≡ Wait → (node_at (nodes_at columns a) 0).number ≤ℤ number))
+    → ((a : ℕ) → i ≡ suc a → (numbers ≡ map (λ n. n.number) (nodes_at columns a)) × (0 < length (nodes_at columns a))
+    × (kind ≡ Wait → (node_at (nodes_at columns a) 0).number ≤ℤ number))
     → ((WaitsAt kind i → ⊥) → left ≡ None)
     → (WaitsAt kind i → IfSome left (λ j. (before < j) × IsLastNumber numbers j number))
     → (WaitsAt kind i → IfNone left ((j : ℕ) → IsLastNumber numbers j number → j ≤ before))
@@ -105,8 +113,13 @@ left_found columns (suc a) k before kind number left numbers here joined_is matc
     by kind refl here'
   where
     by : (q : Kind) → kind ≡ q → node_at (nodes_at columns (a + 1)) (suc k) ≡ node_of kind number → IsLeft columns (suc a) k before left
-    by Zero s here' = subst (IsLeft columns (suc a) k before) (sym (none (λ w. (let z : Zero ≡ Wait = sym s ∙ w.0 in absurd (cc))))) (left_none columns a k before kind number here' joined_is (ap (λ q. joined_by q (joined_at columns a k) (last_up_to (nodes_at columns a) number)) s))
-    by Continue s here' = subst (IsLeft columns (suc a) k before) (sym (none (λ w. (let z : Continue ≡ Wait = sym s ∙ w.0 in absurd (cc))))) (left_none columns a k before kind number here' joined_is (ap (λ q. joined_by q (joined_at columns a k) (last_up_to (nodes_at columns a) number)) s))
+    by Zero s here' = subst (IsLeft columns (suc a) k before) (sym (none (λ w. (let z : Zero ≡ Wait = sym s ∙ w.0 in absurd (cc)))))
+        (left_none columns a k before kind number here' joined_is
+        (ap (λ q. joined_by q (joined_at columns a k) (last_up_to (nodes_at columns a) number)) s))
+    by Continue s here' = subst (IsLeft columns (suc a) k before)
+        (sym (none (λ w. (let z : Continue ≡ Wait = sym s ∙ w.0 in absurd (cc)))))
+        (left_none columns a k before kind number here' joined_is
+        (ap (λ q. joined_by q (joined_at columns a k) (last_up_to (nodes_at columns a) number)) s))
     by Wait s here' =
         let t = matches a refl in
         let w : WaitsAt kind (suc a) = (s, omega arith) in

@@ -1,5 +1,6 @@
 -- A token of a running instance stays one while other instances start and end.
-use Rattle.std.proofs.Common.{◌≡◌, ◌≢◌, ◌∙◌, ◌<◌, ℕ, ℤ, List, [], ◌∷◌, ◌++◌, length, Some, false, true, refl, ap, sym, subst, arith, append-nil}
+use Rattle.std.proofs.Common.{◌≡◌, ◌≢◌, ◌∙◌, ◌<◌, ℕ, ℤ, List, [], ◌∷◌, ◌++◌, length, Some, false, true, refl, ap, sym, subst, arith}
+use Rattle.std.proofs.Common.{append-nil}
 use Rattle.pipe_model.specs.declared.event.Event.{Event}
 use Rattle.pipe_model.specs.declared.event.Event.TheVariants.{Begin, Advance, Enter, Finish, Stop, Access}
 use Rattle.pipe_model.specs.declared.node.NodeId.{NodeId}
@@ -12,7 +13,8 @@ use Rattle.pipe_model.specs.Races.Columns.{at, nodes_at}
 use Rattle.pipe_model.specs.Runs.Allowed.{ControlAllows, LeftHasPassed}
 use Rattle.pipe_model.specs.Runs.ControlRun.{is_access}
 use Rattle.pipe_model.specs.Runs.RunLogs.{state_after}
-use Rattle.pipe_model.specs.Runs.State.{Frame, State, enter_pending, frame_at, fresh_frame, next_state, own_columns, update_frame, with_action}
+use Rattle.pipe_model.specs.Runs.State.{Frame, State, enter_pending, frame_at, fresh_frame, next_state, own_columns, update_frame}
+use Rattle.pipe_model.specs.Runs.State.{with_action}
 use Rattle.pipe_frame.specs.RunningTokens.{left_joined}
 use Rattle.pipe_frame.specs.TokenFields.{TokenFields}
 use Rattle.run_laws.proofs.ListOrders.SoundStarts.{control_starts_sound}
@@ -36,7 +38,8 @@ module _ (s : State) (starts : List NodeId) (t : TokenFields) (sound : IsStartSo
   grown : (s' : State) (x : NodeId) → Grew s.frames s'.frames starts x → frame_at s'.frames i ≡ Some h.running.frame
       → ((m : ℤ) → LeftHasPassed s.frames i m → LeftHasPassed s'.frames i m) → IsTokenAt s' (starts ++ x ∷ []) t
   grown s' x g is passes =
-      let l : t.index < length (nodes_at (columns_of_frames s.frames) i) = (let w = h.index in let z = ap length (nodes_at_frame s.frames i h.running.frame h.running.is) in omega (arith, w, z)) in
+      let l : t.index < length (nodes_at (columns_of_frames s.frames) i) =
+      (let w = h.index in let z = ap length (nodes_at_frame s.frames i h.running.frame h.running.is) in omega (arith, w, z)) in
       record {
         running = record { frame = h.running.frame; is = is; runs = h.running.runs };
         index = h.index;
@@ -59,10 +62,12 @@ module _ (s : State) (starts : List NodeId) (t : TokenFields) (sound : IsStartSo
         index = h.index;
         marks = h.marks ∙ ap (λ cols. instance_marks cols starts i t.index) (sym columns);
         joined = h.joined ∙ ap (λ cols. left_joined cols i t.index) (sym columns);
-        folded = λ m p. subst (λ fs. LeftHasPassed fs i m) (sym same) (left_passed_moved s.frames j f (with_action x w) is moves i m (h.folded m p));
+        folded = λ m p. subst (λ fs. LeftHasPassed fs i m) (sym same)
+            (left_passed_moved s.frames j f (with_action x w) is moves i m (h.folded m p));
       })
 
-  stays : (limit : ℕ) (e : Event) → ControlAllows limit s e → is_access e ≡ false → EndsNoneOf i e → IsTokenAt (next_state s e) (starts ++ started_by s e) t
+  stays : (limit : ℕ) (e : Event) → ControlAllows limit s e → is_access e ≡ false → EndsNoneOf i e
+      → IsTokenAt (next_state s e) (starts ++ started_by s e) t
   stays limit (Begin j) may quiet o =
       grown (next_state s (Begin j)) (at j 0) (grew_begin limit s j starts may sound)
       (frame_at_push s.frames fresh_frame i (frame_at_within s.frames i h.running.frame h.running.is) ∙ h.running.is)
@@ -71,7 +76,8 @@ module _ (s : State) (starts : List NodeId) (t : TokenFields) (sound : IsStartSo
       let u : Frame → Frame = λ g. enter_pending g.status g in
       let entered : u may.frame ≡ entered_frame may.kind may.number may.frame = enter_pending_is may.frame may.kind may.number may.named in
       let moves : IsMove s.frames j may.frame (u may.frame) =
-      subst (λ g. IsMove s.frames j may.frame g) (sym entered) (moves_entered s.frames j may.frame may.kind may.number may.named may.free) in
+      subst (λ g. IsMove s.frames j may.frame g) (sym entered) (moves_entered s.frames j may.frame may.kind may.number may.named may.free)
+      in
       let other : i ≢ j = λ e. (
       let here : frame_at s.frames i ≡ Some may.frame = subst (λ k. frame_at s.frames k ≡ Some may.frame) (sym e) may.is in
       let one : Some h.running.frame ≡ Some may.frame = sym h.running.is ∙ here in
@@ -100,7 +106,8 @@ module _ (s : State) (starts : List NodeId) (t : TokenFields) (sound : IsStartSo
 
 pub tokens_stay_until_their_ends : TokensStayUntilTheirEnds
 tokens_stay_until_their_ends limit events e t run may quiet o h =
-    let here : IsTokenAt (state_after events) (starts_of events) t = record { running = h.running; index = h.index; marks = h.marks; joined = h.joined; folded = h.folded } in
+    let here : IsTokenAt (state_after events) (starts_of events) t =
+    record { running = h.running; index = h.index; marks = h.marks; joined = h.joined; folded = h.folded } in
     token_at_events (events ++ e ∷ []) (next_state (state_after events) e) (starts_of events ++ started_by (state_after events) e) t
     (state_after-push events e) (starts_of-push events e)
     (stays (state_after events) (starts_of events) t (control_starts_sound run) here limit e may quiet o)

@@ -21,12 +21,14 @@ parent_marks columns starts zero (Some j) = None
 parent_marks columns starts (suc i) (Some j) = Some (instance_marks columns starts i j)
 
 -- an instance below another takes what its parents' marks say, in down-first
-pub takes_down_below : (columns : List (List Node)) (starts : List NodeId) (i k : ℕ) (left : Option Marks) → down_taken (Some (instance_marks columns starts i k)) left ≡ down_first_taken (start_number starts) i (suc k)
+pub takes_down_below : (columns : List (List Node)) (starts : List NodeId) (i k : ℕ) (left : Option Marks)
+    → down_taken (Some (instance_marks columns starts i k)) left ≡ down_first_taken (start_number starts) i (suc k)
 takes_down_below columns starts i k left = refl
 
 -- and in right-first, by its left parent
 pub takes_right_below : (columns : List (List Node)) (starts : List NodeId) (i k : ℕ) (found : Option ℕ) → (i ≡ 0 → found ≡ None)
-    → right_taken (Some (instance_marks columns starts i k)) (parent_marks columns starts i found) ≡ right_taken_from (start_number starts) i (suc k) found
+    → right_taken (Some (instance_marks columns starts i k)) (parent_marks columns starts i found) ≡ right_taken_from
+    (start_number starts) i (suc k) found
 takes_right_below columns starts zero k None z = refl
 takes_right_below columns starts zero k (Some j) z = absurd (let q : Some j ≡ None = z refl in cc)
 takes_right_below columns starts (suc i) k None z = refl
@@ -34,7 +36,8 @@ takes_right_below columns starts (suc i) k (Some j) z = refl
 
 -- a head takes what the marks of the head to its left say
 pub takes_head : (columns : List (List Node)) (starts : List NodeId) (i : ℕ)
-    → (down_taken None (Some (instance_marks columns starts i 0)) ≡ down_first_taken (start_number starts) (suc i) 0) × (right_taken None (Some (instance_marks columns starts i 0)) ≡ right_first_taken columns (start_number starts) (suc i) 0)
+    → (down_taken None (Some (instance_marks columns starts i 0)) ≡ down_first_taken (start_number starts) (suc i) 0)
+    × (right_taken None (Some (instance_marks columns starts i 0)) ≡ right_first_taken columns (start_number starts) (suc i) 0)
 takes_head columns starts i = (refl, refl)
 
 -- the marks of a start by its number
@@ -45,17 +48,22 @@ module _ (columns columns' : List (List Node)) (starts : List NodeId) (x : NodeI
     (h : AreStarts columns starts) (g : GrowsBy columns columns' starts x)
     (lefts : (c k : ℕ) → k < length (nodes_at columns c) → left_parent columns' c k ≡ left_parent columns c k) where
   -- the marks of what had started stay
-  pub marks_stay : (i k : ℕ) → start_number starts i k < length starts → instance_marks columns' (starts ++ x ∷ []) i k ≡ instance_marks columns starts i k
+  pub marks_stay : (i k : ℕ) → start_number starts i k < length starts → instance_marks columns'
+      (starts ++ x ∷ []) i k ≡ instance_marks columns starts i k
   marks_stay i k w =
       let a = start_old starts x i k w in
       let d = down_stays columns columns' starts x ok h g lefts i k w in
       let r = right_stays columns columns' starts x ok h g lefts i k w in
-      ap (λ m. start_marks m (down_first_taken (start_number (starts ++ x ∷ [])) i k) (right_first_taken columns' (start_number (starts ++ x ∷ [])) i k)) a
+      ap (λ m. start_marks m (down_first_taken (start_number (starts ++ x ∷ [])) i k)
+      (right_first_taken columns' (start_number (starts ++ x ∷ [])) i k)) a
       ∙ ap₂ (λ p q. start_marks (start_number starts i k) p q) d r
 
   -- the marks of the new start
-  pub marks_new : instance_marks columns' (starts ++ x ∷ []) x.iteration x.index ≡ start_marks (length starts) (down_first_taken (start_number starts) x.iteration x.index) (right_first_taken columns' (start_number starts) x.iteration x.index)
+  pub marks_new : instance_marks columns' (starts ++ x ∷ []) x.iteration x.index ≡ start_marks (length starts)
+      (down_first_taken (start_number starts) x.iteration x.index) (right_first_taken columns' (start_number starts) x.iteration x.index)
   marks_new =
       let w = new_started columns columns' starts x ok h g lefts in
-      ap (λ m. start_marks m (down_first_taken (start_number (starts ++ x ∷ [])) x.iteration x.index) (right_first_taken columns' (start_number (starts ++ x ∷ [])) x.iteration x.index)) (start_new starts x g.new)
-      ∙ ap₂ (λ p q. start_marks (length starts) p q) (down_same columns columns' starts x ok h g lefts x.iteration x.index w) (right_same columns columns' starts x ok h g lefts x.iteration x.index w)
+      ap (λ m. start_marks m (down_first_taken (start_number (starts ++ x ∷ [])) x.iteration x.index)
+      (right_first_taken columns' (start_number (starts ++ x ∷ [])) x.iteration x.index)) (start_new starts x g.new)
+      ∙ ap₂ (λ p q. start_marks (length starts) p q) (down_same columns columns' starts x ok h g lefts x.iteration x.index w)
+      (right_same columns columns' starts x ok h g lefts x.iteration x.index w)

@@ -1,6 +1,7 @@
 -- The canonical text: the one text in which a program is printed, as a function of its tree.
 -- There are round brackets exactly where the tree needs them, and each line is indented by two spaces for each block around it.
-use Rattle.std.specs.Prelude.{ℕ, ◌+◌, ℤ, List, [], ◌∷◌, ◌++◌, Option, Some, None, nat_le, ◌==◌, if◌then◌else◌, codes, slice_index_or, replicate}
+use Rattle.std.specs.Prelude.{ℕ, ◌+◌, ℤ, List, [], ◌∷◌, ◌++◌, Option, Some, None, nat_le, ◌==◌, if◌then◌else◌, codes, slice_index_or}
+use Rattle.std.specs.Prelude.{replicate}
 use Rattle.pipe_model.specs.declared.operator_codes.TheConstants as operator_codes
 use Rattle.std.specs.Fmt.{signed_decimal}
 use Rattle.std.specs.List.{flat_map}
@@ -9,7 +10,9 @@ use Rattle.pipe_model.specs.declared.tree.Limits.{Limits}
 use Rattle.pipe_model.specs.declared.tree.StageKind.{StageKind}
 use Rattle.pipe_model.specs.declared.tree.StageKind.TheVariants as kinds
 use Rattle.pipe_model.specs.Language.Lexis.{operators}
-use Rattle.pipe_model.specs.Language.SyntaxTree.{Expression, Number, Name, Element, And, Or, Binary, Unary, More, Take, Iter, Statement, Let, Assign, AssignElement, Emit, If, While, Stage, NextStage, Statements, Empty, Then, SyntaxTree}
+use Rattle.pipe_model.specs.Language.SyntaxTree.{Expression, Number, Name, Element, And, Or, Binary, Unary, More, Take, Iter, Statement}
+use Rattle.pipe_model.specs.Language.SyntaxTree.{Let, Assign, AssignElement, Emit, If, While, Stage, NextStage, Statements, Empty, Then}
+use Rattle.pipe_model.specs.Language.SyntaxTree.{SyntaxTree}
 use Rattle.pipe_model.specs.Language.Grammar.{level_of, operand_level}
 
 -- ---- expressions
@@ -42,7 +45,8 @@ at_level needed own text = if nat_le needed own then text else codes "(" ++ (tex
 -- a binary operator between two sides with these levels and texts; the right side needs a higher level
 abbrev pub binary_text : (code left_level right_level : ℕ) → (left right : List ℕ) → List ℕ
 binary_text code left_level right_level left right =
-    at_level (level_of code) left_level left ++ (codes " " ++ (operator_text code ++ (codes " " ++ at_level (level_of code + 1) right_level right)))
+    at_level (level_of code) left_level left ++ (codes " "
+    ++ (operator_text code ++ (codes " " ++ at_level (level_of code + 1) right_level right)))
 
 abbrev pub expression_text : Expression → List ℕ
 expression_text (Number n) = signed_decimal n
@@ -115,7 +119,8 @@ part_text word Empty = []
 part_text word (Then s ss) = line 0 (word ++ codes " {") ++ (statements_text 2 (Then s ss) ++ line 0 (codes "}"))
 
 abbrev pub loop_text : Expression → Statements → List ℕ
-loop_text test body = line 0 (codes "pipe_while (" ++ (expression_text test ++ codes ") {")) ++ (statements_text 2 body ++ line 0 (codes "}"))
+loop_text test body = line 0 (codes "pipe_while (" ++ (expression_text test ++ codes ") {"))
+    ++ (statements_text 2 body ++ line 0 (codes "}"))
 
 abbrev pub program_text : SyntaxTree → List ℕ
 program_text tree =

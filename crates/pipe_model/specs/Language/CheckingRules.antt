@@ -1,7 +1,10 @@
 -- The rules that a program must obey besides the grammar, and the first that it breaks.
--- Limits are checked first, in their order, and then the marks, in the order of the text; at one mark the rule that is earlier in the list counts.
-use Rattle.std.specs.Prelude.{◌≡◌, ℕ, ℤ, pos, Bool, true, false, not, ◌&&◌, ◌||◌, List, [], ◌∷◌, length, Option, Some, None, ◌+◌, ◌==◌, if◌then◌else◌, is_some, nat_lt, nat_le, int_lt}
-use Rattle.pipe_model.specs.declared.bounds.TheConstants.{MOST_CELLS, MOST_LOCALS, MOST_ITERATIONS, MOST_STAGES, MOST_INSTANCES, MOST_STEPS, MOST_EMITS}
+-- Limits are checked first, in their order, and then the marks, in the order of the text; at one mark the rule that is earlier in the list
+-- counts.
+use Rattle.std.specs.Prelude.{◌≡◌, ℕ, ℤ, pos, Bool, true, false, not, ◌&&◌, ◌||◌, List, [], ◌∷◌, length, Option, Some, None, ◌+◌, ◌==◌}
+use Rattle.std.specs.Prelude.{if◌then◌else◌, is_some, nat_lt, nat_le, int_lt}
+use Rattle.pipe_model.specs.declared.bounds.TheConstants.{MOST_CELLS, MOST_LOCALS, MOST_ITERATIONS, MOST_STAGES, MOST_INSTANCES, MOST_STEPS}
+use Rattle.pipe_model.specs.declared.bounds.TheConstants.{MOST_EMITS}
 use Rattle.std.proofs.Math.IntN.{◌*ℤ◌}
 use Rattle.std.specs.List.{list_any}
 use Rattle.std.specs.Str.{bytes_eq}
@@ -9,7 +12,8 @@ use Rattle.pipe_model.specs.declared.region.Region.{Region}
 use Rattle.pipe_model.specs.declared.region.Region.TheVariants as regions
 use Rattle.pipe_model.specs.declared.tree.Declaration.{Declaration}
 use Rattle.pipe_model.specs.declared.tree.Limits.{Limits}
-use Rattle.pipe_model.specs.Language.Marks.{Scope, Occurrence, DeclaredCell, DeclaredLocal, Plain, Indexed, IterWord, StageWord, Mark, marks_of}
+use Rattle.pipe_model.specs.Language.Marks.{Scope, Occurrence, DeclaredCell, DeclaredLocal, Plain, Indexed, IterWord, StageWord, Mark}
+use Rattle.pipe_model.specs.Language.Marks.{marks_of}
 use Rattle.pipe_model.specs.Language.Programs.{declared_size}
 use Rattle.pipe_model.specs.Language.SyntaxTree.{SyntaxTree}
 

@@ -1,6 +1,7 @@
 -- Evaluation: what expressions, statements and iterations do, as interaction trees, from which costs and effects can be read case by case
 -- (interaction trees: Xia et al., "Interaction Trees", POPL 2020).
-use Rattle.std.specs.Prelude.{ℕ, zero, suc, ℤ, pos, negsuc, ◌+ℤ◌, int_lt, int_div, int_rem, List, [], ◌∷◌, ◌++◌, Option, Some, None, Bool, not, if◌then◌else◌, ◌==◌, ◌+◌, ◌^◌, nat_lt, length, take, slice_index_or}
+use Rattle.std.specs.Prelude.{ℕ, zero, suc, ℤ, pos, negsuc, ◌+ℤ◌, int_lt, int_div, int_rem, List, [], ◌∷◌, ◌++◌, Option, Some, None, Bool}
+use Rattle.std.specs.Prelude.{not, if◌then◌else◌, ◌==◌, ◌+◌, ◌^◌, nat_lt, length, take, slice_index_or}
 use Rattle.pipe_model.specs.declared.operator_codes.TheConstants as operator_codes
 use Rattle.std.proofs.Math.IntN.{◌-ℤ◌, ◌*ℤ◌, neg_ℤ}
 use Rattle.std.specs.Ordering.{int_eq}
@@ -11,7 +12,9 @@ use Rattle.pipe_model.specs.declared.trap.Trap.TheVariants as traps
 use Rattle.pipe_model.specs.declared.tree.StageKind.{StageKind}
 use Rattle.pipe_model.specs.Language.Interaction.{Interaction, Return, Raise, Step, Get, Set, bind}
 use Rattle.pipe_model.specs.Language.Interaction as interactions
-use Rattle.pipe_model.specs.Language.SyntaxTree.{Expression, Number, Name, Element, And, Or, Binary, Unary, More, Take, Iter, Statement, Let, Assign, AssignElement, Emit, If, While, Stage, NextStage, Statements, Empty, Then, kind_of_stage}
+use Rattle.pipe_model.specs.Language.SyntaxTree.{Expression, Number, Name, Element, And, Or, Binary, Unary, More, Take, Iter, Statement}
+use Rattle.pipe_model.specs.Language.SyntaxTree.{Let, Assign, AssignElement, Emit, If, While, Stage, NextStage, Statements, Empty, Then}
+use Rattle.pipe_model.specs.Language.SyntaxTree.{kind_of_stage}
 
 -- a local and its value
 pub record Local : Type 0 where
@@ -130,19 +133,22 @@ named_value None None = Raise traps.Index
 
 -- the input number at the cursor, which then moves by one
 abbrev pub take_at : List ℤ → ℤ → Interaction ℤ
-take_at input (pos n) = if nat_lt n (length input) then Set 0 (pos (n + 1)) (Return (slice_index_or input n (pos 0))) else Raise traps.InputEnd
+take_at input (pos n) = if nat_lt n (length input) then Set 0 (pos (n + 1)) (Return (slice_index_or input n (pos 0))) else Raise
+    traps.InputEnd
 take_at input (negsuc n) = Raise traps.InputEnd
 
 -- ---- expressions: each node that is evaluated takes one step, after its operands and before its own effect
 abbrev pub evaluate : Setting → List Local → Expression → Interaction ℤ
 evaluate setting locals (Number n) = Step (Return n)
 evaluate setting locals (Name x) = Step (named_value (local_value locals x) (setting.cells x))
-evaluate setting locals (Element x i) = bind (evaluate setting locals i) (λ v. Step (bind (element_of (setting.cells x) v) (λ cell. Get cell Return)))
+evaluate setting locals (Element x i) = bind (evaluate setting locals i)
+    (λ v. Step (bind (element_of (setting.cells x) v) (λ cell. Get cell Return)))
 evaluate setting locals (And a b) = bind (evaluate setting locals a) (λ x. Step
     (if_zero x (Return (pos 0)) (bind (evaluate setting locals b) (λ y. Return (truth_of y)))))
 evaluate setting locals (Or a b) = bind (evaluate setting locals a) (λ x. Step
     (if_zero x (bind (evaluate setting locals b) (λ y. Return (truth_of y))) (Return (pos 1))))
-evaluate setting locals (Binary code a b) = bind (evaluate setting locals a) (λ x. bind (evaluate setting locals b) (λ y. Step (operate code x y)))
+evaluate setting locals (Binary code a b) = bind (evaluate setting locals a)
+    (λ x. bind (evaluate setting locals b) (λ y. Step (operate code x y)))
 evaluate setting locals (Unary code a) = bind (evaluate setting locals a) (λ x. Step (operate_one code x))
 evaluate setting locals More = Step (Get 0 (λ cursor. Return (truth (int_lt cursor (pos (length setting.world.input))))))
 evaluate setting locals Take = Step (Get 0 (take_at setting.world.input))
@@ -168,7 +174,8 @@ emit limit v = Get 1 (λ count. if int_eq count (pos limit) then Raise traps.Out
 abbrev pub go_to_stage : ℕ → StageKind → StagePosition → ℤ → Interaction StagePosition
 go_to_stage stages kind here n =
     if int_lt here.number n
-    then (if nat_lt here.count stages then interactions.Stage (kind_of_stage kind) n (Return (record { number = n; count = here.count + 1 }))
+    then (if nat_lt here.count stages then interactions.Stage (kind_of_stage kind) n
+    (Return (record { number = n; count = here.count + 1 }))
     else Raise traps.StageLimit)
     else Raise traps.StageOrder
 
@@ -190,7 +197,8 @@ loop_turns (suc n) test body env =
 abbrev mutual
   pub execute : Setting → Statement → Environment → Interaction Environment
   execute setting (Let x e) env = bind (evaluate setting env.locals e) (λ v. Step (Return (declare_local env x v)))
-  execute setting (Assign x e) env = bind (evaluate setting env.locals e) (λ v. Step (assign env (local_value env.locals x) (setting.cells x) x v))
+  execute setting (Assign x e) env = bind (evaluate setting env.locals e)
+      (λ v. Step (assign env (local_value env.locals x) (setting.cells x) x v))
   execute setting (AssignElement x i e) env =
       bind (evaluate setting env.locals i) (λ j. bind (evaluate setting env.locals e)
       (λ v. Step (bind (element_of (setting.cells x) j) (λ cell. Set cell v (Return env)))))
@@ -202,7 +210,8 @@ abbrev mutual
   execute setting (Stage kind e) env =
       bind (evaluate setting env.locals e) (λ n. Step (bind (go_to_stage setting.world.stages kind env.stage n)
       (λ stage. Return (record env { stage = stage }))))
-  execute setting (NextStage kind) env = Step (bind (go_to_next_stage setting.world.stages kind env.stage) (λ stage. Return (record env { stage = stage })))
+  execute setting (NextStage kind) env = Step (bind (go_to_next_stage setting.world.stages kind env.stage)
+      (λ stage. Return (record env { stage = stage })))
 
   -- statements one after the other
   pub execute_all : Setting → Statements → Environment → Interaction Environment
@@ -217,9 +226,11 @@ first_environment = record { locals = []; stage = record { number = pos 0; count
 
 -- what follows a test of the loop with this value: 0 closes the loop; otherwise the body runs, unless the limit on iterations is reached
 abbrev pub after_test : World → ℤ → Interaction ColumnEnd → Interaction ColumnEnd
-after_test world v body = if_zero v (Return ends.Closed) (if int_eq (pos world.iteration) world.iterations then Raise traps.IterLimit else body)
+after_test world v body = if_zero v (Return ends.Closed)
+    (if int_eq (pos world.iteration) world.iterations then Raise traps.IterLimit else body)
 
 -- an iteration: the loop's test, which takes a step after its expression, and the body
 abbrev pub run_iteration : Setting → Expression → Statements → Interaction ColumnEnd
 run_iteration setting test body =
-    bind (evaluate setting [] test) (λ v. Step (after_test setting.world v (bind (execute_all setting body first_environment) (λ env. Return ends.End))))
+    bind (evaluate setting [] test) (λ v. Step (after_test setting.world v
+    (bind (execute_all setting body first_environment) (λ env. Return ends.End))))

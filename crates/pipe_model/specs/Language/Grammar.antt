@@ -1,5 +1,6 @@
 -- The grammar of the whole language: which symbols derive which expression, and which pieces derive which statements and program,
--- one constructor for each line of the grammar. A piece is one symbol, or the symbols of a full expression: one that is not part of another.
+-- one constructor for each line of the grammar. A piece is one symbol, or the symbols of a full expression: one that is not part of
+-- another.
 -- The bounds on brackets and on full expressions are not part of the grammar; they are in Spelling.
 use Rattle.std.specs.Prelude.{◌≡◌, ℕ, suc, ℤ, pos, List, [], ◌∷◌, ◌++◌, slice_index, Option, Some, None}
 use Rattle.pipe_model.specs.declared.operator_codes.TheConstants as operator_codes
@@ -9,8 +10,13 @@ use Rattle.pipe_model.specs.declared.tree.StageKind.TheVariants as kinds
 use Rattle.pipe_model.specs.declared.symbol.Symbol.{Symbol}
 use Rattle.pipe_model.specs.declared.symbol.Symbol.TheVariants as symbols
 use Rattle.pipe_model.specs.declared.tree.Declaration.{Declaration}
-use Rattle.pipe_model.specs.Language.SyntaxTree.{Expression, Number, Name, Element, Unary, More, Take, Iter, binary_expression, Statement, Let, Assign, AssignElement, Emit, If, While, Stage, NextStage, Statements, Empty, Then, SyntaxTree}
-use Rattle.pipe_model.specs.Language.Words.{word_limits, word_iterations, word_stages, word_steps, word_emits, word_cell, word_init, word_pipe_while, word_pipe_wait, word_pipe_continue, word_final, word_let, word_if, word_else, word_while, word_emit, word_more, word_take, word_iter, minus, exclamation, open_round, close_round, comma, semicolon, equals, open_square, close_square, open_brace, close_brace}
+use Rattle.pipe_model.specs.Language.SyntaxTree.{Expression, Number, Name, Element, Unary, More, Take, Iter, binary_expression, Statement}
+use Rattle.pipe_model.specs.Language.SyntaxTree.{Let, Assign, AssignElement, Emit, If, While, Stage, NextStage, Statements, Empty, Then}
+use Rattle.pipe_model.specs.Language.SyntaxTree.{SyntaxTree}
+use Rattle.pipe_model.specs.Language.Words.{word_limits, word_iterations, word_stages, word_steps, word_emits, word_cell, word_init}
+use Rattle.pipe_model.specs.Language.Words.{word_pipe_while, word_pipe_wait, word_pipe_continue, word_final, word_let, word_if, word_else}
+use Rattle.pipe_model.specs.Language.Words.{word_while, word_emit, word_more, word_take, word_iter, minus, exclamation, open_round}
+use Rattle.pipe_model.specs.Language.Words.{close_round, comma, semicolon, equals, open_square, close_square, open_brace, close_brace}
 
 -- the level of each binary operator by its code from 1 to 13; 0 if no operator has the code
 abbrev pub level_of : ℕ → ℕ
@@ -34,12 +40,16 @@ pub data Derives : ℕ → List Symbol → Expression → Type 0 where
   CallsMore : Derives operand_level (word_more ∷ open_round ∷ close_round ∷ []) More
   CallsTake : Derives operand_level (word_take ∷ open_round ∷ close_round ∷ []) Take
   CallsIter : Derives operand_level (word_iter ∷ open_round ∷ close_round ∷ []) Iter
-  Negative : {ts : List Symbol} {e : Expression} → Derives operand_level ts e → Derives operand_level (minus ∷ ts) (Unary operator_codes.NEGATIVE e)
-  Not : {ts : List Symbol} {e : Expression} → Derives operand_level ts e → Derives operand_level (exclamation ∷ ts) (Unary operator_codes.NOT e)
-  Bracketed : {inside : List Symbol} {e : Expression} → Derives any_expression inside e → Derives operand_level (open_round ∷ (inside ++ close_round ∷ [])) e
+  Negative : {ts : List Symbol} {e : Expression} → Derives operand_level ts e → Derives operand_level (minus ∷ ts)
+      (Unary operator_codes.NEGATIVE e)
+  Not : {ts : List Symbol} {e : Expression} → Derives operand_level ts e → Derives operand_level (exclamation ∷ ts)
+      (Unary operator_codes.NOT e)
+  Bracketed : {inside : List Symbol} {e : Expression} → Derives any_expression inside e → Derives operand_level
+      (open_round ∷ (inside ++ close_round ∷ [])) e
   Tighter : {level : ℕ} {ts : List Symbol} {e : Expression} → Derives (suc level) ts e → Derives level ts e
   Joined : {level : ℕ} {left right : List Symbol} {a b : Expression} (code : ℕ) → level_of code ≡ level
-      → Derives level left a → Derives (suc level) right b → Derives level (left ++ symbols.Operator code ∷ right) (binary_expression code a b)
+      → Derives level left a → Derives (suc level) right b → Derives level (left ++ symbols.Operator code ∷ right)
+      (binary_expression code a b)
 
 pub data Piece : Type 0 where
   Single : Symbol → Piece
@@ -54,12 +64,15 @@ flat (FullExpression ts ∷ ps) = ts ++ flat ps
 mutual
   pub data DerivesStatement : List Piece → Statement → Type 0 where
     LetIs : {ts : List Symbol} {e : Expression} (name : List ℕ) → Derives any_expression ts e
-        → DerivesStatement (Single word_let ∷ Single (symbols.Name name) ∷ Single equals ∷ FullExpression ts ∷ Single semicolon ∷ []) (Let name e)
+        → DerivesStatement (Single word_let ∷ Single (symbols.Name name) ∷ Single equals ∷ FullExpression ts ∷ Single semicolon ∷ [])
+        (Let name e)
     AssignIs : {ts : List Symbol} {e : Expression} (name : List ℕ) → Derives any_expression ts e
         → DerivesStatement (Single (symbols.Name name) ∷ Single equals ∷ FullExpression ts ∷ Single semicolon ∷ []) (Assign name e)
-    AssignElementIs : {us ts : List Symbol} {index e : Expression} (name : List ℕ) → Derives any_expression us index → Derives any_expression ts e
+    AssignElementIs : {us ts : List Symbol} {index e : Expression} (name : List ℕ) → Derives any_expression us index
+        → Derives any_expression ts e
         → DerivesStatement
-        (Single (symbols.Name name) ∷ Single open_square ∷ FullExpression us ∷ Single close_square ∷ Single equals ∷ FullExpression ts ∷ Single semicolon ∷ [])
+        (Single (symbols.Name name) ∷ Single open_square ∷ FullExpression us ∷ Single close_square ∷ Single equals ∷ FullExpression
+        ts ∷ Single semicolon ∷ [])
         (AssignElement name index e)
     EmitIs : {ts : List Symbol} {e : Expression} → Derives any_expression ts e
         → DerivesStatement (Single word_emit ∷ FullExpression ts ∷ Single semicolon ∷ []) (Emit e)
@@ -69,8 +82,10 @@ mutual
     WhileIs : {ts : List Symbol} {ps : List Piece} {e : Expression} {a : Statements} → Derives any_expression ts e → DerivesBlock ps a
         → DerivesStatement (Single word_while ∷ Single open_round ∷ FullExpression ts ∷ Single close_round ∷ ps) (While e a)
     WaitIs : {ts : List Symbol} {e : Expression} → Derives any_expression ts e
-        → DerivesStatement (Single word_pipe_wait ∷ Single open_round ∷ FullExpression ts ∷ Single close_round ∷ Single semicolon ∷ []) (Stage kinds.Wait e)
-    WaitNextIs : DerivesStatement (Single word_pipe_wait ∷ Single open_round ∷ Single close_round ∷ Single semicolon ∷ []) (NextStage kinds.Wait)
+        → DerivesStatement (Single word_pipe_wait ∷ Single open_round ∷ FullExpression ts ∷ Single close_round ∷ Single semicolon ∷ [])
+        (Stage kinds.Wait e)
+    WaitNextIs : DerivesStatement (Single word_pipe_wait ∷ Single open_round ∷ Single close_round ∷ Single semicolon ∷ [])
+        (NextStage kinds.Wait)
     ContinueIs : {ts : List Symbol} {e : Expression} → Derives any_expression ts e
         → DerivesStatement (Single word_pipe_continue ∷ Single open_round ∷ FullExpression ts ∷ Single close_round ∷ Single semicolon ∷ [])
         (Stage kinds.Continue e)
@@ -85,7 +100,8 @@ mutual
 
   -- statements in braces
   pub data DerivesBlock : List Piece → Statements → Type 0 where
-    BlockIs : {ps : List Piece} {ss : Statements} → DerivesStatements ps ss → DerivesBlock (Single open_brace ∷ (ps ++ Single close_brace ∷ [])) ss
+    BlockIs : {ps : List Piece} {ss : Statements} → DerivesStatements ps ss → DerivesBlock
+        (Single open_brace ∷ (ps ++ Single close_brace ∷ [])) ss
 
   -- a part that may be missing: its word, which is `else`, `init` or `final`, and a block
   pub data DerivesPart : Symbol → List Piece → Statements → Type 0 where
@@ -111,12 +127,14 @@ pub data DerivesCells : List Piece → List Declaration → Type 0 where
   NoCell : DerivesCells [] []
   CellIs : {ps qs rs : List Piece} {size : Option ℤ} {value : ℤ} {ds : List Declaration} (name : List ℕ)
       → DerivesSize ps size → DerivesValue qs value → DerivesCells rs ds
-      → DerivesCells (Single word_cell ∷ Single (symbols.Name name) ∷ (ps ++ Single equals ∷ (qs ++ Single semicolon ∷ rs))) (declaration name size value ∷ ds)
+      → DerivesCells (Single word_cell ∷ Single (symbols.Name name) ∷ (ps ++ Single equals ∷ (qs ++ Single semicolon ∷ rs)))
+      (declaration name size value ∷ ds)
 
 -- the line of limits, followed by these pieces
 abbrev pub limits_before : (iterations stages steps emits : ℤ) → List Piece → List Piece
 limits_before iterations stages steps emits ps =
-    Single word_limits ∷ Single word_iterations ∷ Single (symbols.Number iterations) ∷ Single comma ∷ Single word_stages ∷ Single (symbols.Number stages)
+    Single word_limits ∷ Single word_iterations ∷ Single (symbols.Number iterations) ∷ Single comma ∷ Single word_stages ∷ Single
+    (symbols.Number stages)
     ∷ Single comma ∷ Single word_steps ∷ Single (symbols.Number steps) ∷ Single comma ∷ Single word_emits ∷ Single (symbols.Number emits)
     ∷ Single semicolon ∷ ps
 

@@ -9,7 +9,8 @@ use Rattle.pipe_model.specs.declared.trap.Trap.{Trap}
 use Rattle.pipe_model.specs.declared.trap.Trap.TheVariants.{Budget}
 use Rattle.pipe_model.specs.declared.node.Kind.{Kind}
 use Rattle.pipe_model.specs.declared.column.ColumnEnd.TheVariants as ends
-use Rattle.pipe_model.specs.Pipelines.Behaviour.{Behaviour, Reading, Writing, Staging, Ending, Action, Accessed, Staged, Ended, read_access, write_access, accesses_in}
+use Rattle.pipe_model.specs.Pipelines.Behaviour.{Behaviour, Reading, Writing, Staging, Ending, Action, Accessed, Staged, Ended, read_access}
+use Rattle.pipe_model.specs.Pipelines.Behaviour.{write_access, accesses_in}
 use Rattle.pipe_model.specs.Pipelines.Store.{InitialStore, value_after}
 
 -- a tree returns, raises a trap, takes a step of the budget, reads a cell, writes a cell, or goes to a next stage
@@ -76,7 +77,8 @@ interpret store base budget (Step d) k = spend_step k.left (Raised Budget k) (λ
 interpret store base budget (Get c go) k = interpret store base budget (go (value_seen store base k c))
     (progress_with k (Accessed (read_access c (value_seen store base k c))))
 interpret store base budget (Set c v d) k = interpret store base budget d (progress_with k (Accessed (write_access c v)))
-interpret store base budget (Stage kind n d) k = interpret store base budget d (record { actions = k.actions ++ Staged kind n ∷ []; left = budget })
+interpret store base budget (Stage kind n d) k = interpret store base budget d
+    (record { actions = k.actions ++ Staged kind n ∷ []; left = budget })
 
 -- the trace of an iteration that was interpreted to its end
 abbrev pub interpreted_actions : Interpreted Progress ColumnEnd → List Action

@@ -1,5 +1,6 @@
 -- Lexical structure: which text is which symbol, and which symbol is the longest at an offset of a source.
-use Rattle.std.specs.Prelude.{◌≡◌, ◌≢◌, ℕ, ◌+◌, ◌-◌, ◌*◌, pos, Bool, List, [], ◌∷◌, ◌++◌, fold, nat_le, ◌==◌, ◌&&◌, ◌||◌, Option, Some, None, if◌then◌else◌, position, codes}
+use Rattle.std.specs.Prelude.{◌≡◌, ◌≢◌, ℕ, ◌+◌, ◌-◌, ◌*◌, pos, Bool, List, [], ◌∷◌, ◌++◌, fold, nat_le, ◌==◌, ◌&&◌, ◌||◌, Option, Some}
+use Rattle.std.specs.Prelude.{None, if◌then◌else◌, position, codes}
 use Rattle.std.specs.List.{list_all, list_any}
 use Rattle.std.specs.Str.{bytes_eq}
 use Rattle.pipe_model.specs.declared.symbol.Symbol.{Symbol}
@@ -27,8 +28,10 @@ number_of digits = fold (λ n d. 10 * n + (d - 48)) 0 digits
 
 -- the reserved words; a symbol names one by its index in this list
 abbrev pub reserved_words : List (List ℕ)
-reserved_words = codes "version" ∷ codes "limits" ∷ codes "iterations" ∷ codes "stages" ∷ codes "steps" ∷ codes "emits" ∷ codes "cell" ∷ codes "init"
-    ∷ codes "pipe_while" ∷ codes "pipe_wait" ∷ codes "pipe_continue" ∷ codes "final" ∷ codes "let" ∷ codes "if" ∷ codes "else" ∷ codes "while"
+reserved_words = codes "version" ∷ codes "limits" ∷ codes "iterations" ∷ codes "stages" ∷ codes "steps" ∷ codes "emits" ∷ codes
+    "cell" ∷ codes "init"
+    ∷ codes "pipe_while" ∷ codes "pipe_wait" ∷ codes "pipe_continue" ∷ codes "final" ∷ codes "let" ∷ codes "if" ∷ codes "else" ∷ codes
+    "while"
     ∷ codes "emit" ∷ codes "more" ∷ codes "take" ∷ codes "iter" ∷ codes "input" ∷ codes "output" ∷ []
 
 -- the reserved word with this index, if there is one, and else a name

@@ -4,7 +4,9 @@ use Rattle.std.specs.Prelude.{ℕ, ℤ, List, [], ◌∷◌, ◌++◌, Option}
 use Rattle.pipe_model.specs.declared.region.Region.{Region}
 use Rattle.pipe_model.specs.declared.region.Region.TheVariants as regions
 use Rattle.pipe_model.specs.declared.tree.Declaration.{Declaration}
-use Rattle.pipe_model.specs.Language.SyntaxTree.{Expression, Number, Name, Element, And, Or, Binary, Unary, More, Take, Iter, Statement, Let, Assign, AssignElement, Emit, If, While, Stage, NextStage, Statements, Empty, Then, SyntaxTree}
+use Rattle.pipe_model.specs.Language.SyntaxTree.{Expression, Number, Name, Element, And, Or, Binary, Unary, More, Take, Iter, Statement}
+use Rattle.pipe_model.specs.Language.SyntaxTree.{Let, Assign, AssignElement, Emit, If, While, Stage, NextStage, Statements, Empty, Then}
+use Rattle.pipe_model.specs.Language.SyntaxTree.{SyntaxTree}
 
 -- what is known at a point of the text
 pub record Scope : Type 0 where
@@ -79,7 +81,8 @@ abbrev mutual
   marks_of_statement scope (Assign x e) = mark_at scope (Plain x) ∷ marks_of_expression scope e
   marks_of_statement scope (AssignElement x i e) = mark_at scope (Indexed x) ∷ (marks_of_expression scope i ++ marks_of_expression scope e)
   marks_of_statement scope (Emit e) = marks_of_expression scope e
-  marks_of_statement scope (If e a b) = marks_of_expression scope e ++ (marks_of_statements scope a ++ marks_of_statements (after_block scope a) b)
+  marks_of_statement scope (If e a b) = marks_of_expression scope e
+      ++ (marks_of_statements scope a ++ marks_of_statements (after_block scope a) b)
   marks_of_statement scope (While e a) = marks_of_expression scope e ++ marks_of_statements scope a
   marks_of_statement scope (Stage kind e) = mark_at scope StageWord ∷ marks_of_expression scope e
   marks_of_statement scope (NextStage kind) = mark_at scope StageWord ∷ []

@@ -50,12 +50,14 @@ store_of tree = record {
   output_limit = natural tree.limits.emits;
 }
 
--- the loop of a program alone, without `init` and `final` (`whole_of` has all three): each instance has its budget of steps, and the iteration
+-- the loop of a program alone, without `init` and `final` (`whole_of` has all three): each instance has its budget of steps, and the
+-- iteration
 -- after the last that is allowed closes the loop
 abbrev pub pipeline_of : SyntaxTree → List ℤ → Pipeline
 pipeline_of tree input = record {
   store = store_of tree;
   preamble = [];
-  behaviour = λ i. with_budget (natural tree.limits.steps) (natural tree.limits.steps) (run_iteration (setting_of tree input i) tree.test tree.body);
+  behaviour = λ i. with_budget (natural tree.limits.steps) (natural tree.limits.steps)
+      (run_iteration (setting_of tree input i) tree.test tree.body);
   last_iteration = natural tree.limits.iterations;
 }

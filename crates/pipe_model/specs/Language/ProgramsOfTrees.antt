@@ -16,7 +16,8 @@ execute_part setting statements = bind (execute_all setting statements first_env
 
 -- the behaviour of `init` or `final`. The iteration number 0 is never read: the checker rejects `iter()` there.
 abbrev pub part_of : SyntaxTree → List ℤ → Statements → Behaviour
-part_of tree input statements = with_budget (natural tree.limits.steps) (natural tree.limits.steps) (execute_part (setting_of tree input 0) statements)
+part_of tree input statements = with_budget (natural tree.limits.steps) (natural tree.limits.steps)
+    (execute_part (setting_of tree input 0) statements)
 
 abbrev pub whole_of : SyntaxTree → List ℤ → WholeProgram
 whole_of tree input = record {

@@ -43,6 +43,8 @@ pub data IsRefused (source : List ℕ) : Refusal → Type 0 where
   ForItsText : (fault : LexicalFault) → HasFault source fault → IsRefused source (Lexical fault)
   ForAToken : (tokens : List Token) (rule : grammar.GrammarRule) (place : ℕ) → IsLexed source tokens → BreaksAt source tokens rule place
       → IsRefused source (Syntactic rule place)
-  ForALimit : (tree : SyntaxTree) (which : ℕ) → SourceSpells source tree → fault_of tree ≡ Some (checking.LimitOut which) → IsRefused source (LimitOut which)
-  ForARule : (tree : SyntaxTree) (rule : checking.CheckingRule) (mark place : ℕ) (spelled : SourceSpells source tree) → fault_of tree ≡ Some (Broken rule mark)
+  ForALimit : (tree : SyntaxTree) (which : ℕ) → SourceSpells source tree → fault_of tree ≡ Some (checking.LimitOut which)
+      → IsRefused source (LimitOut which)
+  ForARule : (tree : SyntaxTree) (rule : checking.CheckingRule) (mark place : ℕ) (spelled : SourceSpells source tree)
+      → fault_of tree ≡ Some (Broken rule mark)
       → slice_get (mark_places spelled.tokens) mark ≡ Some (pos place) → IsRefused source (RuleBroken rule place)

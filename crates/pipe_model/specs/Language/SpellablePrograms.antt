@@ -1,11 +1,14 @@
 -- What holds of every program that a source spells, whether it obeys the rules or not: its operators are those of the language,
 -- no number of its declarations is negative where the grammar has no sign, and its size is bounded, since a source's length is.
-use Rattle.std.specs.Prelude.{◌≡◌, ◌≤◌, ◌≤ℤ◌, ℕ, ℤ, pos, Bool, true, ◌&&◌, List, [], ◌∷◌, ◌++◌, length, sum_by, All, Option, Some, None, ◌+◌, nat_le}
+use Rattle.std.specs.Prelude.{◌≡◌, ◌≤◌, ◌≤ℤ◌, ℕ, ℤ, pos, Bool, true, ◌&&◌, List, [], ◌∷◌, ◌++◌, length, sum_by, All, Option, Some, None}
+use Rattle.std.specs.Prelude.{◌+◌, nat_le}
 use Rattle.pipe_model.specs.declared.bounds.TheConstants.{LONGEST_EXPRESSION, LARGEST_PROGRAM}
 use Rattle.pipe_model.specs.declared.operator_codes.TheConstants as operator_codes
 use Rattle.pipe_model.specs.declared.tree.Declaration.{Declaration}
 use Rattle.pipe_model.specs.Language.Marks.{marks_of}
-use Rattle.pipe_model.specs.Language.SyntaxTree.{Expression, Number, Name, Element, And, Or, Binary, Unary, More, Take, Iter, Statement, Let, Assign, AssignElement, Emit, If, While, Stage, NextStage, Statements, Empty, Then, SyntaxTree}
+use Rattle.pipe_model.specs.Language.SyntaxTree.{Expression, Number, Name, Element, And, Or, Binary, Unary, More, Take, Iter, Statement}
+use Rattle.pipe_model.specs.Language.SyntaxTree.{Let, Assign, AssignElement, Emit, If, While, Stage, NextStage, Statements, Empty, Then}
+use Rattle.pipe_model.specs.Language.SyntaxTree.{SyntaxTree}
 
 abbrev pub node_count : Expression → ℕ
 node_count (Number n) = 1
@@ -69,7 +72,8 @@ abbrev mutual
 
 -- the expressions of a program that are no part of another expression
 abbrev pub expressions_of : SyntaxTree → List Expression
-expressions_of tree = expressions_of_statements tree.init ++ (tree.test ∷ (expressions_of_statements tree.body ++ expressions_of_statements tree.last))
+expressions_of tree = expressions_of_statements tree.init
+    ++ (tree.test ∷ (expressions_of_statements tree.body ++ expressions_of_statements tree.last))
 
 -- the number of marks, nodes of expressions and statements of a program, added up
 abbrev pub size_of : SyntaxTree → ℕ

@@ -78,11 +78,14 @@ pub data GrammarRule : Type 0 where
 
 -- the rule that is broken first, with the number of symbols before the one that breaks it; at one symbol the rules count in their order
 pub data FirstFault : List Symbol → GrammarRule → ℕ → Type 0 where
-  UnexpectedSymbol : (before : List Symbol) (t : Symbol) (after : List Symbol) → BreaksNoGrammarRule before → (IsProgramPrefix (before ++ t ∷ []) → ⊥)
+  UnexpectedSymbol : (before : List Symbol) (t : Symbol) (after : List Symbol) → BreaksNoGrammarRule before
+      → (IsProgramPrefix (before ++ t ∷ []) → ⊥)
       → FirstFault (before ++ t ∷ after) Unexpected (length before)
   UnexpectedEnd : (ts : List Symbol) → BreaksNoGrammarRule ts
-      → ((pieces : List Piece) (tree : SyntaxTree) → DerivesProgram pieces tree → ts ≡ flat pieces → ⊥) → FirstFault ts Unexpected (length ts)
+      → ((pieces : List Piece) (tree : SyntaxTree) → DerivesProgram pieces tree → ts ≡ flat pieces → ⊥)
+      → FirstFault ts Unexpected (length ts)
   FirstTooDeep : (before : List Symbol) (t : Symbol) (after : List Symbol) → BreaksNoGrammarRule before → IsProgramPrefix (before ++ t ∷ [])
       → MOST_OPEN_BRACKETS < open_brackets (before ++ t ∷ []) → FirstFault (before ++ t ∷ after) TooDeep (length before)
-  FirstTooLong : (before : List Symbol) (t : Symbol) (after : List Symbol) → BreaksNoGrammarRule before → open_brackets (before ++ t ∷ []) ≤ MOST_OPEN_BRACKETS
+  FirstTooLong : (before : List Symbol) (t : Symbol) (after : List Symbol) → BreaksNoGrammarRule before
+      → open_brackets (before ++ t ∷ []) ≤ MOST_OPEN_BRACKETS
       → EndsTooLong (before ++ t ∷ []) → FirstFault (before ++ t ∷ after) TooLong (length before)

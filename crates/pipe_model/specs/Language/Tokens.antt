@@ -1,6 +1,7 @@
 -- Tokens: which tokens a source has, each with its kind, offset and length, among blanks and comments; and which fault a
 -- source has if it has no tokens within the bounds.
-use Rattle.std.specs.Prelude.{◌≡◌, ℕ, ◌+◌, ◌-◌, ◌<◌, ◌≤◌, ◌^◌, pos, ◌≤ℤ◌, Bool, true, false, not, List, [], ◌∷◌, ◌++◌, length, take, drop, map, ◌==◌, ◌&&◌, Some, All}
+use Rattle.std.specs.Prelude.{◌≡◌, ℕ, ◌+◌, ◌-◌, ◌<◌, ◌≤◌, ◌^◌, pos, ◌≤ℤ◌, Bool, true, false, not, List, [], ◌∷◌, ◌++◌, length, take, drop}
+use Rattle.std.specs.Prelude.{map, ◌==◌, ◌&&◌, Some, All}
 use Rattle.pipe_model.specs.declared.bounds.TheConstants.{LONGEST_SOURCE, LONGEST_NAME}
 use Rattle.std.specs.List.{list_all}
 use Rattle.pipe_model.specs.Language.Lexis.{is_blank, symbol_of, IsLongest}
@@ -152,5 +153,6 @@ pub data HasFault (source : List ℕ) : LexicalFault → Type 0 where
   HasBadByte : (place : ℕ) → IsReached source place → BeginsNothing (drop place source) → HasFault source (BadByte place)
   HasWideNumber : (place : ℕ) (n : ℕ) → IsReached source place → BeginsWith (drop place source) (symbols.Number (pos n)) → 2 ^ 63 ≤ n
       → HasFault source (TooWide place)
-  HasLongName : (place : ℕ) (name : List ℕ) → IsReached source place → BeginsWith (drop place source) (symbols.Name name) → LONGEST_NAME < length name
+  HasLongName : (place : ℕ) (name : List ℕ) → IsReached source place → BeginsWith (drop place source) (symbols.Name name)
+      → LONGEST_NAME < length name
       → HasFault source (NameTooLong place)

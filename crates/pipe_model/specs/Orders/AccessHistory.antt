@@ -18,7 +18,8 @@ empty_history = record { writer = None; rightmost = None; downmost = None }
 
 -- y is x, or before x in both orders
 abbrev pub is_ordered : (NodeId → ℕ) → (NodeId → ℕ) → NodeId → NodeId → Bool
-is_ordered down right y x = ((y.iteration == x.iteration) && (y.index == x.index)) || (nat_lt (down y) (down x) && nat_lt (right y) (right x))
+is_ordered down right y x = ((y.iteration == x.iteration) && (y.index == x.index)) ||
+    (nat_lt (down y) (down x) && nat_lt (right y) (right x))
 
 -- the access of the kept instance, if there is one that is not before x; or else `rest`
 abbrev pub race_with : (NodeId → ℕ) → (NodeId → ℕ) → NodeId → AccessKind → Option NodeId → Option NotedAccess → Option NotedAccess
@@ -38,7 +39,8 @@ later order (Some y) x = if nat_lt (order y) (order x) then x else y
 
 -- what is kept after one more access
 abbrev pub updated_history : (NodeId → ℕ) → (NodeId → ℕ) → AccessHistory → NodeId → AccessKind → AccessHistory
-updated_history down right kept x Read = record kept { rightmost = Some (later down kept.rightmost x); downmost = Some (later right kept.downmost x) }
+updated_history down right kept x Read = record kept
+    { rightmost = Some (later down kept.rightmost x); downmost = Some (later right kept.downmost x) }
 updated_history down right kept x Write = record kept { writer = Some x }
 
 -- the first access that races: its number, and the kept access that it races with

@@ -1,7 +1,8 @@
 -- The left parent of an instance in the dag without redundant edges (Xu, Lee, Agrawal 2018): the source of its left edge,
 -- unless that already precedes the instance above it. It is defined by the last instance of the column to the left that
 -- precedes an instance.
-use Rattle.std.specs.Prelude.{ℕ, ℤ, zero, suc, List, [], ◌∷◌, Bool, true, false, ◌+◌, Option, Some, None, if◌then◌else◌, int_le, max, nat_lt}
+use Rattle.std.specs.Prelude.{ℕ, ℤ, zero, suc, List, [], ◌∷◌, Bool, true, false, ◌+◌, Option, Some, None, if◌then◌else◌, int_le, max}
+use Rattle.std.specs.Prelude.{nat_lt}
 use Rattle.pipe_model.specs.declared.node.Kind.{Kind}
 use Rattle.pipe_model.specs.declared.node.Kind.TheVariants.{Zero, Wait, Continue}
 use Rattle.pipe_model.specs.declared.node.Node.{Node}
@@ -42,4 +43,5 @@ joined_at columns i k = joined (nodes_at columns i) (nodes_at columns (i + 1)) k
 abbrev pub left_parent : List (List Node) → ℕ → ℕ → Option ℕ
 left_parent columns zero k = None
 left_parent columns (suc i) zero = Some 0
-left_parent columns (suc i) (suc k) = if nat_lt (joined_at columns i k) (joined_at columns i (suc k)) then Some (joined_at columns i (suc k)) else None
+left_parent columns (suc i) (suc k) = if nat_lt (joined_at columns i k) (joined_at columns i (suc k)) then Some
+    (joined_at columns i (suc k)) else None

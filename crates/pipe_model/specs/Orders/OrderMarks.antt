@@ -18,4 +18,5 @@ start_marks m down right = record {
 
 -- the marks of instance k of iteration i
 abbrev pub instance_marks : List (List Node) → List NodeId → ℕ → ℕ → Marks
-instance_marks columns starts i k = start_marks (start_number starts i k) (down_element starts (at i k)) (right_element columns starts (at i k))
+instance_marks columns starts i k = start_marks (start_number starts i k) (down_element starts (at i k))
+    (right_element columns starts (at i k))

@@ -41,4 +41,5 @@ IsStarted starts x = start_number starts x.iteration x.index < length starts
 pub record AreStarts (columns : List (List Node)) (starts : List NodeId) : Type 0 where
   pub once : (m : ℕ) → m < length starts → start_number starts (start_at starts m).iteration (start_at starts m).index ≡ m
   pub inside : (x : NodeId) → IsStarted starts x → (x.iteration < length columns) × (x.index < length (nodes_at columns x.iteration))
-  pub ordered : (x y : NodeId) → Edge columns x y → IsStarted starts y → start_number starts x.iteration x.index < start_number starts y.iteration y.index
+  pub ordered : (x y : NodeId) → Edge columns x y → IsStarted starts y → start_number starts x.iteration x.index < start_number starts
+      y.iteration y.index

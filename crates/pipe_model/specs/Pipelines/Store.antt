@@ -1,6 +1,7 @@
 -- Cells: the value of each cell after a list of accesses, by what was written to it.
 -- Cell 1 is the output: each write to it is one output, and its value is their number.
-use Rattle.std.specs.Prelude.{◌≡◌, ℕ, ℤ, List, [], ◌∷◌, ◌++◌, Bool, true, false, pos, length, slice_index_or, ◌==◌, if◌then◌else◌, min, take}
+use Rattle.std.specs.Prelude.{◌≡◌, ℕ, ℤ, List, [], ◌∷◌, ◌++◌, Bool, true, false, pos, length, slice_index_or, ◌==◌, if◌then◌else◌, min}
+use Rattle.std.specs.Prelude.{take}
 use Rattle.pipe_model.specs.declared.access.Access.{Access}
 use Rattle.pipe_model.specs.declared.access.AccessKind.{AccessKind}
 use Rattle.pipe_model.specs.declared.access.AccessKind.TheVariants.{Read, Write}

@@ -1,4 +1,5 @@
--- Whole programs: `init`, a loop, and `final`; and their serial elision. The output and the trap of a program are defined by the traces and the
+-- Whole programs: `init`, a loop, and `final`; and their serial elision. The output and the trap of a program are defined by the traces and
+-- the
 -- accesses of its loop, so one definition serves the elision and every run.
 use Rattle.std.specs.Prelude.{ℤ, List, [], ◌++◌, Option, Some, None, map, is_some}
 use Rattle.pipe_model.specs.declared.access.Access.{Access}
@@ -60,7 +61,8 @@ trap_before_final w traces = first_of_both (init_trap w) (first_trap 0 traces)
 
 -- the trace of `final`, which does not run after a trap
 abbrev pub final_trace : WholeProgram → List (List Action) → List Access → List Action
-final_trace w traces accesses = unless (is_some (trap_before_final w traces)) (serial_trace w.loop.store w.last (init_accesses w ++ accesses))
+final_trace w traces accesses = unless (is_some (trap_before_final w traces))
+    (serial_trace w.loop.store w.last (init_accesses w ++ accesses))
 
 -- the output of `init`, the loop and `final`
 abbrev pub output_with : WholeProgram → List (List Action) → List Access → List ℤ

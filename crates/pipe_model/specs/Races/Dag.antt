@@ -15,7 +15,8 @@ pub record IsLastUpTo (left : List Node) (j : ℕ) (number : ℤ) : Type 0 where
 -- an edge from instance j of a column to instance k of the next: between the heads, or to an instance that waits
 pub data CrossEdge (left right : List Node) : ℕ → ℕ → Type 0 where
   HeadCross : 0 < length left → 0 < length right → CrossEdge left right 0 0
-  WaitCross : (j k : ℕ) → k < length right → (node_at right k).kind ≡ Wait → IsLastUpTo left j (node_at right k).number → CrossEdge left right j k
+  WaitCross : (j k : ℕ) → k < length right → (node_at right k).kind ≡ Wait → IsLastUpTo left j (node_at right k).number
+      → CrossEdge left right j k
 
 -- the edges of the dag
 pub data Edge (columns : List (List Node)) : NodeId → NodeId → Type 0 where

@@ -1,12 +1,14 @@
 -- Which event an iteration may do next, as a function of the state (`Allowed` is the relation).
-use Rattle.std.specs.Prelude.{ℕ, ℤ, zero, suc, List, ◌++◌, Bool, true, false, not, ◌&&◌, ◌||◌, ◌-◌, length, nat_lt, int_lt, Option, Some, None}
+use Rattle.std.specs.Prelude.{ℕ, ℤ, zero, suc, List, ◌++◌, Bool, true, false, not, ◌&&◌, ◌||◌, ◌-◌, length, nat_lt, int_lt, Option, Some}
+use Rattle.std.specs.Prelude.{None}
 use Rattle.pipe_model.specs.declared.access.Access.{Access as Cell_access}
 use Rattle.pipe_model.specs.declared.event.Event.{Event}
 use Rattle.pipe_model.specs.declared.event.Event.TheVariants.{Begin, Advance, Enter, Finish, Access}
 use Rattle.pipe_model.specs.declared.node.Kind.{Kind}
 use Rattle.pipe_model.specs.declared.node.Kind.TheVariants.{Zero, Wait, Continue}
 use Rattle.pipe_model.specs.declared.node.Node.{Node}
-use Rattle.pipe_model.specs.Pipelines.Behaviour.{Behaviour, Reading, Writing, Staging, Ending, Action, behaviour_after_all, read_access, write_access, closes_at_once}
+use Rattle.pipe_model.specs.Pipelines.Behaviour.{Behaviour, Reading, Writing, Staging, Ending, Action, behaviour_after_all, read_access}
+use Rattle.pipe_model.specs.Pipelines.Behaviour.{write_access, closes_at_once}
 use Rattle.pipe_model.specs.Races.Columns.{node_at}
 use Rattle.pipe_model.specs.Pipelines.Pipeline.{Pipeline}
 use Rattle.pipe_model.specs.Runs.State.{Frame, State, frame_at, alive, accesses_of}
@@ -57,10 +59,12 @@ abbrev pub event_if : Bool → Event → Option Event
 event_if true e = Some e
 event_if false e = None
 
--- the next event of an iteration with this status and trace: an action, or the start of the stage that it has named; none if it must wait or has
+-- the next event of an iteration with this status and trace: an action, or the start of the stage that it has named; none if it must wait
+-- or has
 -- ended
 abbrev pub event_of_status : Pipeline → State → ℕ → Status → List Action → Option Event
-event_of_status p s i Running trace = Some (event_of_behaviour p (p.preamble ++ accesses_of s.accesses) i (behaviour_after_all (p.behaviour i) trace))
+event_of_status p s i Running trace = Some (event_of_behaviour p (p.preamble ++ accesses_of s.accesses) i
+    (behaviour_after_all (p.behaviour i) trace))
 event_of_status p s i (Pending k n) trace = event_if (may_enter s.frames i k n) (Enter i)
 event_of_status p s i (Completed e) trace = None
 
@@ -74,4 +78,5 @@ next_event p s i = event_of_frame p s i (frame_at s.frames i)
 
 -- the beginning of the next iteration, if it may begin
 abbrev pub next_begin : ℕ → State → Option Event
-next_begin limit s = event_if (nat_lt (alive s) limit && frame_continues_loop (frame_at s.frames (length s.frames - 1))) (Begin (length s.frames))
+next_begin limit s = event_if (nat_lt (alive s) limit && frame_continues_loop (frame_at s.frames (length s.frames - 1)))
+    (Begin (length s.frames))

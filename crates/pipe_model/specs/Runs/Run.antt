@@ -8,7 +8,8 @@ use Rattle.pipe_model.specs.Runs.Allowed.{IsClosed, Allowed}
 -- the events are a run, which leads to the state
 pub data Run (p : Pipeline) (limit : ℕ) : List Event → State → Type 0 where
   EmptyRun : Run p limit [] initial_state
-  RunThen : {events : List Event} {s : State} → Run p limit events s → (e : Event) → Allowed p limit s e → Run p limit (events ++ e ∷ []) (next_state s e)
+  RunThen : {events : List Event} {s : State} → Run p limit events s → (e : Event) → Allowed p limit s e
+      → Run p limit (events ++ e ∷ []) (next_state s e)
 
 -- all iterations have ended, the loop is closed, and the run was not stopped
 pub record IsFinished (s : State) : Type 0 where

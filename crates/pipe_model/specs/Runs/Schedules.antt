@@ -1,5 +1,6 @@
 -- Schedules: the candidates from which `workers` workers choose the next event, and the events that given choices make.
-use Rattle.std.specs.Prelude.{ℕ, zero, suc, List, [], ◌∷◌, ◌++◌, Bool, true, false, not, ◌||◌, if◌then◌else◌, ◌+◌, length, nat_lt, slice_index_or, ◌%◌, Option, Some, None}
+use Rattle.std.specs.Prelude.{ℕ, zero, suc, List, [], ◌∷◌, ◌++◌, Bool, true, false, not, ◌||◌, if◌then◌else◌, ◌+◌, length, nat_lt}
+use Rattle.std.specs.Prelude.{slice_index_or, ◌%◌, Option, Some, None}
 use Rattle.pipe_model.specs.declared.event.Event.{Event}
 use Rattle.pipe_model.specs.declared.event.Event.TheVariants.{Begin, Advance, Enter, Finish, Stop, Access}
 use Rattle.pipe_model.specs.Runs.NextEvents.{event_of_status, next_begin}
@@ -43,11 +44,13 @@ abbrev pub candidates_from : Pipeline → State → Bool → ℕ → List Frame 
 candidates_from p s room i [] = []
 candidates_from p s room i (f ∷ fs) = if_room room (event_of_status p s i f.status f.trace) ++ candidates_from p s room (i + 1) fs
 
--- the candidates under the throttling limit `limit`: the next event of each iteration by rising number, then the beginning of the next iteration;
+-- the candidates under the throttling limit `limit`: the next event of each iteration by rising number, then the beginning of the next
+-- iteration;
 -- an instance may start only while fewer than `workers` run
 abbrev pub candidates : Pipeline → ℕ → ℕ → State → List Event
 candidates p limit workers s =
-    candidates_from p s (nat_lt (running_instances s) workers) 0 s.frames ++ if_room (nat_lt (running_instances s) workers) (next_begin limit s)
+    candidates_from p s (nat_lt (running_instances s) workers) 0 s.frames ++ if_room (nat_lt (running_instances s) workers)
+    (next_begin limit s)
 
 -- each event is a candidate in the state before it
 pub data PlayedRun (p : Pipeline) (limit workers : ℕ) : List Event → State → Type 0 where
@@ -75,7 +78,8 @@ after_choice (Some e) go = e ∷ go e
 abbrev pub played_from : Pipeline → ℕ → ℕ → List ℕ → ℕ → ℕ → State → List Event
 played_from p limit workers choices zero j s = []
 played_from p limit workers choices (suc turns) j s =
-    after_choice (chosen (choice_at choices j) (candidates p limit workers s)) (λ e. played_from p limit workers choices turns (j + 1) (next_state s e))
+    after_choice (chosen (choice_at choices j) (candidates p limit workers s))
+    (λ e. played_from p limit workers choices turns (j + 1) (next_state s e))
 
 -- at most `turns` events of the schedule with these choices; fewer if there is no candidate
 abbrev pub played : Pipeline → ℕ → ℕ → List ℕ → ℕ → List Event

@@ -138,14 +138,17 @@ laid_traces made k (e ∷ ends) = made k ++ e ∷ laid_traces made (k + 1) ends
 -- tickets rise within each instance, from its start over its accesses to its end, and from an end to the next start
 pub record InTicketOrder (book : List BookEntry) (made : ℕ → ℕ → List TimedAction) : Type 0 where
   pub rise : (i k : ℕ) → TicketsRise (made i k)
-  pub after_start : (i k : ℕ) (x : TimedAction) → Among x (made i k) → (s : ℕ) × (ticket_at (start_tickets i book) k ≡ Some s) × (s < x.ticket)
+  pub after_start : (i k : ℕ) (x : TimedAction) → Among x (made i k) → (s : ℕ) × (ticket_at (start_tickets i book) k ≡ Some s)
+      × (s < x.ticket)
   pub before_end : (i k : ℕ) (x : TimedAction) (t : ℕ) → Among x (made i k) → ticket_at (end_tickets i book) k ≡ Some t → x.ticket < t
-  pub start_end : (i k t : ℕ) → ticket_at (end_tickets i book) k ≡ Some t → (s : ℕ) × (ticket_at (start_tickets i book) k ≡ Some s) × (s < t)
+  pub start_end : (i k t : ℕ) → ticket_at (end_tickets i book) k ≡ Some t → (s : ℕ) × (ticket_at (start_tickets i book) k ≡ Some s)
+      × (s < t)
   pub down : (i k t s : ℕ) → ticket_at (end_tickets i book) k ≡ Some t → ticket_at (start_tickets i book) (k + 1) ≡ Some s → t < s
 
 -- the properties of the logs of a closed run; `made i k` are the accesses of instance k of iteration i with their tickets,
 -- and the accesses to a cell are in the shard of its number modulo `width`
-pub record ClosedLogs (p : Pipeline) (limit width : ℕ) (book : List BookEntry) (shards : ℕ → List ShardEntry) (made : ℕ → ℕ → List TimedAction)
+pub record ClosedLogs (p : Pipeline) (limit width : ℕ) (book : List BookEntry) (shards : ℕ → List ShardEntry)
+    (made : ℕ → ℕ → List TimedAction)
     (c : State) : Type 0 where
   pub control : ControlRun limit (map (λ b. b.event) book) c
   pub order : InTicketOrder book made

@@ -28,14 +28,17 @@ pub record TicketsRiseInLogs (book : List BookEntry) (shards : ℕ → List Shar
   pub in_book : AllPairs (λ (a : BookEntry) (b : BookEntry). a.ticket < b.ticket) book
   pub in_shards : (k : ℕ) → AllPairs (λ (a : ShardEntry) (b : ShardEntry). a.ticket < b.ticket) (shards k)
   pub in_instance : (i k : ℕ) → TicketsRise (made i k)
-  pub from_start : (i k : ℕ) (x : TimedAction) → Among x (made i k) → (start : ℕ) × (start_ticket_of book i k ≡ Some start) × (start < x.ticket)
+  pub from_start : (i k : ℕ) (x : TimedAction) → Among x (made i k) → (start : ℕ) × (start_ticket_of book i k ≡ Some start)
+      × (start < x.ticket)
   pub to_end : (i k : ℕ) (x : TimedAction) (end : ℕ) → Among x (made i k) → end_ticket_of book i k ≡ Some end → x.ticket < end
 
 -- each instance ends after its start, and starts after its parents have ended: the instance above it, and its left parent
 pub record InstancesAreOrdered (columns : List (List Node)) (book : List BookEntry) : Type 0 where
-  pub from_start_to_end : (i k end : ℕ) → end_ticket_of book i k ≡ Some end → (start : ℕ) × (start_ticket_of book i k ≡ Some start) × (start < end)
+  pub from_start_to_end : (i k end : ℕ) → end_ticket_of book i k ≡ Some end → (start : ℕ) × (start_ticket_of book i k ≡ Some start)
+      × (start < end)
   pub up : (i k start : ℕ) → start_ticket_of book i (k + 1) ≡ Some start → StartsAfterEnd book i k i (k + 1)
-  pub left : (i j k start : ℕ) → left_parent columns (suc i) k ≡ Some j → start_ticket_of book (suc i) k ≡ Some start → StartsAfterEnd book i j (suc i) k
+  pub left : (i j k start : ℕ) → left_parent columns (suc i) k ≡ Some j → start_ticket_of book (suc i) k ≡ Some start
+      → StartsAfterEnd book i j (suc i) k
 
 -- all of a run's tickets are in order. Logs need only keep the first half: the second follows from the events of the book.
 pub record TicketsAreInOrder (columns : List (List Node)) (book : List BookEntry) (shards : ℕ → List ShardEntry)

@@ -11,12 +11,14 @@ use Rattle.pipe_model.specs.Runs.RunLogs.{ended_columns_after, state_after}
 use Rattle.pipe_model.specs.Pipelines.SerialElision.{unless}
 use Rattle.pipe_model.specs.Runs.State.{State, initial_state, accesses_of}
 use Rattle.pipe_model.specs.Pipelines.Store.{output_of}
-use Rattle.pipe_model.specs.Pipelines.WholePrograms.{WholeProgram, final_trace, init_accesses, init_trap, loop_after_init, output_with, part_trap, trap_before_final, trap_with}
+use Rattle.pipe_model.specs.Pipelines.WholePrograms.{WholeProgram, final_trace, init_accesses, init_trap, loop_after_init, output_with}
+use Rattle.pipe_model.specs.Pipelines.WholePrograms.{part_trap, trap_before_final, trap_with}
 
 -- the events are a run of the program's loop after `init`; if `init` trapped, the empty list is the only run
 pub data ProgramRun (w : WholeProgram) (limit : ℕ) : List Event → State → Type 0 where
   NoLoop : is_some (init_trap w) ≡ true → ProgramRun w limit [] initial_state
-  OfLoop : {events : List Event} {s : State} → is_some (init_trap w) ≡ false → Run (loop_after_init w) limit events s → ProgramRun w limit events s
+  OfLoop : {events : List Event} {s : State} → is_some (init_trap w) ≡ false → Run (loop_after_init w) limit events s
+      → ProgramRun w limit events s
 
 -- `init` trapped, or the loop is closed and all iterations have ended
 pub data ProgramIsFinished (w : WholeProgram) (s : State) : Type 0 where

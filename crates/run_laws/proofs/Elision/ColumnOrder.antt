@@ -10,7 +10,8 @@ use Rattle.pipe_model.specs.Pipelines.Pipeline.{Pipeline}
 use Rattle.pipe_model.specs.Races.DeterminacyRaces.{IsRaceFree, Among, Conflict, Here}
 use Rattle.pipe_model.specs.Runs.Run.{Run, EmptyRun, RunThen}
 use Rattle.pipe_model.specs.declared.status.Status.TheVariants.{Running}
-use Rattle.pipe_model.specs.Runs.State.{State, accesses_of, Frame, next_state, fresh_frame, update_frame, with_action, own_columns, frame_at}
+use Rattle.pipe_model.specs.Runs.State.{State, accesses_of, Frame, next_state, fresh_frame, update_frame, with_action, own_columns}
+use Rattle.pipe_model.specs.Runs.State.{frame_at}
 use Rattle.pipe_model.specs.Pipelines.Store.{written, HasReply, value_from, wrote}
 use Rattle.run_laws.proofs.Iterations.Replies.{AllHaveReplies}
 use Rattle.pipe_model.specs.declared.access.Access.{Access as Cell_access}
@@ -20,7 +21,8 @@ use Rattle.pipe_model.specs.declared.event.Event.TheVariants.{Begin, Access, Adv
 use Rattle.run_laws.proofs.Iterations.CellWrites.{written_none, no_conflict_writes_none, written-append, replies_insert, written-push}
 use Rattle.run_laws.proofs.Iterations.CellWrites.{written_either_order}
 use Rattle.run_laws.proofs.Iterations.TraceParts.{accesses_in-append}
-use Rattle.run_laws.proofs.RunStates.FrameAccesses.{accesses_by_column, accesses_by_column-update_frame, in_frame, accesses_by_column-parted}
+use Rattle.run_laws.proofs.RunStates.FrameAccesses.{accesses_by_column, accesses_by_column-update_frame, in_frame}
+use Rattle.run_laws.proofs.RunStates.FrameAccesses.{accesses_by_column-parted}
 use Rattle.run_laws.proofs.RunStates.Frames.{IsParted, parted}
 use Rattle.pipe_model.proofs.Members.{among_right, among_left}
 use Rattle.run_laws.proofs.RunStates.QuietEvents.{IsQuiet, advance_is_quiet, enter_is_quiet, finish_is_quiet}

@@ -4,8 +4,10 @@ use Rattle.std.proofs.Common.{length, false, ◌<◌, append-nil, zero, suc, tru
 use Rattle.std.proofs.lemmas.Bool.{cases_Bool, cases_eq, false≢true}
 use Rattle.std.proofs.lemmas.List.{length-append}
 use Rattle.pipe_model.specs.Runs.Allowed.{IsRunning, ContinuesLoop, MayBegin, Allowed}
-use Rattle.pipe_model.specs.Pipelines.Behaviour.{Behaviour, Action, Offers, Reading, Accessed, read_access, Writing, write_access, Staging, Ending}
-use Rattle.pipe_model.specs.Pipelines.Behaviour.{accesses_in, behaviour_after_all, HasNoEnd, closes_loop, node_of, closes_at_once, Staged, Ended}
+use Rattle.pipe_model.specs.Pipelines.Behaviour.{Behaviour, Action, Offers, Reading, Accessed, read_access, Writing, write_access, Staging}
+use Rattle.pipe_model.specs.Pipelines.Behaviour.{Ending}
+use Rattle.pipe_model.specs.Pipelines.Behaviour.{accesses_in, behaviour_after_all, HasNoEnd, closes_loop, node_of, closes_at_once, Staged}
+use Rattle.pipe_model.specs.Pipelines.Behaviour.{Ended}
 use Rattle.pipe_model.specs.Pipelines.Pipeline.{Pipeline, IsWellFormed, AlwaysClosesLoop}
 use Rattle.pipe_model.specs.Races.DeterminacyRaces.{IsRaceFree}
 use Rattle.pipe_model.specs.Runs.Run.{Run, EmptyRun, RunThen}

@@ -3,7 +3,8 @@ use Rattle.std.proofs.Common.{ℕ, List, ◌≡◌, ◌++◌, length, ◌-◌, s
 use Rattle.std.proofs.Common.{refl, false, append-nil}
 use Rattle.std.proofs.lemmas.Bool.{false≢true}
 use Rattle.std.proofs.lemmas.List.{length_push, map-append}
-use Rattle.pipe_model.specs.Pipelines.Behaviour.{Action, nodes_in, Accessed, Staged, node_of, Behaviour, behaviour_after_all, Reading, read_access}
+use Rattle.pipe_model.specs.Pipelines.Behaviour.{Action, nodes_in, Accessed, Staged, node_of, Behaviour, behaviour_after_all, Reading}
+use Rattle.pipe_model.specs.Pipelines.Behaviour.{read_access}
 use Rattle.pipe_model.specs.Pipelines.Behaviour.{Offers, behaviour_after, Writing, write_access, Staging, Ending, Ended}
 use Rattle.pipe_model.specs.Races.Columns.{at}
 use Rattle.pipe_model.specs.Pipelines.Pipeline.{Pipeline, HasLegalStages}

@@ -9,7 +9,8 @@ use Rattle.pipe_model.specs.Pipelines.ElisionResults.{ended_column}
 use Rattle.pipe_model.specs.Pipelines.Pipeline.{Pipeline, IsWellFormed, AlwaysClosesLoop}
 use Rattle.pipe_model.specs.Runs.Run.{Run, EmptyRun}
 use Rattle.pipe_model.specs.Runs.RunLogs.{column_of_frame}
-use Rattle.pipe_model.specs.Pipelines.SerialElision.{trace_events_from, located_from, trace_events, located, unless, serial_traces_from, serial_trace}
+use Rattle.pipe_model.specs.Pipelines.SerialElision.{trace_events_from, located_from, trace_events, located, unless, serial_traces_from}
+use Rattle.pipe_model.specs.Pipelines.SerialElision.{serial_trace}
 use Rattle.pipe_model.specs.Pipelines.SerialElision.{serial_traces, serial_accesses}
 use Rattle.pipe_model.specs.Runs.State.{Frame, frame_at, fresh_frame, accesses_of, end_of_status}
 use Rattle.pipe_model.specs.declared.access.Access.{Access as Cell_access}

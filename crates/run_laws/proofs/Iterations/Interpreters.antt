@@ -1,7 +1,8 @@
 -- The result of an interpreter of an interaction tree is the serial trace of the tree's behaviour.
 use Rattle.std.proofs.Common.{ℕ, ◌≡◌, zero, refl, suc, List, sym, ◌∙◌, [], ◌∷◌, ◌++◌, ap, append_assoc, append-nil}
 use Rattle.pipe_model.specs.Pipelines.Behaviour.{Accessed, read_access, write_access, Staged, Action, accesses_in}
-use Rattle.pipe_model.specs.Language.Interaction.{Interpreted, Progress, interpreted_bind, spend_step, Interaction, interpret, bind, Return, Raise, Step}
+use Rattle.pipe_model.specs.Language.Interaction.{Interpreted, Progress, interpreted_bind, spend_step, Interaction, interpret, bind, Return}
+use Rattle.pipe_model.specs.Language.Interaction.{Raise, Step}
 use Rattle.pipe_model.specs.Language.Interaction.{Raised, Get, value_seen, progress_with, Set, Stage, interpreted_actions, with_budget}
 use Rattle.pipe_model.specs.Pipelines.Pipeline.{Pipeline}
 use Rattle.pipe_model.specs.Pipelines.SerialElision.{serial_trace}

@@ -1,6 +1,7 @@
 -- What a behaviour performs, by replies and action by action.
 use Rattle.std.proofs.Common.{List, ◌≡◌, ◌++◌, refl, [], ◌∷◌, sym, subst, ap, ℤ}
-use Rattle.pipe_model.specs.Pipelines.Behaviour.{Behaviour, Action, Performs, HasNoEnd, actions_with, Reading, Accessed, read_access, behaviour_after}
+use Rattle.pipe_model.specs.Pipelines.Behaviour.{Behaviour, Action, Performs, HasNoEnd, actions_with, Reading, Accessed, read_access}
+use Rattle.pipe_model.specs.Pipelines.Behaviour.{behaviour_after}
 use Rattle.pipe_model.specs.Pipelines.Behaviour.{Writing, write_access, Staging, Staged, Ending, Offers, behaviour_after_all}
 use Rattle.pipe_model.specs.Language.Interaction.{replies_in}
 use Rattle.run_laws.specs.BehaviourLaws.{BehavioursPerform}

@@ -1,7 +1,8 @@
 -- The serial trace of one iteration.
 use Rattle.std.proofs.Common.{List, [], ◌∷◌, ◌++◌, refl, ◌≡◌, sym, ap, append-nil, ◌∙◌, subst, append_assoc, Bool, false, ℕ, ℤ, true}
 use Rattle.pipe_model.specs.Pipelines.Behaviour.{Behaviour, Reading, read_access, Writing, write_access, Staging, Ending, Action, HasNoEnd}
-use Rattle.pipe_model.specs.Pipelines.Behaviour.{behaviour_after_all, accesses_in, Accessed, Staged, Ended, nodes_in, node_of, Performs, closes_loop}
+use Rattle.pipe_model.specs.Pipelines.Behaviour.{behaviour_after_all, accesses_in, Accessed, Staged, Ended, nodes_in, node_of, Performs}
+use Rattle.pipe_model.specs.Pipelines.Behaviour.{closes_loop}
 use Rattle.pipe_model.specs.Pipelines.Behaviour.{closes_at_once}
 use Rattle.pipe_model.specs.Races.Columns.{IsRising}
 use Rattle.pipe_model.specs.Pipelines.Pipeline.{Pipeline, HasLegalStages, AlwaysClosesLoop}

@@ -1,6 +1,8 @@
 -- The accesses, the instances and the end of a trace.
-use Rattle.std.proofs.Common.{List, ◌≡◌, ◌++◌, refl, [], ap, ◌∷◌, ℤ, length, false, ◌<◌, ◌⊎◌, inr, arith, inl, Option, Some, None, ℕ, zero, suc}
-use Rattle.pipe_model.specs.Pipelines.Behaviour.{Action, accesses_in, Accessed, Staged, Ended, nodes_in, node_of, HasNoEnd, closes_loop, closes_at_once}
+use Rattle.std.proofs.Common.{List, ◌≡◌, ◌++◌, refl, [], ap, ◌∷◌, ℤ, length, false, ◌<◌, ◌⊎◌, inr, arith, inl, Option, Some, None, ℕ, zero}
+use Rattle.std.proofs.Common.{suc}
+use Rattle.pipe_model.specs.Pipelines.Behaviour.{Action, accesses_in, Accessed, Staged, Ended, nodes_in, node_of, HasNoEnd, closes_loop}
+use Rattle.pipe_model.specs.Pipelines.Behaviour.{closes_at_once}
 use Rattle.pipe_model.specs.Pipelines.Behaviour.{column_of, trace_end}
 use Rattle.pipe_model.specs.declared.access.Access.{Access as Cell_access}
 use Rattle.pipe_model.specs.declared.column.ColumnEnd.{ColumnEnd}

@@ -6,7 +6,8 @@ use Rattle.std.proofs.lemmas.List.{length_push}
 use Rattle.pipe_model.specs.Races.Columns.{AreColumns, nodes_at, at}
 use Rattle.pipe_model.specs.Orders.LeftParent.{left_parent}
 use Rattle.pipe_model.specs.Orders.Starts.{AreStarts, start_number, start_at}
-use Rattle.pipe_model.specs.Orders.TwoOrders.{log_entries, first_placeholder, down_first_taken, second_placeholder, up_taken, right_taken_from}
+use Rattle.pipe_model.specs.Orders.TwoOrders.{log_entries, first_placeholder, down_first_taken, second_placeholder, up_taken}
+use Rattle.pipe_model.specs.Orders.TwoOrders.{right_taken_from}
 use Rattle.pipe_model.specs.Orders.TwoOrders.{right_first_taken, down_first_log, right_first_log}
 use Rattle.pipe_model.specs.declared.node.Node.{Node}
 use Rattle.pipe_model.specs.declared.node.NodeId.{NodeId}

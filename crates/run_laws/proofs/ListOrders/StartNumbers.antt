@@ -10,7 +10,8 @@ use Rattle.pipe_model.specs.Orders.TwoOrders.{right_first_taken, down_first_take
 use Rattle.pipe_model.specs.declared.node.Node.{Node}
 use Rattle.pipe_model.specs.declared.node.NodeId.{NodeId}
 use Rattle.run_laws.proofs.ListOrders.JoinedPlaces.{reach_left, reach_here}
-use Rattle.run_laws.proofs.ListOrders.LeftParents.{IsLeftAt, TakesRight, RightRoot, RightOf, RightBelow, TakesDown, DownRoot, DownHead, DownBelow}
+use Rattle.run_laws.proofs.ListOrders.LeftParents.{IsLeftAt, TakesRight, RightRoot, RightOf, RightBelow, TakesDown, DownRoot, DownHead}
+use Rattle.run_laws.proofs.ListOrders.LeftParents.{DownBelow}
 use Rattle.run_laws.proofs.ListOrders.LeftParents.{takes_right, takes_down}
 use Rattle.run_laws.proofs.ListOrders.PrecedingPlaces.{IsBelow, path_below}
 use Rattle.run_laws.proofs.ListOrders.StartPlaces.{IsCounted}

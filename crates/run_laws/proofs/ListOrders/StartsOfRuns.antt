@@ -23,7 +23,8 @@ use Rattle.run_laws.proofs.ListOrders.GrownStarts.{AddsNode, all_grown, ordered_
 use Rattle.run_laws.proofs.ListOrders.OneMoreStart.{GrowsBy}
 use Rattle.run_laws.proofs.RunStates.FrameMoves.{IsSound, sound_begun, frame_at_begun, entered_frame, enter_pending_is, IsMove}
 use Rattle.run_laws.proofs.RunStates.FrameMoves.{moves_entered, sound_moved, frame_at_moved, moves_running, moves_pending, moves_completed}
-use Rattle.run_laws.proofs.RunStates.Frames.{frame_at_exists, nodes_at_frame, nodes_at_past, frame_at_last, length-update_frame, frame_at_within}
+use Rattle.run_laws.proofs.RunStates.Frames.{frame_at_exists, nodes_at_frame, nodes_at_past, frame_at_last, length-update_frame}
+use Rattle.run_laws.proofs.RunStates.Frames.{frame_at_within}
 use Rattle.run_laws.proofs.RunStates.FrontAndBack.{run_state_is}
 use Rattle.run_laws.proofs.RunStates.GrowingColumns.{nodes_at_begun, extends_begun, nodes_at_moved, nodes_at_other, extends_moved}
 use Rattle.run_laws.proofs.RunStates.LaterEdges.{columns_of_frames, ExtendsColumns}

@@ -15,7 +15,8 @@ use Rattle.run_laws.proofs.Iterations.PerformedActions.{performs_offers}
 use Rattle.run_laws.proofs.LogMerge.Assembled.{IsAssembled, AssembledIsRun}
 use Rattle.run_laws.proofs.LogMerge.ControlPart.{SameControl, control_same, after_same, access_same, outlines, same_frame}
 use Rattle.run_laws.proofs.LogMerge.ControlStates.{IsAllowedAt, allowed_at, control_state_is}
-use Rattle.run_laws.proofs.LogMerge.EventActions.{trace_is_actions, actions_at-append, if_same-true, control_events-append, accesses_are_among}
+use Rattle.run_laws.proofs.LogMerge.EventActions.{trace_is_actions, actions_at-append, if_same-true, control_events-append}
+use Rattle.run_laws.proofs.LogMerge.EventActions.{accesses_are_among}
 
 -- a prefix of the events that is a run
 record HasFront (p : Pipeline) (limit : ℕ) (front : List Event) : Type 0 where

@@ -1,5 +1,6 @@
 -- The control part depends on the instances and the status of each iteration, and not on its trace.
-use Rattle.std.proofs.Common.{[], List, map, ℕ, Some, ◌≡◌, ◌∷◌, zero, refl, ap, ◌∙◌, suc, length, sym, ◌+◌, ℤ, subst, arith, ◌-◌, ◌<ℤ◌, false, ◌++◌}
+use Rattle.std.proofs.Common.{[], List, map, ℕ, Some, ◌≡◌, ◌∷◌, zero, refl, ap, ◌∙◌, suc, length, sym, ◌+◌, ℤ, subst, arith, ◌-◌, ◌<ℤ◌}
+use Rattle.std.proofs.Common.{false, ◌++◌}
 use Rattle.std.proofs.lemmas.List.{length-map, map-append}
 use Rattle.pipe_model.specs.Runs.Allowed.{IsRunning, LeftHasPassed, HasPassed, ControlAllows, ContinuesLoop}
 use Rattle.pipe_model.specs.Pipelines.Behaviour.{Staged, Ended, Accessed}

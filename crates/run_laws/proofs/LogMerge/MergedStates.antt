@@ -18,7 +18,8 @@ use Rattle.pipe_model.specs.declared.access.Access.{Access as Cell_access}
 use Rattle.pipe_model.specs.declared.event.Event.{Event}
 use Rattle.pipe_model.specs.declared.event.Event.TheVariants.{Stop, Begin, Access, Advance, Enter, Finish}
 use Rattle.run_laws.proofs.LogMerge.FittingLogs.{FitTogether}
-use Rattle.run_laws.proofs.LogMerge.InstanceCounts.{started_in, ended_in, ended_by_status, control_counts, start_tickets_counted, end_tickets_counted}
+use Rattle.run_laws.proofs.LogMerge.InstanceCounts.{started_in, ended_in, ended_by_status, control_counts, start_tickets_counted}
+use Rattle.run_laws.proofs.LogMerge.InstanceCounts.{end_tickets_counted}
 use Rattle.run_laws.proofs.LogMerge.InstanceTickets.{HasTicket, start_tickets-append, end_tickets-append, ticket_right, start_has}
 use Rattle.run_laws.proofs.LogMerge.InstanceTickets.{ticket_left, end_has}
 use Rattle.run_laws.proofs.LogMerge.MergeSplits.{IsSplit, book_in-append, control_has_no_access, among_events, control_events_of_merge}

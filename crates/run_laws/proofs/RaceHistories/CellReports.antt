@@ -141,7 +141,8 @@ reports_below_cell columns starts accesses (suc c) r m =
     of_cell : (v : Option FoundRace) → Among r (report_found columns c (accesses_to c accesses) v) → r.cell.0 < suc c
     of_cell None m = absurd (none_among r m)
     of_cell (Some race) m =
-        let e = ap (λ (x : Report). x.cell.0) (only_one r (report_of columns c race.earlier (access_at (accesses_to c accesses) race.number)) m) in
+        let e = ap (λ (x : Report). x.cell.0) (only_one r (report_of columns c race.earlier
+        (access_at (accesses_to c accesses) race.number)) m) in
         omega (arith, e)
 
 -- one more cell, above all others
@@ -149,7 +150,8 @@ rise_with : (columns : List (List Node)) (c : ℕ) (noted : List NotedAccess) (v
     → RiseByCell reports → ((r : Report) → Among r reports → r.cell.0 < c) → RiseByCell (reports ++ report_found columns c noted v)
 rise_with columns c noted None reports rise below = rw append-nil rise
 rise_with columns c noted (Some race) reports rise below =
-    all_pairs_push (λ (a : Report) (b : Report). a.cell.0 < b.cell.0) reports (report_of columns c race.earlier (access_at noted race.number)) rise
+    all_pairs_push (λ (a : Report) (b : Report). a.cell.0 < b.cell.0) reports
+    (report_of columns c race.earlier (access_at noted race.number)) rise
     (λ k d w. below (get_or reports k d) (among_at reports k d w))
 
 -- the reports of all cells rise by cell

@@ -4,7 +4,8 @@ use Rattle.std.proofs.Common.{false, inl, inr}
 use Rattle.std.proofs.lemmas.Bool.{false≢true, cases_lt}
 use Rattle.std.proofs.lemmas.List.{length_push}
 use Rattle.pipe_model.specs.Runs.Allowed.{Allowed}
-use Rattle.pipe_model.specs.Pipelines.Behaviour.{Behaviour, behaviour_after_all, Offers, Accessed, behaviour_after, Reading, Writing, Staging, Ending}
+use Rattle.pipe_model.specs.Pipelines.Behaviour.{Behaviour, behaviour_after_all, Offers, Accessed, behaviour_after, Reading, Writing}
+use Rattle.pipe_model.specs.Pipelines.Behaviour.{Staging, Ending}
 use Rattle.pipe_model.specs.Pipelines.Behaviour.{Staged, Ended}
 use Rattle.pipe_model.specs.Pipelines.Pipeline.{HasBoundedWork, Pipeline}
 use Rattle.pipe_model.specs.Runs.Run.{Run, EmptyRun, RunThen}

@@ -13,7 +13,8 @@ use Rattle.pipe_model.specs.declared.column.ColumnEnd.{ColumnEnd}
 use Rattle.pipe_model.specs.declared.node.Kind.{Kind}
 use Rattle.pipe_model.specs.declared.node.Kind.TheVariants.{Wait, Zero}
 use Rattle.pipe_model.specs.declared.node.Node.{Node}
-use Rattle.run_laws.proofs.RunStates.Frames.{frame_at_updated, frame_at_other, length-update_frame, frame_at_push, frame_at_within, frame_at_last}
+use Rattle.run_laws.proofs.RunStates.Frames.{frame_at_updated, frame_at_other, length-update_frame, frame_at_push, frame_at_within}
+use Rattle.run_laws.proofs.RunStates.Frames.{frame_at_last}
 
 -- the current instance, or the last before the stage that is named
 abbrev pub last_node : List Node → Node

@@ -2,7 +2,8 @@
 use Rattle.std.proofs.Common.{List, [], ◌∷◌, ℕ, ◌≡◌, ◌++◌, Some, inl, inr, subst, ap, append-nil, ◌∙◌, pos, ℤ, sym, refl, true}
 use Rattle.std.proofs.lemmas.Bool.{false≢true}
 use Rattle.pipe_model.specs.Runs.Allowed.{OffersAt, IsRunning, MayEnter, Allowed}
-use Rattle.pipe_model.specs.Pipelines.Behaviour.{node_of, Action, HasNoEnd, Performs, column_of, Offers, behaviour_after_all, nodes_in, Accessed, Staged, Ended}
+use Rattle.pipe_model.specs.Pipelines.Behaviour.{node_of, Action, HasNoEnd, Performs, column_of, Offers, behaviour_after_all, nodes_in}
+use Rattle.pipe_model.specs.Pipelines.Behaviour.{Accessed, Staged, Ended}
 use Rattle.pipe_model.specs.Pipelines.Pipeline.{Pipeline}
 use Rattle.pipe_model.specs.Runs.Run.{Run, EmptyRun, RunThen}
 use Rattle.pipe_model.specs.declared.status.Status.{Status}

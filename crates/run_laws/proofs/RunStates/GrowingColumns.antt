@@ -1,5 +1,6 @@
 -- The columns after an event extend those before.
-use Rattle.std.proofs.Common.{List, ℕ, ◌≡◌, ◌≢◌, refl, [], zero, ◌∷◌, suc, ap, Some, length, ◌+◌, ◌<◌, arith, inl, inr, subst, sym, ◌≤◌, ◌++◌}
+use Rattle.std.proofs.Common.{List, ℕ, ◌≡◌, ◌≢◌, refl, [], zero, ◌∷◌, suc, ap, Some, length, ◌+◌, ◌<◌, arith, inl, inr, subst, sym, ◌≤◌}
+use Rattle.std.proofs.Common.{◌++◌}
 use Rattle.std.proofs.lemmas.Bool.{cases_eq}
 use Rattle.std.proofs.lemmas.Int.{ints}
 use Rattle.pipe_model.specs.Races.Columns.{nodes_at, node_at}

@@ -1,5 +1,6 @@
 -- How many iterations have begun, have ended and are alive.
-use Rattle.std.proofs.Common.{List, ◌≡◌, ◌+◌, [], ◌∷◌, ◌++◌, arith, ℕ, Some, zero, suc, length, ◌≤◌, ap, ◌∙◌, refl, subst, sym, map, inl, inr}
+use Rattle.std.proofs.Common.{List, ◌≡◌, ◌+◌, [], ◌∷◌, ◌++◌, arith, ℕ, Some, zero, suc, length, ◌≤◌, ap, ◌∙◌, refl, subst, sym, map, inl}
+use Rattle.std.proofs.Common.{inr}
 use Rattle.std.proofs.lemmas.Bool.{cases_lt}
 use Rattle.std.proofs.lemmas.List.{length_push, length-map}
 use Rattle.pipe_model.specs.Runs.Allowed.{Allowed}
@@ -7,7 +8,8 @@ use Rattle.pipe_model.specs.Pipelines.Behaviour.{Accessed, Staged, Ended}
 use Rattle.pipe_model.specs.Races.Columns.{IsRising, nodes_at}
 use Rattle.pipe_model.specs.Pipelines.Pipeline.{Pipeline}
 use Rattle.pipe_model.specs.Runs.Run.{Run, EmptyRun, RunThen}
-use Rattle.pipe_model.specs.Runs.State.{Frame, frame_at, alive_in, update_frame, alive_one, fresh_frame, State, alive, next_state, with_action}
+use Rattle.pipe_model.specs.Runs.State.{Frame, frame_at, alive_in, update_frame, alive_one, fresh_frame, State, alive, next_state}
+use Rattle.pipe_model.specs.Runs.State.{with_action}
 use Rattle.pipe_model.specs.declared.status.Status.TheVariants.{Running, Pending, Completed}
 use Rattle.pipe_model.specs.Runs.State.{enter_pending}
 use Rattle.pipe_model.specs.Runs.Throttling.{begun_count, ended_count, IsThrottled}

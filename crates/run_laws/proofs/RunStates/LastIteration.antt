@@ -1,7 +1,8 @@
 -- The iteration that always closes the loop stays in its instance 0, so none follows it.
 use Rattle.std.proofs.Common.{List, length, ◌≡◌, true, Some, ℤ, ap, ◌∙◌, ℕ, inl, subst, sym, inr, refl, arith}
 use Rattle.pipe_model.specs.Runs.Allowed.{Allowed, ContinuesLoop}
-use Rattle.pipe_model.specs.Pipelines.Behaviour.{Behaviour, closes_at_once, behaviour_after_all, Offers, Accessed, behaviour_after, Reading, Writing}
+use Rattle.pipe_model.specs.Pipelines.Behaviour.{Behaviour, closes_at_once, behaviour_after_all, Offers, Accessed, behaviour_after, Reading}
+use Rattle.pipe_model.specs.Pipelines.Behaviour.{Writing}
 use Rattle.pipe_model.specs.Pipelines.Behaviour.{Staging, Ending, Staged, Ended}
 use Rattle.pipe_model.specs.Pipelines.Pipeline.{AlwaysClosesLoop, Pipeline}
 use Rattle.pipe_model.specs.Runs.Run.{Run, EmptyRun, RunThen}

@@ -3,7 +3,8 @@ use Rattle.std.proofs.Common.{List, Bool, true, length, ◌≡◌, false, ℕ, S
 use Rattle.std.proofs.Common.{ap, ◌∙◌, suc, ◌≢◌, ◌++◌}
 use Rattle.std.proofs.lemmas.Bool.{false≢true, cases_Bool, cases_lt}
 use Rattle.pipe_model.specs.Runs.Allowed.{Allowed, IsRunning, OffersAt, LeftHasPassed, ClosesLoop, ContinuesLoop}
-use Rattle.pipe_model.specs.Pipelines.Behaviour.{Behaviour, behaviour_after_all, Offers, Accessed, behaviour_after, Reading, Writing, Staging, Ending}
+use Rattle.pipe_model.specs.Pipelines.Behaviour.{Behaviour, behaviour_after_all, Offers, Accessed, behaviour_after, Reading, Writing}
+use Rattle.pipe_model.specs.Pipelines.Behaviour.{Staging, Ending}
 use Rattle.pipe_model.specs.Pipelines.Behaviour.{Staged, node_of, Ended, Action, read_access, write_access, closes_at_once}
 use Rattle.pipe_model.specs.Pipelines.Pipeline.{HasLegalStages, Pipeline, IsWellFormed}
 use Rattle.pipe_model.specs.Runs.Run.{Run, EmptyRun, RunThen, IsFinished}

@@ -7,7 +7,8 @@ use Rattle.pipe_model.specs.Pipelines.Pipeline.{Pipeline}
 use Rattle.pipe_model.specs.Races.DeterminacyRaces.{Among, Here, IsRaceFree}
 use Rattle.pipe_model.specs.Runs.Run.{Run, EmptyRun, RunThen}
 use Rattle.pipe_model.specs.declared.status.Status.TheVariants.{Running}
-use Rattle.pipe_model.specs.Runs.State.{State, Frame, own_columns, frame_at, next_state, fresh_frame, current_index, with_action, initial_state}
+use Rattle.pipe_model.specs.Runs.State.{State, Frame, own_columns, frame_at, next_state, fresh_frame, current_index, with_action}
+use Rattle.pipe_model.specs.Runs.State.{initial_state}
 use Rattle.pipe_model.specs.declared.access.Access.{Access as Cell_access}
 use Rattle.pipe_model.specs.declared.access.NodeAccess.{NodeAccess}
 use Rattle.pipe_model.specs.declared.event.Event.{Event}

@@ -1,5 +1,6 @@
 -- The running instance of a run that is played, and its accesses.
-use Rattle.std.proofs.Common.{◌≡◌, ◌≢◌, ◌∙◌, ap, sym, subst, refl, ℕ, suc, ℤ, ◌+◌, ◌-◌, ◌≤◌, ◌<◌, ◌^◌, arith, inl, inr, List, [], ◌∷◌, ◌++◌, length, map, set, Option, Some, None, append_assoc}
+use Rattle.std.proofs.Common.{◌≡◌, ◌≢◌, ◌∙◌, ap, sym, subst, refl, ℕ, suc, ℤ, ◌+◌, ◌-◌, ◌≤◌, ◌<◌, ◌^◌, arith, inl, inr, List, [], ◌∷◌, ◌++◌}
+use Rattle.std.proofs.Common.{length, map, set, Option, Some, None, append_assoc}
 use Rattle.std.proofs.lemmas.List.{get_or-set_other, get_or-set_same, length-set, map-append}
 use Rattle.cell_store.specs.ShardState.{IsStateAfter, ShardState}
 use Rattle.pipe_frame.specs.Replies.{accessed, after_instances}
@@ -34,7 +35,8 @@ use Rattle.schedule_play.specs.RunningInstances.{next_of}
 use Rattle.schedule_play.proofs.Playing.Outlines.{schedule_of_control}
 use Rattle.schedule_play.proofs.Playing.Steps.{played_on, same_control}
 
-module _ (code : FlatCode) (cells : ℕ) (v : PlayState) (h : IsPlay code cells v) (i : ℕ) (f : Frame) (is : frame_at (run_state v).frames i ≡ Some f)
+module _ (code : FlatCode) (cells : ℕ) (v : PlayState) (h : IsPlay code cells v) (i : ℕ) (f : Frame)
+    (is : frame_at (run_state v).frames i ≡ Some f)
     (runs : f.status ≡ Running) (k : RunningIterationState) (kept : item_or None v.running i ≡ Some k) where
   abbrev p : Pipeline
   p = pipeline_played v
@@ -103,7 +105,14 @@ module _ (code : FlatCode) (cells : ℕ) (v : PlayState) (h : IsPlay code cells 
       iteration = ap (λ (t : TokenFields). t.iteration) token ∙ fits.iteration;
       out = subst (Rattle.frame_book.specs.GivenTokens.IsOutOf v.book) (sym token) (record {
         out = fits.out.out;
-        token = record { running = fits.out.token.running; index = fits.out.token.index; marks = fits.out.token.marks; joined = fits.out.token.joined; folded = fits.out.token.folded };
+        token = record {
+          running = fits.out.token.running;
+          index = fits.out.token.index;
+          marks = fits.out.token.marks;
+          joined =
+              fits.out.token.joined;
+          folded = fits.out.token.folded;
+        };
         now = low;
       });
       instance = instance;
@@ -119,7 +128,8 @@ module _ (code : FlatCode) (cells : ℕ) (v : PlayState) (h : IsPlay code cells 
           (subst (λ (x : Frame). FitsStatus code cells v.book i x.status x.trace (item_or None (set v.running i (Some k')) i)) (sym same.1)
           (subst (FitsStatus code cells v.book i Running (u f).trace) (sym slot) here)))
       | inr other ↦ (
-          let slot : item_or None (set v.running i (Some k')) j ≡ item_or None v.running j = get_or-set_other v.running i j (Some k') None other.0 in
+          let slot : item_or None (set v.running i (Some k')) j ≡ item_or None v.running j =
+          get_or-set_other v.running i j (Some k') None other.0 in
           subst (FitsStatus code cells v.book j g.status g.trace) (sym slot) (h.running.each j g other.1))
     ]
 
@@ -127,12 +137,20 @@ module _ (code : FlatCode) (cells : ℕ) (v : PlayState) (h : IsPlay code cells 
     made = v.accesses ++ record { node = record { iteration = k.token.iteration; index = k.token.index }; access = a } ∷ []
 
     pub accessed_on : IsStateAfter p.store (before ++ a ∷ []) cells' → cells'.shard ≡ v.cells.shard
-        → IsPlay code cells (record v { running = set v.running i (Some k'); cells = cells'; events = v.events ++ Access i a ∷ []; accesses = made })
+        → IsPlay code cells (record v {
+          running = set v.running i (Some k');
+          cells = cells';
+          events =
+              v.events ++ Access i a ∷ [];
+          accesses = made;
+        })
     accessed_on state shard =
         let allowed = allowed_here (Access i a) (λ e. absurd (cc)) next in
         let long = length-update_frame s.frames i u in
-        played_on code cells v h (Access i a) allowed h.going v.book.log v.book.traces v.book.tokens v.schedule (set v.running i (Some k')) cells' made
-        (h.log ∙ sym (Rattle.std.proofs.Common.append-nil (Rattle.pipe_model.specs.Runs.ControlParts.without_accesses v.events)) ∙ sym (without-append v.events (Access i a ∷ [])))
+        played_on code cells v h (Access i a) allowed h.going v.book.log v.book.traces v.book.tokens v.schedule
+        (set v.running i (Some k')) cells' made
+        (h.log ∙ sym (Rattle.std.proofs.Common.append-nil (Rattle.pipe_model.specs.Runs.ControlParts.without_accesses v.events))
+        ∙ sym (without-append v.events (Access i a ∷ [])))
         (schedule_of_control (next_state s (Access i a)) s v.schedule (accesses_change_no_outline s i a running) h.schedule)
         h.limit
         (record {
@@ -142,8 +160,13 @@ module _ (code : FlatCode) (cells : ℕ) (v : PlayState) (h : IsPlay code cells 
           each = each;
         })
         (subst (λ l. IsStateAfter p.store l cells') (append_assoc p.preamble (accesses_of s.accesses) (a ∷ [])
-        ∙ ap (λ l. p.preamble ++ l) (sym (map-append (λ (x : NodeAccess). x.access) s.accesses (record { node = at i (current_index (frame_at s.frames i)); access = a } ∷ [])))) state)
-        (record { shards = ap (λ (x : Rattle.cell_store.specs.ShardState.Shard). x.shards) shard ∙ h.all.shards; number = ap (λ (x : Rattle.cell_store.specs.ShardState.Shard). x.number) shard ∙ h.all.number })
+        ∙ ap (λ l. p.preamble ++ l) (sym (map-append (λ (x : NodeAccess). x.access) s.accesses
+        (record { node = at i (current_index (frame_at s.frames i)); access = a } ∷ [])))) state)
+        (record {
+          shards = ap (λ (x : Rattle.cell_store.specs.ShardState.Shard). x.shards) shard ∙ h.all.shards;
+          number =
+              ap (λ (x : Rattle.cell_store.specs.ShardState.Shard). x.number) shard ∙ h.all.number;
+        })
         (ap (λ (x : Rattle.cell_store.specs.ShardState.Shard). x.cells) shard ∙ h.count)
         (ap (λ l. l ++ record { node = record { iteration = k.token.iteration; index = k.token.index }; access = a } ∷ []) h.accesses
         ∙ ap (λ (n : Rattle.pipe_model.specs.declared.node.NodeId.NodeId). s.accesses ++ record { node = n; access = a } ∷ [])
@@ -152,23 +175,32 @@ module _ (code : FlatCode) (cells : ℕ) (v : PlayState) (h : IsPlay code cells 
 -- ---- the results of the player's calls
 
 -- the slot of a running iteration is there, and holds its instance
-pub slot_within : (code : FlatCode) (cells : ℕ) (v : PlayState) → IsPlay code cells v → (i : ℕ) (f : Frame) → frame_at (run_state v).frames i ≡ Some f
+pub slot_within : (code : FlatCode) (cells : ℕ) (v : PlayState) → IsPlay code cells v → (i : ℕ) (f : Frame)
+    → frame_at (run_state v).frames i ≡ Some f
     → i < length v.running
 slot_within code cells v h i f is = let a = frame_at_within (run_state v).frames i f is in let b = h.running.count in omega (arith, a, b)
 
-pub slot_taken : (code : FlatCode) (cells : ℕ) (v : PlayState) → IsPlay code cells v → (i : ℕ) → IsRunning (run_state v) i → item_or None v.running i ≡ None → ⊥
+pub slot_taken : (code : FlatCode) (cells : ℕ) (v : PlayState) → IsPlay code cells v → (i : ℕ) → IsRunning (run_state v) i
+    → item_or None v.running i ≡ None → ⊥
 slot_taken code cells v h i r none =
     subst (FitsStatus code cells v.book i Running r.frame.trace) none
     (subst (λ w. FitsStatus code cells v.book i w r.frame.trace (item_or None v.running i)) r.runs (h.running.each i r.frame r.is))
 
 -- the access is the next event, and the play goes on with it
-pub access_made : (code : FlatCode) (cells : ℕ) (v : PlayState) (h : IsPlay code cells v) (i : ℕ) (r : IsRunning (run_state v) i) (k : RunningIterationState)
-    → item_or None v.running i ≡ Some k → (input : List ℤ) → input ≡ v.book.input → (a : Cell_access) (k' : RunningIterationState) (cells' : ShardState)
-    → ((tree : SyntaxTree) (replies : List (List ℤ)) → IsRunningIteration code cells tree input replies k → IsRunningIteration code cells tree input replies k')
-    → ((tree : SyntaxTree) (replies : List (List ℤ)) (q : Pipeline) (before : List Cell_access) → IsRunningIteration code cells tree input replies k → IsStateAfter q.store before v.cells
-    → next_of q before k.token.iteration (after_instances ((pipeline_of tree input).behaviour k.token.iteration) replies) k.trace ≡ Access k.token.iteration a)
-    → k'.token ≡ record k.token { now = length v.events + 1 } → k'.trace ≡ k.trace ++ record { ticket = length v.events + 1; access = a } ∷ []
-    → ((store : InitialStore) (before : List Cell_access) → IsStateAfter store before v.cells → IsStateAfter store (before ++ a ∷ []) cells')
+pub access_made : (code : FlatCode) (cells : ℕ) (v : PlayState) (h : IsPlay code cells v) (i : ℕ) (r : IsRunning (run_state v) i)
+    (k : RunningIterationState)
+    → item_or None v.running i ≡ Some k → (input : List ℤ) → input ≡ v.book.input → (a : Cell_access) (k' : RunningIterationState)
+    (cells' : ShardState)
+    → ((tree : SyntaxTree) (replies : List (List ℤ)) → IsRunningIteration code cells tree input replies k
+    → IsRunningIteration code cells tree input replies k')
+    → ((tree : SyntaxTree) (replies : List (List ℤ)) (q : Pipeline) (before : List Cell_access)
+    → IsRunningIteration code cells tree input replies k → IsStateAfter q.store before v.cells
+    → next_of q before k.token.iteration (after_instances ((pipeline_of tree input).behaviour k.token.iteration) replies) k.trace ≡ Access
+    k.token.iteration a)
+    → k'.token ≡ record k.token { now = length v.events + 1 }
+    → k'.trace ≡ k.trace ++ record { ticket = length v.events + 1; access = a } ∷ []
+    → ((store : InitialStore) (before : List Cell_access) → IsStateAfter store before v.cells
+    → IsStateAfter store (before ++ a ∷ []) cells')
     → cells'.shard ≡ v.cells.shard
     → (next_event (pipeline_played v) (run_state v) i ≡ Some (Access i a))
     × IsPlay code cells (record v {
@@ -184,14 +216,19 @@ access_made code cells v h i r k kept input same a k' cells' instance event toke
     let at = fits code cells v h i r.frame r.is r.runs k kept in
     let tree = tree_of v.book.program in
     let replies = replies_at v.book i in
-    let mine : IsRunningIteration code cells tree input replies k = subst (λ l. IsRunningIteration code cells tree l replies k) (sym same) at.instance in
+    let mine : IsRunningIteration code cells tree input replies k = subst (λ l. IsRunningIteration code cells tree l replies k)
+    (sym same) at.instance in
     let here : next_of p before i (left_of v.book i) k.trace ≡ Access i a =
     subst (λ l. next_of p before i (after_instances ((pipeline_of tree l).behaviour i) replies) k.trace ≡ Access i a) same
-    (subst (λ j. next_of p before j (after_instances ((pipeline_of tree input).behaviour j) replies) k.trace ≡ Access j a) at.iteration (event tree replies p before mine h.state)) in
+    (subst (λ j. next_of p before j (after_instances ((pipeline_of tree input).behaviour j) replies) k.trace ≡ Access j a) at.iteration
+    (event tree replies p before mine h.state)) in
     let next : next_event p s i ≡ Some (Access i a) = next_here code cells v h i r.frame r.is r.runs k kept ∙ ap Some here in
-    let low : length v.events + 1 ≤ 2 ^ 62 + length v.book.log = (let short = (h.short v.events s h.run h.going).0 in omega (arith, short)) in
-    let now : IsRunningIteration code cells tree v.book.input replies k' = subst (λ l. IsRunningIteration code cells tree l replies k') same (instance tree replies mine) in
-    let node : record { iteration = k.token.iteration; index = k.token.index } ≡ record { iteration = k'.token.iteration; index = k'.token.index } =
+    let low : length v.events + 1 ≤ 2 ^ 62 + length v.book.log = (let short = (h.short v.events s h.run h.going).0 in omega (arith, short))
+    in
+    let now : IsRunningIteration code cells tree v.book.input replies k' = subst (λ l. IsRunningIteration code cells tree l replies k')
+    same (instance tree replies mine) in
+    let node : record { iteration = k.token.iteration; index = k.token.index }
+    ≡ record { iteration = k'.token.iteration; index = k'.token.index } =
     ap (λ (t : TokenFields). record { iteration = t.iteration; index = t.index }) (sym token) in (
       next,
       subst (λ n. IsPlay code cells (record v {
@@ -199,5 +236,6 @@ access_made code cells v h i r k kept input same a k' cells' instance event toke
         cells = cells';
         events = v.events ++ Access i a ∷ [];
         accesses = v.accesses ++ record { node = n; access = a } ∷ [];
-      })) node (accessed_on code cells v h i r.frame r.is r.runs k kept a (length v.events + 1) k' cells' next token low now trace (state p.store before h.state) shard),
+      })) node (accessed_on code cells v h i r.frame r.is r.runs k kept a (length v.events + 1) k' cells' next token low now trace
+          (state p.store before h.state) shard),
     )

@@ -42,18 +42,45 @@ short_runs tree input limit accepted ranges events s run going =
     let b = bound.1 in
     (omega (arith, a, product), omega (arith, b, iterations))
 
-pub new_play : (code : FlatCode) (tree : SyntaxTree) (input : List ℤ) (limit : ℕ) (program : Program) (cells : ShardState) (schedule : ScheduleState)
+pub new_play : (code : FlatCode) (tree : SyntaxTree) (input : List ℤ) (limit : ℕ) (program : Program) (cells : ShardState)
+    (schedule : ScheduleState)
     → BreaksNoRule tree → HasRangesOfLimits tree.limits → tree_of program ≡ tree
     → IsStateAfter (store_of tree) (init_accesses (whole_of tree input)) cells → HasAllCells cells → cells.shard.cells ≤ 4294967296
     → IsScheduleOf initial_state schedule → schedule.limit ≡ limit
-    → IsPlay code cells.shard.cells (record { book = new_book program input limit no_lists; schedule = schedule; running = []; cells = cells; events = []; accesses = [] })
+    → IsPlay code cells.shard.cells (record {
+      book = new_book program input limit no_lists;
+      schedule = schedule;
+      running = [];
+      cells =
+          cells;
+      events = [];
+      accesses = [];
+    })
 new_play code tree input limit program cells schedule accepted ranges same state all few scheduled limited =
-    subst (λ (x : SyntaxTree). BreaksNoRule x → HasRangesOfLimits x.limits → IsStateAfter (store_of x) (init_accesses (whole_of x input)) cells
-    → IsPlay code cells.shard.cells (record { book = new_book program input limit no_lists; schedule = schedule; running = []; cells = cells; events = []; accesses = [] }))
+    subst (λ (x : SyntaxTree). BreaksNoRule x → HasRangesOfLimits x.limits → IsStateAfter (store_of x)
+    (init_accesses (whole_of x input)) cells
+    → IsPlay code cells.shard.cells (record {
+      book = new_book program input limit no_lists;
+      schedule = schedule;
+      running = [];
+      cells =
+          cells;
+      events = [];
+      accesses = [];
+    }))
     same here accepted ranges state
   where
-    here : BreaksNoRule (tree_of program) → HasRangesOfLimits (tree_of program).limits → IsStateAfter (store_of (tree_of program)) (init_accesses (whole_of (tree_of program) input)) cells
-        → IsPlay code cells.shard.cells (record { book = new_book program input limit no_lists; schedule = schedule; running = []; cells = cells; events = []; accesses = [] })
+    here : BreaksNoRule (tree_of program) → HasRangesOfLimits (tree_of program).limits → IsStateAfter (store_of (tree_of program))
+        (init_accesses (whole_of (tree_of program) input)) cells
+        → IsPlay code cells.shard.cells (record {
+          book = new_book program input limit no_lists;
+          schedule = schedule;
+          running = [];
+          cells =
+              cells;
+          events = [];
+          accesses = [];
+        })
     here accepted ranges state =
         let well = accepted_is_well_formed (tree_of program) input accepted in
         record {
@@ -66,7 +93,8 @@ new_play code tree input limit program cells schedule accepted ranges same state
           schedule = scheduled;
           limit = limited;
           running = record { count = refl; traces = refl; tokens = refl; each = λ i f is. absurd (let q : None ≡ Some f = is in cc) };
-          state = subst (λ l. IsStateAfter (store_of (tree_of program)) l cells) (sym (append-nil (init_accesses (whole_of (tree_of program) input)))) state;
+          state = subst (λ l. IsStateAfter (store_of (tree_of program)) l cells)
+              (sym (append-nil (init_accesses (whole_of (tree_of program) input)))) state;
           all = all;
           count = refl;
           few = few;

@@ -1,5 +1,6 @@
 -- The beginning of an iteration in a run that is played.
-use Rattle.std.proofs.Common.{Bool, true, false, ◌&&◌, ◌-◌, nat_lt, ◌≡◌, ◌∙◌, ap, sym, subst, refl, ℕ, ℤ, ◌+◌, ◌<◌, arith, inl, inr, List, [], ◌∷◌, ◌++◌, length, map, Some, None}
+use Rattle.std.proofs.Common.{Bool, true, false, ◌&&◌, ◌-◌, nat_lt, ◌≡◌, ◌∙◌, ap, sym, subst, refl, ℕ, ℤ, ◌+◌, ◌<◌, arith, inl, inr, List}
+use Rattle.std.proofs.Common.{[], ◌∷◌, ◌++◌, length, map, Some, None}
 use Rattle.std.proofs.lemmas.List.{length_push}
 use Rattle.std.proofs.Math.ListN.{get_or-append}
 use Rattle.std.proofs.Math.Seq.{get_or-append_seam}
@@ -20,7 +21,8 @@ use Rattle.pipe_model.specs.Pipelines.Pipeline.{Pipeline}
 use Rattle.pipe_model.specs.Runs.Allowed.{Allowed, IsClosed, LastEndedFirstInstance, MayBegin}
 use Rattle.pipe_model.specs.Runs.NextEvents.{event_if, frame_continues_loop, next_begin}
 use Rattle.pipe_model.specs.Runs.State.{Frame, State, alive, frame_at, fresh_frame, next_state}
-use Rattle.frame_book.specs.BookStates.{BookState, TokenState, Out, Spent, events_of, item_or, left_of, pipeline_in, replies_at, state_of, with_events}
+use Rattle.frame_book.specs.BookStates.{BookState, TokenState, Out, Spent, events_of, item_or, left_of, pipeline_in, replies_at, state_of}
+use Rattle.frame_book.specs.BookStates.{with_events}
 use Rattle.frame_book.specs.CallEffects.{after_begin}
 use Rattle.frame_book.specs.GivenTokens.{IsOutOf}
 use Rattle.frame_book.proofs.BookLogs.LogEntries.{events_of_with}
@@ -50,8 +52,14 @@ module _ (code : FlatCode) (cells : ℕ) (v : PlayState) (h : IsPlay code cells 
   begin_allowed e next = begin_is_allowed p limit s e h.going next
 
   module _ (i : ℕ) (next : next_begin limit s ≡ Some (Begin i)) (k : RunningIterationState) (iteration : k.token.iteration ≡ i)
-      (out : IsOutOf (record v.book { log = with_events v.book.log 0 (Begin i ∷ []); traces = v.book.traces ++ [] ∷ []; tokens = v.book.tokens ++ Out ∷ [] }) k.token)
-      (instance : IsRunningIteration code cells (tree_of v.book.program) v.book.input (map replies_of (item_or [] (v.book.traces ++ [] ∷ []) i)) k) (empty : k.trace ≡ []) where
+      (out : IsOutOf (record v.book {
+        log = with_events v.book.log 0 (Begin i ∷ []);
+        traces = v.book.traces ++ [] ∷ [];
+        tokens =
+            v.book.tokens ++ Out ∷ [];
+      }) k.token)
+      (instance : IsRunningIteration code cells (tree_of v.book.program) v.book.input
+      (map replies_of (item_or [] (v.book.traces ++ [] ∷ []) i)) k) (empty : k.trace ≡ []) where
     abbrev log : List BookEntry
     log = with_events v.book.log 0 (Begin i ∷ [])
 
@@ -92,7 +100,8 @@ module _ (code : FlatCode) (cells : ℕ) (v : PlayState) (h : IsPlay code cells 
     each j g at = elim (frame_at_begun s.frames j g at) [
       | inl new ↦ (
           let place : j ≡ length v.running = new.0 ∙ sym h.running.count in
-          let slot : item_or None (v.running ++ Some k ∷ []) j ≡ Some k = ap (λ m. item_or None (v.running ++ Some k ∷ []) m) place ∙ get_or-append_seam v.running (Some k) [] None in
+          let slot : item_or None (v.running ++ Some k ∷ []) j ≡ Some k = ap (λ m. item_or None (v.running ++ Some k ∷ []) m) place
+          ∙ get_or-append_seam v.running (Some k) [] None in
           subst (λ (y : Frame). FitsStatus code cells begun j y.status y.trace (item_or None (v.running ++ Some k ∷ []) j)) (sym new.1)
           (subst (FitsStatus code cells begun j Running []) (sym slot)
           (subst (λ m. IsRunningAt code cells begun m [] k) (number ∙ sym new.0) here)))
@@ -101,7 +110,8 @@ module _ (code : FlatCode) (cells : ℕ) (v : PlayState) (h : IsPlay code cells 
           let c = h.running.count in
           let a = h.running.traces in
           let b = h.running.tokens in
-          let slot : item_or None (v.running ++ Some k ∷ []) j ≡ item_or None v.running j = get_or-append v.running (Some k ∷ []) None j (omega (arith, less, c)) in
+          let slot : item_or None (v.running ++ Some k ∷ []) j ≡ item_or None v.running j =
+          get_or-append v.running (Some k ∷ []) None j (omega (arith, less, c)) in
           subst (FitsStatus code cells begun j g.status g.trace) (sym slot)
           (fits_still code cells v h (Begin i) log traces tokens allowed.control refl log_is j tt
           (get_or-append v.book.tokens (Out ∷ []) Spent j (omega (arith, less, b)))
@@ -110,7 +120,13 @@ module _ (code : FlatCode) (cells : ℕ) (v : PlayState) (h : IsPlay code cells 
     ]
 
     pub begun_on : (schedule : ScheduleState) → IsScheduleOf (next_state s (Begin i)) schedule → schedule.limit ≡ limit
-        → IsPlay code cells (record v { book = begun; schedule = schedule; running = v.running ++ Some k ∷ []; events = v.events ++ Begin i ∷ [] })
+        → IsPlay code cells (record v {
+          book = begun;
+          schedule = schedule;
+          running = v.running ++ Some k ∷ [];
+          events =
+              v.events ++ Begin i ∷ [];
+        })
     begun_on schedule scheduled limited =
         let long = length_push s.frames fresh_frame in
         let c = h.running.count in
@@ -135,32 +151,38 @@ begin_event limit s e next = by_test (nat_lt (alive s) limit && frame_continues_
     by_test true q = cc
     by_test false q = absurd (cc)
 
-may_begin : (code : FlatCode) (cells : ℕ) (v : PlayState) (h : IsPlay code cells v) (e : Event) → next_begin v.book.limit (run_state v) ≡ Some e
+may_begin : (code : FlatCode) (cells : ℕ) (v : PlayState) (h : IsPlay code cells v) (e : Event)
+    → next_begin v.book.limit (run_state v) ≡ Some e
     → MayBegin v.book.limit (run_state v) (length (run_state v).frames)
 may_begin code cells v h e next =
-    (begin_allowed code cells v h (Begin (length (run_state v).frames)) (next ∙ ap Some (begin_event v.book.limit (run_state v) e next))).control
+    (begin_allowed code cells v h (Begin (length (run_state v).frames))
+    (next ∙ ap Some (begin_event v.book.limit (run_state v) e next))).control
 
 -- the book begins the iteration
-pub begin_possible : {M : Type 0} (code : FlatCode) (cells : ℕ) (v : PlayState) (h : IsPlay code cells v) (e : Event) → next_begin v.book.limit (run_state v) ≡ Some e
+pub begin_possible : {M : Type 0} (code : FlatCode) (cells : ℕ) (v : PlayState) (h : IsPlay code cells v) (e : Event)
+    → next_begin v.book.limit (run_state v) ≡ Some e
     → (r : Begun M) → BeginReturns v.book.limit (state_of v.book) r → ((t : FrameToken M) → r ≡ results.Started t → ⊥) → ⊥
 begin_possible {M} code cells v h e next r returned never = by r returned never
   where
     there : MayBegin v.book.limit (state_of v.book) (length (run_state v).frames)
     there = ((agrees code cells v h).allow (Begin (length (run_state v).frames))).0 (may_begin code cells v h e next)
 
-    turn : (alive (state_of v.book) < v.book.limit) × (IsClosed (state_of v.book).frames → ⊥) × LastEndedFirstInstance (state_of v.book).frames
+    turn : (alive (state_of v.book) < v.book.limit) × (IsClosed (state_of v.book).frames → ⊥)
+        × LastEndedFirstInstance (state_of v.book).frames
     turn = (iterations_begin_in_turn.control_runs v.book.limit (events_of v.book.log) (state_of v.book) (book_run code cells v h)).0
         (subst (MayBegin v.book.limit (state_of v.book)) there.number there)
 
     by : (r : Begun M) → BeginReturns v.book.limit (state_of v.book) r → ((t : FrameToken M) → r ≡ results.Started t → ⊥) → ⊥
-    by results.Stopped stopped never = let q : true ≡ false = sym stopped ∙ (sym (same_control code cells v h).stopped ∙ h.going) in absurd (cc)
+    by results.Stopped stopped never = let q : true ≡ false = sym stopped ∙ (sym (same_control code cells v h).stopped ∙ h.going) in
+        absurd (cc)
     by results.Closed closed never = turn.1 closed.1
     by results.NotYet early never = early.2 turn.2
     by results.Throttled full never = let a = full.3 in let b = turn.0 in omega (arith, a, b)
     by (results.Started t) returned never = never t refl
 
 -- the schedule has room for the iteration
-pub begin_fits : (code : FlatCode) (cells : ℕ) (v : PlayState) (h : IsPlay code cells v) (e : Event) → next_begin v.book.limit (run_state v) ≡ Some e
+pub begin_fits : (code : FlatCode) (cells : ℕ) (v : PlayState) (h : IsPlay code cells v) (e : Event)
+    → next_begin v.book.limit (run_state v) ≡ Some e
     → (length v.schedule.alive < v.schedule.limit) × (v.schedule.begun < 4294967295)
 begin_fits code cells v h e next =
     let s = run_state v in
@@ -175,12 +197,15 @@ begin_fits code cells v h e next =
     (omega (arith, count, room, limit), omega (arith, short, longer, begun))
 
 -- the play goes on with the event
-pub begun_made : {M : Type 0} (code : FlatCode) (cells : ℕ) (v : PlayState) (h : IsPlay code cells v) (e : Event) → next_begin v.book.limit (run_state v) ≡ Some e
+pub begun_made : {M : Type 0} (code : FlatCode) (cells : ℕ) (v : PlayState) (h : IsPlay code cells v) (e : Event)
+    → next_begin v.book.limit (run_state v) ≡ Some e
     → (token : FrameToken M) → BeginReturns v.book.limit (state_of v.book) (results.Started token)
     → IsOutOf (after_begin v.book (results.Started token)) (fields_of token) → (machine : MachineState)
-    → IsAtInstance code cells (tree_of v.book.program) v.book.input machine token.iteration (replies_at (after_begin v.book (results.Started token)) token.iteration)
+    → IsAtInstance code cells (tree_of v.book.program) v.book.input machine token.iteration
+    (replies_at (after_begin v.book (results.Started token)) token.iteration)
     → (k : RunningIterationState) → k.token ≡ fields_of token → k.trace ≡ [] → (input : List ℤ) → input ≡ v.book.input
-    → ((tree : SyntaxTree) (replies : List (List ℤ)) → IsAtInstance code cells tree input machine token.iteration replies → IsRunningIteration code cells tree input replies k)
+    → ((tree : SyntaxTree) (replies : List (List ℤ)) → IsAtInstance code cells tree input machine token.iteration replies
+    → IsRunningIteration code cells tree input replies k)
     → (schedule : ScheduleState) → ((s : State) → IsScheduleOf s v.schedule → IsScheduleOf (next_state s (Begin v.schedule.begun)) schedule)
     → schedule.limit ≡ v.schedule.limit
     → (e ≡ Begin token.iteration) × IsPlay code cells (record v {
@@ -197,9 +222,11 @@ begun_made code cells v h e next token returned out machine ready k fields empty
     let may : MayBegin v.book.limit s i = ((agrees code cells v h).allow (Begin i)).1 returned.2 in
     let is : e ≡ Begin i = begin_event v.book.limit s e next ∙ ap Begin (sym may.number) in
     let number : v.schedule.begun ≡ i = h.schedule.begun ∙ sym may.number in
-    let there : IsRunningIteration code cells tree input replies k = instance tree replies (subst (λ l. IsAtInstance code cells tree l machine i replies) (sym same) ready) in (
+    let there : IsRunningIteration code cells tree input replies k = instance tree replies
+    (subst (λ l. IsAtInstance code cells tree l machine i replies) (sym same) ready) in (
       is,
       begun_on code cells v h i (next ∙ ap Some is) k (ap (λ (x : TokenFields). x.iteration) fields)
-          (subst (IsOutOf (after_begin v.book (results.Started token))) (sym fields) out) (subst (λ l. IsRunningIteration code cells tree l replies k) same there) empty
+          (subst (IsOutOf (after_begin v.book (results.Started token))) (sym fields) out)
+          (subst (λ l. IsRunningIteration code cells tree l replies k) same there) empty
           schedule (subst (λ j. IsScheduleOf (next_state s (Begin j)) schedule) number (scheduled s h.schedule)) (limited ∙ h.limit),
     )

@@ -1,5 +1,6 @@
 -- The end of an instance in a run that is played.
-use Rattle.std.proofs.Common.{◌≡◌, ◌≢◌, ◌∙◌, ap, sym, subst, refl, ℕ, ℤ, ◌+◌, ◌<◌, arith, inl, inr, List, [], ◌∷◌, ◌++◌, true, false, length, map, max, set, Option, Some, None}
+use Rattle.std.proofs.Common.{◌≡◌, ◌≢◌, ◌∙◌, ap, sym, subst, refl, ℕ, ℤ, ◌+◌, ◌<◌, arith, inl, inr, List, [], ◌∷◌, ◌++◌, true, false}
+use Rattle.std.proofs.Common.{length, map, max, set, Option, Some, None}
 use Rattle.std.proofs.lemmas.List.{get_or-set_other, get_or-set_same, length-set, map-append}
 use Rattle.cell_store.specs.ShardState.{IsStateAfter}
 use Rattle.pipe_frame.specs.CallResults.{NameReturns}
@@ -26,7 +27,8 @@ use Rattle.pipe_model.specs.Runs.ControlRun.{is_access}
 use Rattle.pipe_model.specs.Runs.NextEvents.{next_event}
 use Rattle.pipe_model.specs.Runs.StageEnds.{stage_end_events}
 use Rattle.pipe_model.specs.Runs.State.{Frame, State, accesses_of, frame_at, next_state, update_frame, with_action}
-use Rattle.frame_book.specs.BookStates.{TokenState, Kept, Spent, events_of, item_or, last_ticket, left_of, pipeline_in, replies_at, state_of, with_events}
+use Rattle.frame_book.specs.BookStates.{TokenState, Kept, Spent, events_of, item_or, last_ticket, left_of, pipeline_in, replies_at}
+use Rattle.frame_book.specs.BookStates.{state_of, with_events}
 use Rattle.frame_book.specs.CallEffects.{after_name_next}
 use Rattle.frame_book.specs.TokenLaws.{EndsNoneOf}
 use Rattle.frame_book.proofs.BookLogs.LogEntries.{events_of_with}
@@ -44,8 +46,10 @@ use Rattle.schedule_play.proofs.Playing.Accesses.{allowed_here, fits, next_here,
 use Rattle.schedule_play.proofs.Playing.Steps.{fits_still, logged, played_on, same_control}
 use Rattle.schedule_play.proofs.UnderWay.{after_instances-push, after_trace, instance_ends}
 
-module _ (code : FlatCode) (cells : ℕ) (v : PlayState) (h : IsPlay code cells v) (i : ℕ) (f : Frame) (is : frame_at (run_state v).frames i ≡ Some f)
-    (runs : f.status ≡ Running) (k : RunningIterationState) (kept : item_or None v.running i ≡ Some k) (ending : StageEnd) (at : k.next ≡ actions.End ending) where
+module _ (code : FlatCode) (cells : ℕ) (v : PlayState) (h : IsPlay code cells v) (i : ℕ) (f : Frame)
+    (is : frame_at (run_state v).frames i ≡ Some f)
+    (runs : f.status ≡ Running) (k : RunningIterationState) (kept : item_or None v.running i ≡ Some k) (ending : StageEnd)
+    (at : k.next ≡ actions.End ending) where
   abbrev p : Pipeline
   p = pipeline_played v
 
@@ -59,7 +63,8 @@ module _ (code : FlatCode) (cells : ℕ) (v : PlayState) (h : IsPlay code cells 
   under_way =
       let fit = fits code cells v h i f is runs k kept in
       subst (λ a. IsUnderWay code cells v.book.input (left_of v.book i) k.machine.run k.trace a) at
-      (subst (λ j. IsUnderWay code cells v.book.input (after_instances ((pipeline_in v.book).behaviour j) (replies_at v.book i)) k.machine.run k.trace k.next)
+      (subst (λ j. IsUnderWay code cells v.book.input (after_instances ((pipeline_in v.book).behaviour j) (replies_at v.book i))
+      k.machine.run k.trace k.next)
       fit.iteration fit.instance.under_way)
 
   -- the event of the end is next
@@ -72,7 +77,8 @@ module _ (code : FlatCode) (cells : ℕ) (v : PlayState) (h : IsPlay code cells 
 
   -- the book after the event of the end
   module _ (e : Event) (one : stage_end_events i ending ≡ e ∷ []) (x : Action) (w : Status)
-      (moves : next_state s e ≡ record s { frames = update_frame s.frames i (with_action x w) }) (quiet : is_access e ≡ false) (apart : e ≢ Stop)
+      (moves : next_state s e ≡ record s { frames = update_frame s.frames i (with_action x w) }) (quiet : is_access e ≡ false)
+      (apart : e ≢ Stop)
       (others : (j : ℕ) → j ≢ i → EndsNoneOf j e) (next : next_event p s i ≡ Some e) (token : TokenState)
       (here : (traces : List (List (List Entry))) → item_or [] traces i ≡ item_or [] v.book.traces i ++ k.trace ∷ []
       → FitsStatus code cells (record v.book { traces = traces }) i w (f.trace ++ x ∷ []) None) where
@@ -104,7 +110,8 @@ module _ (code : FlatCode) (cells : ℕ) (v : PlayState) (h : IsPlay code cells 
 
     trace_here : item_or [] traces i ≡ item_or [] v.book.traces i ++ k.trace ∷ []
     trace_here =
-        let inside : i < length v.book.traces = (let a = frame_at_within s.frames i f is in let b = h.running.traces in omega (arith, a, b)) in
+        let inside : i < length v.book.traces = (let a = frame_at_within s.frames i f is in let b = h.running.traces in
+        omega (arith, a, b)) in
         ap (λ j. item_or [] (set v.book.traces j (item_or [] v.book.traces j ++ k.trace ∷ [])) i) iteration
         ∙ get_or-set_same v.book.traces i (item_or [] v.book.traces i ++ k.trace ∷ []) [] inside
 
@@ -116,8 +123,10 @@ module _ (code : FlatCode) (cells : ℕ) (v : PlayState) (h : IsPlay code cells 
     each j g at = elim (frame_at_moved s.frames i j f u g is at) [
       | inl same ↦ (
           let slot : item_or None running i ≡ None = get_or-set_same v.running i None None (within code cells v h i f is runs k kept) in
-          subst (λ n. FitsStatus code cells (record v.book { log = log; traces = traces; tokens = tokens }) n g.status g.trace (item_or None running n)) (sym same.0)
-          (subst (λ (y : Frame). FitsStatus code cells (record v.book { log = log; traces = traces; tokens = tokens }) i y.status y.trace (item_or None running i)) (sym same.1)
+          subst (λ n. FitsStatus code cells (record v.book { log = log; traces = traces; tokens = tokens }) n g.status g.trace
+          (item_or None running n)) (sym same.0)
+          (subst (λ (y : Frame). FitsStatus code cells (record v.book { log = log; traces = traces; tokens = tokens }) i y.status y.trace
+          (item_or None running i)) (sym same.1)
           (subst (FitsStatus code cells (record v.book { log = log; traces = traces; tokens = tokens }) i w (f.trace ++ x ∷ [])) (sym slot)
           (moved_log w (f.trace ++ x ∷ []) (here traces trace_here)))))
       | inr other ↦ (
@@ -147,11 +156,14 @@ module _ (code : FlatCode) (cells : ℕ) (v : PlayState) (h : IsPlay code cells 
     ended_on schedule scheduled limited =
         let long = length-update_frame s.frames i u in
         let accesses : (next_state s e).accesses ≡ s.accesses = ap (λ (y : State). y.accesses) moves in
-        played_on code cells v h e allowed (ap (λ (y : State). y.stopped) moves ∙ h.going) log traces tokens schedule running v.cells v.accesses
+        played_on code cells v h e allowed (ap (λ (y : State). y.stopped) moves ∙ h.going) log traces tokens schedule running v.cells
+        v.accesses
         (logged code cells v h e log quiet log_is) scheduled limited
-        (subst (λ (fs : List Frame). KeepsRunning code cells (record v.book { log = log; traces = traces; tokens = tokens }) fs running) (sym same_frames) (record {
+        (subst (λ (fs : List Frame). KeepsRunning code cells (record v.book { log = log; traces = traces; tokens = tokens }) fs running)
+        (sym same_frames) (record {
           count = length-set v.running i None ∙ h.running.count ∙ sym long;
-          traces = length-set v.book.traces k.token.iteration (item_or [] v.book.traces k.token.iteration ++ k.trace ∷ []) ∙ h.running.traces ∙ sym long;
+          traces = length-set v.book.traces k.token.iteration (item_or [] v.book.traces k.token.iteration ++ k.trace ∷ [])
+              ∙ h.running.traces ∙ sym long;
           tokens = length-set v.book.tokens k.token.iteration token ∙ h.running.tokens ∙ sym long;
           each = each;
         }))
@@ -228,7 +240,8 @@ module _ (code : FlatCode) (cells : ℕ) (v : PlayState) (h : IsPlay code cells 
 
   -- the play goes on with the event of the end
   pub end_on : (result : Named) → NameReturns (state_of v.book) ending result
-      → (e : Event) → stage_end_events i ending ≡ e ∷ [] → (schedule : ScheduleState) → IsScheduleOf (next_state s e) schedule → schedule.limit ≡ v.book.limit
+      → (e : Event) → stage_end_events i ending ≡ e ∷ [] → (schedule : ScheduleState) → IsScheduleOf (next_state s e) schedule
+      → schedule.limit ≡ v.book.limit
       → IsPlay code cells (played result e schedule)
   end_on result returned e one schedule = by ending refl returned one
     where
@@ -240,31 +253,37 @@ module _ (code : FlatCode) (cells : ℕ) (v : PlayState) (h : IsPlay code cells 
           → ((rest : Behaviour) × (behaviour_after_all (left_of v.book i) (accessed k.trace) ≡ Staging kind n rest)) → goal
       named_by kind n end here names returned mine one leaves =
           let same : Advance i kind n ≡ e = (let q = sym mine ∙ one in cc) in
-          subst (λ (y : Event). IsScheduleOf (next_state s y) schedule → schedule.limit ≡ v.book.limit → IsPlay code cells (played result y schedule)) same
+          subst (λ (y : Event). IsScheduleOf (next_state s y) schedule → schedule.limit ≡ v.book.limit
+          → IsPlay code cells (played result y schedule)) same
           (names_on kind n leaves.0 result (ap (stage_end_events i) here ∙ mine) (waits_only end result names returned) leaves.1 schedule)
 
       ended_by : (x : ColumnEnd) (end : StageEnd) → ending ≡ end → EndsIteration end
           → NameReturns (state_of v.book) end result → stage_end_events i end ≡ Finish i x ∷ [] → stage_end_events i end ≡ e ∷ [] → goal
       ended_by x end here over returned mine one =
           let same : Finish i x ≡ e = (let q = sym mine ∙ one in cc) in
-          subst (λ (y : Event). IsScheduleOf (next_state s y) schedule → schedule.limit ≡ v.book.limit → IsPlay code cells (played result y schedule)) same
+          subst (λ (y : Event). IsScheduleOf (next_state s y) schedule → schedule.limit ≡ v.book.limit
+          → IsPlay code cells (played result y schedule)) same
           (ends_on x result (ap (stage_end_events i) here ∙ mine) (ends_only end result over returned) schedule)
 
-      ends_as : (end : StageEnd) → ending ≡ end → EndsAs code cells v.book.input end k.machine.run (behaviour_after_all (left_of v.book i) (accessed k.trace))
-      ends_as end here = subst (λ y. EndsAs code cells v.book.input y k.machine.run (behaviour_after_all (left_of v.book i) (accessed k.trace))) here under_way.is_at.1
+      ends_as : (end : StageEnd) → ending ≡ end → EndsAs code cells v.book.input end k.machine.run
+          (behaviour_after_all (left_of v.book i) (accessed k.trace))
+      ends_as end here = subst (λ y. EndsAs code cells v.book.input y k.machine.run
+          (behaviour_after_all (left_of v.book i) (accessed k.trace))) here under_way.is_at.1
 
       by : (end : StageEnd) → ending ≡ end → NameReturns (state_of v.book) end result → stage_end_events i end ≡ e ∷ [] → goal
       by (stage_ends.Wait n) here returned one =
           let y = ends_as (stage_ends.Wait n) here in named_by kinds.Wait n (stage_ends.Wait n) here tt returned refl one (y.0, y.1)
       by (stage_ends.Continue n) here returned one =
-          let y = ends_as (stage_ends.Continue n) here in named_by kinds.Continue n (stage_ends.Continue n) here tt returned refl one (y.0, y.1)
+          let y = ends_as (stage_ends.Continue n) here in named_by kinds.Continue n (stage_ends.Continue n) here tt returned refl one
+          (y.0, y.1)
       by stage_ends.End here returned one = ended_by ends.End stage_ends.End here tt returned refl one
       by stage_ends.Closed here returned one = ended_by ends.Closed stage_ends.Closed here tt returned refl one
       by (stage_ends.Trap t) here returned one = ended_by (ends.Trapped t) (stage_ends.Trap t) here tt returned refl one
       by stage_ends.Stopped here returned one = absurd (under_way.is_at.0 here)
 
 -- the result of a call of the player: the event is the next one, and the play goes on with it
-pub end_made : (code : FlatCode) (cells : ℕ) (v : PlayState) (h : IsPlay code cells v) (i : ℕ) (r : IsRunning (run_state v) i) (k : RunningIterationState)
+pub end_made : (code : FlatCode) (cells : ℕ) (v : PlayState) (h : IsPlay code cells v) (i : ℕ) (r : IsRunning (run_state v) i)
+    (k : RunningIterationState)
     → item_or None v.running i ≡ Some k → (end : StageEnd) → k.next ≡ actions.End end → (result : Named)
     → NameReturns (state_of v.book) end result → (e : Event) → stage_end_events i end ≡ e ∷ [] → (schedule : ScheduleState)
     → ((s : State) → IsScheduleOf s v.schedule → ControlAllows v.schedule.limit s e → IsScheduleOf (next_state s e) schedule)
@@ -281,7 +300,8 @@ end_made code cells v h i r k kept end at result returned e one schedule schedul
     let allowed = allowed_here code cells v h i r.frame r.is r.runs k kept e (no_stop i end e one) next in
     let control = subst (λ l. ControlAllows l (run_state v) e) (sym h.limit) allowed.control in (
       next,
-      end_on code cells v h i r.frame r.is r.runs k kept end at result returned e one schedule (scheduled (run_state v) h.schedule control) (limited ∙ h.limit),
+      end_on code cells v h i r.frame r.is r.runs k kept end at result returned e one schedule (scheduled (run_state v) h.schedule control)
+          (limited ∙ h.limit),
     )
   where
     no_stop : (i : ℕ) (end : StageEnd) (e : Event) → stage_end_events i end ≡ e ∷ [] → e ≢ Stop

@@ -1,5 +1,6 @@
 -- All runs with the same control part have the same schedule.
-use Rattle.std.proofs.Common.{◌≡◌, ◌∙◌, ap, sym, subst, refl, ℕ, zero, suc, ℤ, ◌+◌, ◌-◌, ◌<◌, List, [], ◌∷◌, ◌++◌, Bool, length, if◌then◌else◌}
+use Rattle.std.proofs.Common.{◌≡◌, ◌∙◌, ap, sym, subst, refl, ℕ, zero, suc, ℤ, ◌+◌, ◌-◌, ◌<◌, List, [], ◌∷◌, ◌++◌, Bool, length}
+use Rattle.std.proofs.Common.{if◌then◌else◌}
 use Rattle.std.proofs.lemmas.List.{length-map}
 use Rattle.pipe_model.specs.declared.node.Kind.{Kind}
 use Rattle.pipe_model.specs.declared.node.Kind.TheVariants.{Zero, Wait, Continue}
@@ -28,7 +29,8 @@ enter_outline fs i Zero n = refl
 enter_outline fs i Wait n = left_outline fs i n
 enter_outline fs i Continue n = refl
 
-entry_outline : (all : List Frame) (i : ℕ) (w : Status) (nodes : List Node) → alive_entry (outlines_of all) i w nodes ≡ alive_entry all i w nodes
+entry_outline : (all : List Frame) (i : ℕ) (w : Status) (nodes : List Node) → alive_entry (outlines_of all) i w nodes ≡ alive_entry all i w
+    nodes
 entry_outline all i statuses.Running nodes = refl
 entry_outline all i (statuses.Pending k n) nodes =
     ap (λ (b : Bool). record { iteration = i; number = n; standing = if b then MayEnter else MustWait } ∷ []) (enter_outline all i k n)
@@ -50,7 +52,8 @@ schedule_of_control s t v same h =
     let long : length t.frames ≡ length s.frames =
     sym (length-map t.frames outline_of) ∙ ap length (sym same.frames) ∙ length-map s.frames outline_of in
     record {
-      alive = h.alive ∙ sym (alive_outline t.frames 0 t.frames) ∙ ap (λ l. alive_from l 0 l) (sym same.frames) ∙ alive_outline s.frames 0 s.frames;
+      alive = h.alive ∙ sym (alive_outline t.frames 0 t.frames) ∙ ap (λ l. alive_from l 0 l) (sym same.frames)
+          ∙ alive_outline s.frames 0 s.frames;
       begun = h.begun ∙ long;
       continues = h.continues ∙ sym (continues_outline t.frames (length t.frames - 1))
           ∙ ap (λ l. frame_continues_loop (frame_at l (length t.frames - 1))) (sym same.frames)

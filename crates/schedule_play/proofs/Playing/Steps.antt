@@ -1,5 +1,6 @@
 -- What one more event changes of what a player keeps.
-use Rattle.std.proofs.Common.{◌≡◌, ◌∙◌, ap, sym, subst, refl, ℕ, ◌+◌, ◌<◌, ◌^◌, arith, List, [], ◌∷◌, ◌++◌, false, length, map, Option, Some, None}
+use Rattle.std.proofs.Common.{◌≡◌, ◌∙◌, ap, sym, subst, refl, ℕ, ◌+◌, ◌<◌, ◌^◌, arith, List, [], ◌∷◌, ◌++◌, false, length, map, Option}
+use Rattle.std.proofs.Common.{Some, None}
 use Rattle.cell_store.specs.ShardState.{IsStateAfter, ShardState}
 use Rattle.pipe_frame.specs.Replies.{accessed, after_instances, replies_of}
 use Rattle.pipe_frame.specs.TokenFields.{TokenFields}
@@ -67,14 +68,18 @@ module _ (code : FlatCode) (cells : ℕ) (v : PlayState) (h : IsPlay code cells 
   with_book log traces tokens = record v.book { log = log; traces = traces; tokens = tokens }
 
   -- a token that is out stays so while no instance of its iteration ends
-  stays_out : (e : Event) (log : List BookEntry) (traces : List (List (List Entry))) (tokens : List TokenState) → ControlAllows limit s e → is_access e ≡ false
+  stays_out : (e : Event) (log : List BookEntry) (traces : List (List (List Entry))) (tokens : List TokenState) → ControlAllows limit s e
+      → is_access e ≡ false
       → events_of log ≡ events_of v.book.log ++ e ∷ [] → (t : TokenFields) → EndsNoneOf t.iteration e
-      → item_or Spent tokens t.iteration ≡ item_or Spent v.book.tokens t.iteration → IsOutOf v.book t → IsOutOf (with_book log traces tokens) t
+      → item_or Spent tokens t.iteration ≡ item_or Spent v.book.tokens t.iteration → IsOutOf v.book t
+      → IsOutOf (with_book log traces tokens) t
   stays_out e log traces tokens may quiet more t none same out =
       let token = tokens_stay_until_their_ends limit (events_of v.book.log) e t book_run ((agrees.allow e).0 may) quiet none out.token in
-      let longer : length (events_of log) ≡ length (events_of v.book.log) + 1 = ap length more ∙ Rattle.std.proofs.lemmas.List.length_push (events_of v.book.log) e in
+      let longer : length (events_of log) ≡ length (events_of v.book.log) + 1 = ap length more
+      ∙ Rattle.std.proofs.lemmas.List.length_push (events_of v.book.log) e in
       let a : length (events_of log) ≡ length log = Rattle.std.proofs.lemmas.List.length-map log (λ (b : BookEntry). b.event) in
-      let b : length (events_of v.book.log) ≡ length v.book.log = Rattle.std.proofs.lemmas.List.length-map v.book.log (λ (b : BookEntry). b.event) in
+      let b : length (events_of v.book.log) ≡ length v.book.log = Rattle.std.proofs.lemmas.List.length-map v.book.log
+      (λ (b : BookEntry). b.event) in
       let now = out.now in
       record {
         out = same ∙ out.out;
@@ -83,7 +88,8 @@ module _ (code : FlatCode) (cells : ℕ) (v : PlayState) (h : IsPlay code cells 
       }
 
   -- an iteration with the same traces, and none of its instances ends
-  pub fits_still : (e : Event) (log : List BookEntry) (traces : List (List (List Entry))) (tokens : List TokenState) → ControlAllows limit s e → is_access e ≡ false
+  pub fits_still : (e : Event) (log : List BookEntry) (traces : List (List (List Entry))) (tokens : List TokenState)
+      → ControlAllows limit s e → is_access e ≡ false
       → events_of log ≡ events_of v.book.log ++ e ∷ [] → (j : ℕ) → EndsNoneOf j e
       → item_or Spent tokens j ≡ item_or Spent v.book.tokens j → item_or [] traces j ≡ item_or [] v.book.traces j
       → (w : Status) (trace : List Action) (kept : Option RunningIterationState) → FitsStatus code cells v.book j w trace kept
@@ -94,9 +100,11 @@ module _ (code : FlatCode) (cells : ℕ) (v : PlayState) (h : IsPlay code cells 
     out = stays_out e log traces tokens may quiet more k.token
         (subst (λ i. EndsNoneOf i e) (sym fits.iteration) none)
         (subst (λ i. item_or Spent tokens i ≡ item_or Spent v.book.tokens i) (sym fits.iteration) same_token) fits.out;
-    instance = subst (λ (l : List (List Entry)). IsRunningIteration code cells (tree_of v.book.program) v.book.input (map replies_of l) k) (sym same_traces) fits.instance;
+    instance = subst (λ (l : List (List Entry)). IsRunningIteration code cells (tree_of v.book.program) v.book.input (map replies_of l) k)
+        (sym same_traces) fits.instance;
     left = subst (λ (l : List (List Entry)). behaviour_after_all ((pipeline_in v.book).behaviour j) trace
-        ≡ behaviour_after_all (after_instances ((pipeline_in v.book).behaviour j) (map replies_of l)) (accessed k.trace)) (sym same_traces) fits.left;
+        ≡ behaviour_after_all (after_instances ((pipeline_in v.book).behaviour j) (map replies_of l)) (accessed k.trace))
+        (sym same_traces) fits.left;
   }
   fits_still e log traces tokens may quiet more j none same_token same_traces (Pending kind n) trace kept fits = (
     fits.0,
@@ -124,9 +132,18 @@ module _ (code : FlatCode) (cells : ℕ) (v : PlayState) (h : IsPlay code cells 
         → events_of log ≡ without_accesses (v.events ++ e ∷ [])
         → IsScheduleOf (next_state s e) schedule → schedule.limit ≡ limit
         → KeepsRunning code cells (with_book log traces tokens) (next_state s e).frames running
-        → IsStateAfter p.store (p.preamble ++ accesses_of (next_state s e).accesses) cells' → HasAllCells cells' → cells'.shard.cells ≡ cells
+        → IsStateAfter p.store (p.preamble ++ accesses_of (next_state s e).accesses) cells' → HasAllCells cells'
+        → cells'.shard.cells ≡ cells
         → accesses ≡ (next_state s e).accesses
-        → IsPlay code cells (record { book = with_book log traces tokens; schedule = schedule; running = running; cells = cells'; events = v.events ++ e ∷ []; accesses = accesses })
+        → IsPlay code cells (record {
+          book = with_book log traces tokens;
+          schedule = schedule;
+          running = running;
+          cells = cells';
+          events =
+              v.events ++ e ∷ [];
+          accesses = accesses;
+        })
     played_on log traces tokens schedule running cells' accesses logged scheduled limited kept state all count made = record {
       proper = h.proper;
       short = h.short;
@@ -149,4 +166,5 @@ module _ (code : FlatCode) (cells : ℕ) (v : PlayState) (h : IsPlay code cells 
       → events_of log ≡ without_accesses (v.events ++ e ∷ [])
   logged e log quiet more =
       let one : without_accesses (e ∷ []) ≡ e ∷ [] = rw quiet refl in
-      more ∙ (ap (λ es. es ++ e ∷ []) h.log ∙ (ap (λ es. without_accesses v.events ++ es) (sym one) ∙ sym (without-append v.events (e ∷ []))))
+      more ∙ (ap (λ es. es ++ e ∷ []) h.log ∙ (ap (λ es. without_accesses v.events ++ es) (sym one)
+      ∙ sym (without-append v.events (e ∷ []))))

@@ -1,5 +1,6 @@
 -- The events of a schedule, one a turn.
-use Rattle.std.proofs.Common.{◌≡◌, ◌∙◌, ap, ap₂, sym, refl, ℕ, suc, ◌+◌, ◌-◌, ◌<◌, ◌≤◌, arith, List, [], ◌∷◌, ◌++◌, Option, Some, None, append_assoc, append-nil}
+use Rattle.std.proofs.Common.{◌≡◌, ◌∙◌, ap, ap₂, sym, refl, ℕ, suc, ◌+◌, ◌-◌, ◌<◌, ◌≤◌, arith, List, [], ◌∷◌, ◌++◌, Option, Some, None}
+use Rattle.std.proofs.Common.{append_assoc, append-nil}
 use Rattle.pipe_model.specs.declared.event.Event.{Event}
 use Rattle.pipe_model.specs.Language.ProgramsOfTrees.{pipeline_after_init}
 use Rattle.pipe_model.specs.Language.SyntaxTree.{tree_of}
@@ -18,7 +19,8 @@ pub record HasPlayed (code : FlatCode) (cells : ℕ) (old v : PlayState) (worker
   pub rest : played (pipeline_played old) old.book.limit workers choices turns
       ≡ v.events ++ played_from (pipeline_played old) old.book.limit workers choices (turns - turn) turn (run_state v)
 
-pub starts : (code : FlatCode) (cells : ℕ) (v : PlayState) (workers : ℕ) (choices : List ℕ) (turns : ℕ) → IsPlay code cells v → v.events ≡ []
+pub starts : (code : FlatCode) (cells : ℕ) (v : PlayState) (workers : ℕ) (choices : List ℕ) (turns : ℕ) → IsPlay code cells v
+    → v.events ≡ []
     → HasPlayed code cells v v workers choices turns 0
 starts code cells v workers choices turns h none = record {
   play = h;
@@ -33,7 +35,8 @@ starts code cells v workers choices turns h none = record {
 same_pipeline : (old v : PlayState) → KeepsProgram old v → pipeline_played v ≡ pipeline_played old
 same_pipeline old v k = ap₂ (λ q input. pipeline_after_init (tree_of q) input) k.program k.input
 
-module _ (code : FlatCode) (cells : ℕ) (old v : PlayState) (workers : ℕ) (choices : List ℕ) (turns turn : ℕ) (h : HasPlayed code cells old v workers choices turns turn) where
+module _ (code : FlatCode) (cells : ℕ) (old v : PlayState) (workers : ℕ) (choices : List ℕ) (turns turn : ℕ)
+    (h : HasPlayed code cells old v workers choices turns turn) where
   abbrev p : Pipeline
   p = pipeline_played old
 
@@ -50,7 +53,8 @@ module _ (code : FlatCode) (cells : ℕ) (old v : PlayState) (workers : ℕ) (ch
 
   pub goes_on : (choice : ℕ) (e : Event) (v' : PlayState) → turn < turns → choice ≡ choice_at choices turn
       → chosen choice (candidates (pipeline_played v) v.book.limit workers (run_state v)) ≡ Some e
-      → v'.events ≡ v.events ++ e ∷ [] → IsPlay code cells v' → KeepsProgram v v' → HasPlayed code cells old v' workers choices turns (turn + 1)
+      → v'.events ≡ v.events ++ e ∷ [] → IsPlay code cells v' → KeepsProgram v v' → HasPlayed code cells old v' workers choices turns
+      (turn + 1)
   goes_on choice e v' less is made more play keeps = record {
     play = play;
     keeps = record { program = keeps.program ∙ h.keeps.program; input = keeps.input ∙ h.keeps.input; limit = keeps.limit ∙ h.keeps.limit };

@@ -39,4 +39,5 @@ loop-declaration-preserved c =
 pub returns-clause-len : goal.returns-clause-len
 returns-clause-len c =
     let all : take c.loop-declaration.declaration-index c.args.cells.now ≡ c.args.cells.now = take_all _ _ (omega arith) in
-    ap length c.loop-declaration.invariant ∙ ap (λ ds. length (pos 0 ∷ (pos 0 ∷ declared_values ds))) all ∙ omega (arith, values_length c.args.cells.now)
+    ap length c.loop-declaration.invariant ∙ ap (λ ds. length (pos 0 ∷ (pos 0 ∷ declared_values ds))) all
+    ∙ omega (arith, values_length c.args.cells.now)

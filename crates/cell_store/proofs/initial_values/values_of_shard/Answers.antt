@@ -9,7 +9,8 @@ loop-cell-preserved c =
     let fits : SFits w64 (get_or c.args.all.now c.loop-cell.cell (pos 0)) = search rules in
     let items = simp to_z-of_z at c.in_ok-push.ensures.items in
     record {
-      at = strides_more c.loop-cell.cell c.args.shard c.args.shards c.loop-cell.values.items _ c.push.new.self.items items c.loop-cell.invariant.at;
+      at = strides_more c.loop-cell.cell c.args.shard c.args.shards c.loop-cell.values.items _ c.push.new.self.items items
+          c.loop-cell.invariant.at;
       taken = taken_more c.args.all.now c.loop-cell.values.items c.push.new.self.items c.loop-cell.cell c.args.shard c.args.shards items
           c.loop-cell.invariant.at c.loop-cell.invariant.taken;
     }

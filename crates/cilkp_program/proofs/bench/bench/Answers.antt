@@ -15,5 +15,6 @@ measured_run-requires-2-clause-few g c = λ lifetimes outlives.
 
 pub returns : goal.returns
 returns g c =
-    summary_made c.args.seed c.args.size (tree_of c.in_ok-program.program) c.in_ok-program.numbers _ _ _ _ c.in_ok-program.ensures c.len.ensures
+    summary_made c.args.seed c.args.size (tree_of c.in_ok-program.program) c.in_ok-program.numbers _ _ _ _ c.in_ok-program.ensures
+    c.len.ensures
     c.in_ok-with_one.ensures c.in_ok-with_eight.ensures c.summary_text.ensures

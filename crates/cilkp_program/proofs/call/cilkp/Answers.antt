@@ -1,5 +1,6 @@
 use Rattle.std.proofs.Common.{◌∙◌, sym, arith, inl, inr}
-use Rattle.cilkp_program.proofs.ResultStatus.{counts_do_not_fall, grown_count_has_status, result_has_cause, result_keeps_count, result_is_logged, result_is_small, no_write_fault}
+use Rattle.cilkp_program.proofs.ResultStatus.{counts_do_not_fall, grown_count_has_status, result_has_cause, result_keeps_count}
+use Rattle.cilkp_program.proofs.ResultStatus.{result_is_logged, result_is_small, no_write_fault}
 use Rattle.cilkp_program.proofs.GivenUp.{text_cut_short, text_whole, given_up_writing}
 use Rattle.cilkp_program.proofs.FormatLaws.{text_printed}
 use Rattle.cilkp_program.proofs.BenchLaws.{printed_summary}
@@ -15,7 +16,8 @@ use Rattle.cilkp_program.proofs.call.cilkp.Goals as goal
 pub returns-in-NoMemory-clause-given_up : goal.returns-in-NoMemory-clause-given_up
 returns-in-NoMemory-clause-given_up g c =
     let w = c.write_text-written.ensures in
-    given_up_writing _ _ _ _ _ _ _ _ _ (text_cut_short _ _ _ _ _ _ _ _ _ _ _ _ c.in_ok-outcome.ensures.outcome (rw c.as_slice.ensures at w.count)
+    given_up_writing _ _ _ _ _ _ _ _ _ (text_cut_short _ _ _ _ _ _ _ _ _ _ _ _ c.in_ok-outcome.ensures.outcome
+    (rw c.as_slice.ensures at w.count)
     (rw c.as_slice.ensures at w.whole)
     (λ e. let f = c.in-NoMemory.is in cc (e, f)) (rw c.as_slice.ensures at w.taken))
 
@@ -33,7 +35,8 @@ pub returns-clause-headline : goal.returns-clause-headline
 returns-clause-headline g c = λ calm_files calm_out.
     let w = c.write_text-written.ensures in
     elim c.match-written.branch [
-      | in-Whole b ↦ rw b.status-is (printed_meets _ _ _ _ _ _ _ _ _ _ calm_files (text_whole _ _ _ _ _ _ _ _ _ _ _ c.in_ok-outcome.ensures.outcome
+      | in-Whole b ↦ rw b.status-is (printed_meets _ _ _ _ _ _ _ _ _ _ calm_files
+          (text_whole _ _ _ _ _ _ _ _ _ _ _ c.in_ok-outcome.ensures.outcome
           ((rw c.as_slice.ensures at w.whole).0 b.in-Whole.is) (rw c.as_slice.ensures at w.taken)))
       | in-Failed b ↦ (let cause = rw b.in-Failed.is at w.cause in absurd (calm_out cause.1))
     ]
@@ -48,7 +51,8 @@ pub returns-clause-serial : goal.returns-clause-serial
 returns-clause-serial g c = λ calm_files calm_out.
     let w = c.write_text-written.ensures in
     elim c.match-written.branch [
-      | in-Whole b ↦ rw b.status-is (printed_elision _ _ _ _ _ _ _ _ _ _ calm_files (text_whole _ _ _ _ _ _ _ _ _ _ _ c.in_ok-outcome.ensures.outcome
+      | in-Whole b ↦ rw b.status-is (printed_elision _ _ _ _ _ _ _ _ _ _ calm_files
+          (text_whole _ _ _ _ _ _ _ _ _ _ _ c.in_ok-outcome.ensures.outcome
           ((rw c.as_slice.ensures at w.whole).0 b.in-Whole.is) (rw c.as_slice.ensures at w.taken)))
       | in-Failed b ↦ (let cause = rw b.in-Failed.is at w.cause in absurd (calm_out cause.1))
     ]
@@ -57,7 +61,8 @@ pub returns-clause-checked : goal.returns-clause-checked
 returns-clause-checked g c = λ calm_files calm_out.
     let w = c.write_text-written.ensures in
     elim c.match-written.branch [
-      | in-Whole b ↦ rw b.status-is (printed_check _ _ _ _ _ _ _ _ _ _ calm_files (text_whole _ _ _ _ _ _ _ _ _ _ _ c.in_ok-outcome.ensures.outcome
+      | in-Whole b ↦ rw b.status-is (printed_check _ _ _ _ _ _ _ _ _ _ calm_files
+          (text_whole _ _ _ _ _ _ _ _ _ _ _ c.in_ok-outcome.ensures.outcome
           ((rw c.as_slice.ensures at w.whole).0 b.in-Whole.is) (rw c.as_slice.ensures at w.taken)))
       | in-Failed b ↦ (let cause = rw b.in-Failed.is at w.cause in absurd (calm_out cause.1))
     ]
@@ -66,7 +71,8 @@ pub returns-clause-grid : goal.returns-clause-grid
 returns-clause-grid g c = λ calm_files calm_out.
     let w = c.write_text-written.ensures in
     elim c.match-written.branch [
-      | in-Whole b ↦ rw b.status-is (printed_grid _ _ _ _ _ _ _ _ _ _ calm_files (text_whole _ _ _ _ _ _ _ _ _ _ _ c.in_ok-outcome.ensures.outcome
+      | in-Whole b ↦ rw b.status-is (printed_grid _ _ _ _ _ _ _ _ _ _ calm_files
+          (text_whole _ _ _ _ _ _ _ _ _ _ _ c.in_ok-outcome.ensures.outcome
           ((rw c.as_slice.ensures at w.whole).0 b.in-Whole.is) (rw c.as_slice.ensures at w.taken)))
       | in-Failed b ↦ (let cause = rw b.in-Failed.is at w.cause in absurd (calm_out cause.1))
     ]
@@ -75,7 +81,8 @@ pub returns-clause-weighed : goal.returns-clause-weighed
 returns-clause-weighed g c = λ calm_files calm_out.
     let w = c.write_text-written.ensures in
     elim c.match-written.branch [
-      | in-Whole b ↦ rw b.status-is (printed_span _ _ _ _ _ _ _ _ _ _ calm_files (text_whole _ _ _ _ _ _ _ _ _ _ _ c.in_ok-outcome.ensures.outcome
+      | in-Whole b ↦ rw b.status-is (printed_span _ _ _ _ _ _ _ _ _ _ calm_files
+          (text_whole _ _ _ _ _ _ _ _ _ _ _ c.in_ok-outcome.ensures.outcome
           ((rw c.as_slice.ensures at w.whole).0 b.in-Whole.is) (rw c.as_slice.ensures at w.taken)))
       | in-Failed b ↦ (let cause = rw b.in-Failed.is at w.cause in absurd (calm_out cause.1))
     ]
@@ -84,7 +91,8 @@ pub returns-clause-formatted : goal.returns-clause-formatted
 returns-clause-formatted g c = λ calm_files calm_out.
     let w = c.write_text-written.ensures in
     elim c.match-written.branch [
-      | in-Whole b ↦ rw b.status-is (text_printed _ _ _ _ _ _ _ _ _ _ calm_files (text_whole _ _ _ _ _ _ _ _ _ _ _ c.in_ok-outcome.ensures.outcome
+      | in-Whole b ↦ rw b.status-is (text_printed _ _ _ _ _ _ _ _ _ _ calm_files
+          (text_whole _ _ _ _ _ _ _ _ _ _ _ c.in_ok-outcome.ensures.outcome
           ((rw c.as_slice.ensures at w.whole).0 b.in-Whole.is) (rw c.as_slice.ensures at w.taken)))
       | in-Failed b ↦ (let cause = rw b.in-Failed.is at w.cause in absurd (calm_out cause.1))
     ]

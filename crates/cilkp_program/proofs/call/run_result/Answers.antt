@@ -7,5 +7,6 @@ returns g c =
     let accepted = c.requires.accepted in (
       c.in_ok-run.run'.run_log,
       run_returned (tree_of c.args.checked.now) c.args.input.now c.args.throttle c.args.with_log c.in_ok-run.run'
-          c.in_ok-status.status c.in_ok-status.text c.in_ok-recorded.field-0 accepted c.in_ok-run.ensures.run c.in_ok-status.ensures c.in_ok-recorded.ensures,
+          c.in_ok-status.status c.in_ok-status.text c.in_ok-recorded.field-0 accepted c.in_ok-run.ensures.run c.in_ok-status.ensures
+          c.in_ok-recorded.ensures,
     )

@@ -5,11 +5,17 @@ pub returns-in_ok-named_line-in-Missing-clause-outcome : goal.returns-in_ok-name
 returns-in_ok-named_line-in-Missing-clause-outcome g c =
     let whole = rw c.in-Missing.is at (of_file (g.F.Files.holds c.args.files.now) c.args.name.now 1048576 c.in_ok-read_whole.field-0
     c.in_ok-read_whole.ensures.limit c.in_ok-read_whole.ensures.known) in
-    record { file = whole.file; known = whole.known; result_is = source_is_missing _ _ _ 1048576 c.in_ok-named_line-in-Missing.ensures whole.is }
+    record {
+      file = whole.file;
+      known = whole.known;
+      result_is = source_is_missing _ _ _ 1048576 c.in_ok-named_line-in-Missing.ensures
+          whole.is;
+    }
 
 pub returns-in-Failed-clause-outcome : goal.returns-in-Failed-clause-outcome
 returns-in-Failed-clause-outcome g c =
-    let whole = of_file (g.F.Files.holds c.args.files.now) c.args.name.now 1048576 c.in_ok-read_whole.field-0 c.in_ok-read_whole.ensures.limit
+    let whole = of_file (g.F.Files.holds c.args.files.now) c.args.name.now 1048576 c.in_ok-read_whole.field-0
+    c.in_ok-read_whole.ensures.limit
     c.in_ok-read_whole.ensures.known in record { file = whole.file; known = whole.known; result_is = tt }
 
 pub returns-in-TooLong-clause-outcome : goal.returns-in-TooLong-clause-outcome

@@ -13,7 +13,8 @@ check-requires c = record { spellable = spelled_is_spellable _ _ (spelled_by _ _
 
 pub returns-in-Ok-check : goal.returns-in-Ok-check
 returns-in-Ok-check c =
-    rw c.in-Ok-check.ensures.program (program_accepted _ _ _ (spelled_by _ _ _ c.in-Ok.ensures.tokens c.in-Ok-parse.ensures.program) c.in-Ok-check.ensures.ok
+    rw c.in-Ok-check.ensures.program (program_accepted _ _ _ (spelled_by _ _ _ c.in-Ok.ensures.tokens c.in-Ok-parse.ensures.program)
+    c.in-Ok-check.ensures.ok
     c.in-Ok-parse.ensures.places)
 
 pub check_line-requires : goal.check_line-requires

@@ -8,7 +8,8 @@ returns-in-Refused-clause-prepared g c =
 
 pub returns-in-Failed-clause-prepared : goal.returns-in-Failed-clause-prepared
 returns-in-Failed-clause-prepared g c =
-    rw c.in_ok-read_fault-in-Failed.ensures (λ asked n m is. source_failed asked _ _ _ _ n (rw c.in-Failed.is at c.in_ok-program.ensures.cause))
+    rw c.in_ok-read_fault-in-Failed.ensures (λ asked n m is. source_failed asked _ _ _ _ n
+    (rw c.in-Failed.is at c.in_ok-program.ensures.cause))
 
 pub returns-in-Accepted-clause-prepared : goal.returns-in-Accepted-clause-prepared
 returns-in-Accepted-clause-prepared g c =
@@ -18,7 +19,8 @@ returns-in-Accepted-clause-prepared g c =
 
 pub returns-in-Refused-2-clause-prepared : goal.returns-in-Refused-2-clause-prepared
 returns-in-Refused-2-clause-prepared g c =
-    rw c.refused-in-Refused-2.ensures (input_refused _ _ _ _ _ _ _ _ _ _ c.in_ok-program.ensures.keeps (rw c.in-Program.is at c.in_ok-program.ensures.cause)
+    rw c.refused-in-Refused-2.ensures (input_refused _ _ _ _ _ _ _ _ _ _ c.in_ok-program.ensures.keeps
+    (rw c.in-Program.is at c.in_ok-program.ensures.cause)
     (rw c.in-Refused-2.is at c.in_ok-numbers.ensures.cause) (rw c.in-Program.is at c.in_ok-program.ensures.outcome)
     (rw c.in-Refused-2.is at c.in_ok-numbers.ensures.outcome))
 

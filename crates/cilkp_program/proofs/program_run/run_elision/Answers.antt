@@ -7,7 +7,8 @@ of-requires c = given_columns_rise (tree_of c.args.checked.now) c.args.input.now
 
 pub races-requires : goal.races-requires
 races-requires c =
-    given_accesses_inside (tree_of c.args.checked.now) c.args.input.now _ _ _ c.requires c.in_ok-of.ensures c.in_ok-output.ensures.columns_are c.in_ok-output.ensures.accesses_are
+    given_accesses_inside (tree_of c.args.checked.now) c.args.input.now _ _ _ c.requires c.in_ok-of.ensures
+    c.in_ok-output.ensures.columns_are c.in_ok-output.ensures.accesses_are
 
 pub returns-clause-reports : goal.returns-clause-reports
 returns-clause-reports c =

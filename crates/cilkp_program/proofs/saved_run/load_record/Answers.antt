@@ -5,12 +5,14 @@ use Rattle.cilkp_program.proofs.saved_run.load_record.Goals as goal
 
 pub returns-in-Missing-clause-outcome : goal.returns-in-Missing-clause-outcome
 returns-in-Missing-clause-outcome g c =
-    record_is_missing _ _ _ _ (rw c.in-Missing.is at (of_file (g.F.Files.holds c.args.files.now) c.args.name.now LONGEST_RECORD c.in_ok-read_whole.field-0
+    record_is_missing _ _ _ _ (rw c.in-Missing.is at (of_file (g.F.Files.holds c.args.files.now) c.args.name.now LONGEST_RECORD
+    c.in_ok-read_whole.field-0
     c.in_ok-read_whole.ensures.limit c.in_ok-read_whole.ensures.known)) c.in_ok-named_line-in-Missing.ensures
 
 pub returns-in-Failed-clause-outcome : goal.returns-in-Failed-clause-outcome
 returns-in-Failed-clause-outcome g c =
-    let whole = of_file (g.F.Files.holds c.args.files.now) c.args.name.now LONGEST_RECORD c.in_ok-read_whole.field-0 c.in_ok-read_whole.ensures.limit
+    let whole = of_file (g.F.Files.holds c.args.files.now) c.args.name.now LONGEST_RECORD c.in_ok-read_whole.field-0
+    c.in_ok-read_whole.ensures.limit
     c.in_ok-read_whole.ensures.known in record { file = whole.file; known = whole.known; result_is = tt }
 
 pub returns-in-TooLong-clause-outcome : goal.returns-in-TooLong-clause-outcome
@@ -20,6 +22,7 @@ returns-in-TooLong-clause-outcome g c =
 
 pub returns-clause-outcome : goal.returns-clause-outcome
 returns-clause-outcome g c =
-    record_outcome _ _ _ _ _ (rw c.in-Bytes.is at (of_file (g.F.Files.holds c.args.files.now) c.args.name.now LONGEST_RECORD c.in_ok-read_whole.field-0
+    record_outcome _ _ _ _ _ (rw c.in-Bytes.is at (of_file (g.F.Files.holds c.args.files.now) c.args.name.now LONGEST_RECORD
+    c.in_ok-read_whole.field-0
     c.in_ok-read_whole.ensures.limit c.in_ok-read_whole.ensures.known)) (rw c.in-Bytes.is at c.in_ok-read_whole.ensures.limit)
     (rw c.as_slice.ensures at c.record_of.ensures)

@@ -18,9 +18,15 @@ wave_line-requires c =
     rw c.as_slice.ensures (fault_has_wave_place h.0 _ _ h.1 _ (rw c.program.ensures.program at c.in-Err.ensures.err))
 
 pub returns-in_ok-wave_line-in-Err : goal.returns-in_ok-wave_line-in-Err
-returns-in_ok-wave_line-in-Err c = λ source accepted.
-    (refl, wave_is_refused source _ _ _ _ accepted (rw c.program.ensures.program at c.in-Err.ensures.err) (rw c.as_slice.ensures at c.in_ok-wave_line-in-Err.ensures))
+returns-in_ok-wave_line-in-Err c = λ source accepted. (
+  refl,
+  wave_is_refused source _ _ _ _ accepted (rw c.program.ensures.program at c.in-Err.ensures.err)
+      (rw c.as_slice.ensures at c.in_ok-wave_line-in-Err.ensures),
+)
 
 pub returns-in_ok-check_lowered-in-Ok : goal.returns-in_ok-check_lowered-in-Ok
-returns-in_ok-check_lowered-in-Ok c = λ source accepted.
-    ((λ is. rw c.program.ensures.program at c.in-Ok.ensures.ok), rw (← c.in_ok-check_lowered-in-Ok.ensures, c.program.ensures.program) at c.in-Ok.ensures.lowered)
+returns-in_ok-check_lowered-in-Ok c = λ source accepted. (
+  (λ is. rw c.program.ensures.program at c.in-Ok.ensures.ok),
+  rw (← c.in_ok-check_lowered-in-Ok.ensures, c.program.ensures.program) at
+      c.in-Ok.ensures.lowered,
+)

@@ -3,7 +3,14 @@ use Rattle.cilkp_program.proofs.SpanLaws.{weighed_text}
 use Rattle.cilkp_program.proofs.work_and_span.weighed_elision.Goals as goal
 
 pub weigh-requires : goal.weigh-requires
-weigh-requires c = record { code = record { accepted = c.requires.obeys; limits = c.in_ok-code.ensures.limits; runs = c.in_ok-code.ensures.runs } }
+weigh-requires c = record {
+  code = record {
+    accepted = c.requires.obeys;
+    limits = c.in_ok-code.ensures.limits;
+    runs =
+        c.in_ok-code.ensures.runs;
+  };
+}
 
 pub returns : goal.returns
 returns c =

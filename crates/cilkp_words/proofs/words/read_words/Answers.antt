@@ -7,7 +7,8 @@ use Rattle.cilkp_words.proofs.words.read_words.Goals as goal
 
 pub returns-in-Ok-clause-command : goal.returns-in-Ok-clause-command
 returns-in-Ok-clause-command c =
-    accepted_words _ (words_of c.args.words.now) _ (subcommand_rows_of c.in-Ok.matches) c.in_ok-command_line.ensures c.in-Ok.ensures.kinds c.in-Ok.ensures.matches
+    accepted_words _ (words_of c.args.words.now) _ (subcommand_rows_of c.in-Ok.matches) c.in_ok-command_line.ensures c.in-Ok.ensures.kinds
+    c.in-Ok.ensures.matches
     c.command_in.ensures
 
 pub returns-in-Ok-clause-ranges : goal.returns-in-Ok-clause-ranges

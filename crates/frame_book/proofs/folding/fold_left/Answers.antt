@@ -9,4 +9,5 @@ returns-then-read g c =
     let w = c.requires.within in
     let at = row_at_read c.args.rows.now (c.args.iteration - 1) c.index-rows-place.result (omega (arith, some, w)) c.index-rows-place.is in
     let is = left_counter_is c.args.rows.now c.args.iteration c.index-rows-place.result (λ e. (omega (arith, some, e))) at in
-    c.learn.ensures ∙ (ap Some c.counter.ensures ∙ (is ∙ ap (λ b. cond b (left_row_counter c.args.rows.now c.args.iteration) c.args.folded.now) (sym c.if-read.true)))
+    c.learn.ensures ∙ (ap Some c.counter.ensures ∙ (is
+    ∙ ap (λ b. cond b (left_row_counter c.args.rows.now c.args.iteration) c.args.folded.now) (sym c.if-read.true)))

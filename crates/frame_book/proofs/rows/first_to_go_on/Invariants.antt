@@ -4,4 +4,5 @@ use Rattle.frame_book.specs.RowsOfFrames.{AreRows, RowGoesOn}
 use Rattle.frame_book.proofs.rows.first_to_go_on.Given as goal
 
 abbrev pub invariant-loop-iteration : goal.invariant-loop-iteration
-invariant-loop-iteration g l = (going : Bool) (fs : List Frame) → AreRows going fs l.rows → (m : ℕ) → m < l.iteration-index → RowGoesOn fs l.rows (get_or l.alive m 0) → ⊥
+invariant-loop-iteration g l = (going : Bool) (fs : List Frame) → AreRows going fs l.rows → (m : ℕ) → m < l.iteration-index
+    → RowGoesOn fs l.rows (get_or l.alive m 0) → ⊥

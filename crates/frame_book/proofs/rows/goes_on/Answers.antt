@@ -10,7 +10,8 @@ returns-in-Running g c = λ going fs h.
     let q = frame_of_row going fs c.args.rows.now c.args.iteration c.args.row.now h c.requires in (
       (λ x. inl (c.args.row.now, c.requires, runs, c.has_token.ensures.0 x)),
       (λ x. elim x [
-        | inl y ↦ (let s : c.args.row.now ≡ y.0 = (let z : Some c.args.row.now ≡ Some y.0 = sym c.requires ∙ y.1 in cc) in c.has_token.ensures.1 (subst (λ (r : IterationRow _). IsSome r.token) (sym s) y.3))
+        | inl y ↦ (let s : c.args.row.now ≡ y.0 = (let z : Some c.args.row.now ≡ Some y.0 = sym c.requires ∙ y.1 in cc) in
+            c.has_token.ensures.1 (subst (λ (r : IterationRow _). IsSome r.token) (sym s) y.3))
         | inr f ↦ absurd (subst (IsFreeBy fs c.args.iteration) (sym q.matches.status ∙ runs) (subst (IsFreeIn fs c.args.iteration) q.is f))
       ]),
     )

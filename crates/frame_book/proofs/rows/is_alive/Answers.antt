@@ -9,5 +9,6 @@ returns-then-iteration-rows g c = sym (row_past c.args.rows.now c.args.iteration
 
 pub returns : goal.returns
 returns g c =
-    let at = row_at_read c.args.rows.now c.args.iteration c.index-rows-iteration.result c.if-iteration-rows.false c.index-rows-iteration.is in
+    let at = row_at_read c.args.rows.now c.args.iteration c.index-rows-iteration.result c.if-iteration-rows.false c.index-rows-iteration.is
+    in
     ap not c.has_ended.ensures ∙ sym (ap is_alive_row at)

@@ -3,7 +3,11 @@ use Rattle.frame_book.proofs.Iterations.FrameRows.{row_at_read, last_ended, none
 use Rattle.frame_book.proofs.rows.last_has_ended_first.Goals as goal
 
 pub returns-then-is_empty : goal.returns-then-is_empty
-returns-then-is_empty g c = λ going fs h. ((λ x. none_ended going fs c.args.rows.now h (let t = c.if-is_empty.true in let e = c.is_empty.ensures in grind (arith))), (λ x. refl))
+returns-then-is_empty g c = λ going fs h. (
+  (λ x. none_ended going fs c.args.rows.now h
+      (let t = c.if-is_empty.true in let e = c.is_empty.ensures in grind (arith))),
+  (λ x. refl),
+)
 
 pub returns : goal.returns
 returns g c = λ going fs h.

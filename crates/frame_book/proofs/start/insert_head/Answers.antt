@@ -10,19 +10,24 @@ pub start_node-requires-clause-inserted : goal.start_node-requires-clause-insert
 start_node-requires-clause-inserted g c =
     let some : 0 < length c.args.rows.now = (let t = c.if-is_empty.false in let e = c.is_empty.ensures in grind (arith)) in
     let at = row_at_read c.args.rows.now (length c.args.rows.now - 1) c.index-rows-rows.result (omega (arith, some)) c.index-rows-rows.is in
-    let m : head_marks c.args.rows.now ≡ Some c.marks_at.result = head_marks_is c.args.rows.now c.index-rows-rows.result at ∙ ap Some (sym (c.marks_at.ensures (start_marks 0 0 0))) in
+    let m : head_marks c.args.rows.now ≡ Some c.marks_at.result = head_marks_is c.args.rows.now c.index-rows-rows.result at
+    ∙ ap Some (sym (c.marks_at.ensures (start_marks 0 0 0))) in
     subst (λ o. AreInserted (length c.args.orders.now.down.log) None o) m c.requires.inserted
 
 pub returns-clause-marks : goal.returns-clause-marks
 returns-clause-marks g c =
     let some : 0 < length c.args.rows.now = (let t = c.if-is_empty.false in let e = c.is_empty.ensures in grind (arith)) in
     let at = row_at_read c.args.rows.now (length c.args.rows.now - 1) c.index-rows-rows.result (omega (arith, some)) c.index-rows-rows.is in
-    let m : head_marks c.args.rows.now ≡ Some c.marks_at.result = head_marks_is c.args.rows.now c.index-rows-rows.result at ∙ ap Some (sym (c.marks_at.ensures (start_marks 0 0 0))) in
-    subst (λ o. c.start_node.result ≡ marks_after (length c.args.orders.now.down.log) (down_taken None o) (right_taken None o)) (sym m) c.start_node.ensures.marks
+    let m : head_marks c.args.rows.now ≡ Some c.marks_at.result = head_marks_is c.args.rows.now c.index-rows-rows.result at
+    ∙ ap Some (sym (c.marks_at.ensures (start_marks 0 0 0))) in
+    subst (λ o. c.start_node.result ≡ marks_after (length c.args.orders.now.down.log) (down_taken None o) (right_taken None o))
+    (sym m) c.start_node.ensures.marks
 
 pub returns-clause-lists : goal.returns-clause-lists
 returns-clause-lists g c =
     let some : 0 < length c.args.rows.now = (let t = c.if-is_empty.false in let e = c.is_empty.ensures in grind (arith)) in
     let at = row_at_read c.args.rows.now (length c.args.rows.now - 1) c.index-rows-rows.result (omega (arith, some)) c.index-rows-rows.is in
-    let m : head_marks c.args.rows.now ≡ Some c.marks_at.result = head_marks_is c.args.rows.now c.index-rows-rows.result at ∙ ap Some (sym (c.marks_at.ensures (start_marks 0 0 0))) in
-    subst (λ o. c.start_node.new.self ≡ with_start c.args.orders.now (down_taken None o) (right_taken None o)) (sym m) c.start_node.ensures.lists
+    let m : head_marks c.args.rows.now ≡ Some c.marks_at.result = head_marks_is c.args.rows.now c.index-rows-rows.result at
+    ∙ ap Some (sym (c.marks_at.ensures (start_marks 0 0 0))) in
+    subst (λ o. c.start_node.new.self ≡ with_start c.args.orders.now (down_taken None o) (right_taken None o))
+    (sym m) c.start_node.ensures.lists

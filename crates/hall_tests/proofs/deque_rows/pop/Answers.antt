@@ -3,4 +3,5 @@ use Rattle.hall_tests.proofs.deque_rows.pop.Goals as goal
 
 pub returns-clause-all : goal.returns-clause-all
 returns-clause-all c =
-    one_used c.args.all.now.items c.args.worker c.index_mut.result.now c.pop.new.self c.requires.worker c.index_mut.ensures.value c.pop.ensures.deques c.requires.all
+    one_used c.args.all.now.items c.args.worker c.index_mut.result.now c.pop.new.self c.requires.worker c.index_mut.ensures.value
+    c.pop.ensures.deques c.requires.all

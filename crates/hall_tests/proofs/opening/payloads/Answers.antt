@@ -14,9 +14,11 @@ loop-preserved g c =
     let passes = c.in_ok-new.ensures.passes ∙ c.in_ok-split.ensures.new ∙ same in
     record {
       same = c.in_ok-split.ensures.same ∙ same;
-      count = subst (λ xs. length xs ≡ c.loop.counter + 1) (sym items) (let n = length_push c.loop.payloads.items c.in_ok-new.field-0 in omega (arith, n, count));
+      count = subst (λ xs. length xs ≡ c.loop.counter + 1) (sym items)
+          (let n = length_push c.loop.payloads.items c.in_ok-new.field-0 in omega (arith, n, count));
       made = subst (All (λ x. HasMachine x.machine (IsMadeFor code))) (sym items)
-          (All-push (λ x. HasMachine x.machine (IsMadeFor code)) c.loop.payloads.items c.in_ok-new.field-0 c.loop.invariant.made c.in_ok-new.ensures.machine);
+          (All-push (λ x. HasMachine x.machine (IsMadeFor code)) c.loop.payloads.items c.in_ok-new.field-0 c.loop.invariant.made
+          c.in_ok-new.ensures.machine);
       passes = subst (All (λ x. x.passes ≡ c.args.passes.now)) (sym items)
           (All-push (λ x. x.passes ≡ c.args.passes.now) c.loop.payloads.items c.in_ok-new.field-0 c.loop.invariant.passes passes);
     }

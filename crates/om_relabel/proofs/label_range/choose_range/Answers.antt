@@ -57,15 +57,18 @@ pub returns-then-from-most_elements-clause-first : goal.returns-then-from-most_e
 returns-then-from-most_elements-clause-first c =
     let links = c.args.links.now in
     let s = c.extended-stretch.ensures in
-    range_first links c.requires.labelled s.stretch c.aligned_low-low.result (c.aligned_low-low.result + c.width.result) s.low s.end s.before
-    ∙ ap (λ w. first_of (elements_within (label_of links) c.aligned_low-low.result (c.aligned_low-low.result + w) (elements links))) c.width.ensures
+    range_first links c.requires.labelled s.stretch c.aligned_low-low.result (c.aligned_low-low.result + c.width.result) s.low s.end
+    s.before
+    ∙ ap (λ w. first_of (elements_within (label_of links) c.aligned_low-low.result (c.aligned_low-low.result + w) (elements links)))
+    c.width.ensures
 
 pub returns-then-from-most_elements-clause-count : goal.returns-then-from-most_elements-clause-count
 returns-then-from-most_elements-clause-count c =
     let links = c.args.links.now in
     let s = c.extended-stretch.ensures in
     range_count links s.stretch c.aligned_low-low.result (c.aligned_low-low.result + c.width.result) s.low s.end s.before s.after
-    ∙ ap (λ w. length (elements_within (label_of links) c.aligned_low-low.result (c.aligned_low-low.result + w) (elements links))) c.width.ensures
+    ∙ ap (λ w. length (elements_within (label_of links) c.aligned_low-low.result (c.aligned_low-low.result + w) (elements links)))
+    c.width.ensures
 
 pub loop-stretch-preserved : goal.loop-stretch-preserved
 loop-stretch-preserved c =
@@ -77,14 +80,16 @@ loop-stretch-preserved c =
     let width_is = c.width.ensures in
     let s_low = s.low in
     let s_end = s.end in
-    let many : most_in bits < c.extended-stretch.result.count = omega (arith, c.if-from-most_elements.false, c.from.ensures, c.most_elements.ensures) in
+    let many : most_in bits < c.extended-stretch.result.count =
+    omega (arith, c.if-from-most_elements.false, c.from.ensures, c.most_elements.ensures) in
     record {
       label = label;
       few = elim (cases_lt bits LABEL_BITS) [
         | inl less ↦ less
         | inr wide ↦ (
             let count_is = s.stretch.count_is in
-            let few = count_few links c.requires.labelled (label_of links c.extended-stretch.result.first) (label_of links c.extended-stretch.result.last + 1) in
+            let few = count_few links c.requires.labelled (label_of links c.extended-stretch.result.first)
+            (label_of links c.extended-stretch.result.last + 1) in
             let sparse = all_sparse bits c.extended-stretch.result.count wide (omega (arith, count_is, few)) in
             absurd (omega (arith, sparse, many)))
       ];

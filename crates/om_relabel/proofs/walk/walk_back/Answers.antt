@@ -20,7 +20,8 @@ index-requires c =
     let h = c.requires.labelled in
     let there = c.loop-element.invariant.there in
     let same = h.same_back in
-    let link = c.index-before.ensures ∙ get_or_default_zero links.prev.items c.loop-element.element c.index-before.result.now (omega (arith, there, same)) in
+    let link = c.index-before.ensures ∙ get_or_default_zero links.prev.items c.loop-element.element c.index-before.result.now
+    (omega (arith, there, same)) in
     let step = steps_back links h c.loop-element.element c.index-before.result.now there link c.if-before.false in
     let inside = step.there in
     omega (arith, inside)
@@ -31,7 +32,8 @@ returns-then-before-clause-rest c =
     let h = c.requires.labelled in
     let there = c.loop-element.invariant.there in
     let same = h.same_back in
-    let link = c.index-before.ensures ∙ get_or_default_zero links.prev.items c.loop-element.element c.index-before.result.now (omega (arith, there, same)) in
+    let link = c.index-before.ensures ∙ get_or_default_zero links.prev.items c.loop-element.element c.index-before.result.now
+    (omega (arith, there, same)) in
     elim c.then-before.branch [
       | then-before-via-then-before w ↦
           none_before links h c.loop-element.element c.index-before.result.now there link w.if-before.true c.args.low
@@ -39,12 +41,14 @@ returns-then-before-clause-rest c =
           let step = steps_back links h c.loop-element.element c.index-before.result.now there link w.if-before.false in
           let at = w.index.ensures ∙ get_or_default_zero links.label.items c.index-before.result.now w.index.result.now step.there in
           let less : label_of links c.index-before.result.now < c.args.low = omega (arith, at, w.if-index-low.true) in
-          none_from links h c.loop-element.element c.index-before.result.now c.args.low there link w.if-before.false less c.loop-element.invariant.above)
+          none_from links h c.loop-element.element c.index-before.result.now c.args.low there link w.if-before.false less
+          c.loop-element.invariant.above)
     ]
 
 pub overflow_add-steps : goal.overflow_add-steps
 overflow_add-steps c =
-    let few = count_few c.args.links.now c.requires.labelled (label_of c.args.links.now c.loop-element.element) (label_of c.args.links.now c.args.from) in
+    let few = count_few c.args.links.now c.requires.labelled (label_of c.args.links.now c.loop-element.element)
+    (label_of c.args.links.now c.args.from) in
     let steps = c.loop-element.invariant.steps in
     omega (arith, few, steps)
 
@@ -54,7 +58,8 @@ loop-element-smaller c =
     let h = c.requires.labelled in
     let there = c.loop-element.invariant.there in
     let same = h.same_back in
-    let link = c.index-before.ensures ∙ get_or_default_zero links.prev.items c.loop-element.element c.index-before.result.now (omega (arith, there, same)) in
+    let link = c.index-before.ensures ∙ get_or_default_zero links.prev.items c.loop-element.element c.index-before.result.now
+    (omega (arith, there, same)) in
     let step = steps_back links h c.loop-element.element c.index-before.result.now there link c.if-before.false in
     step.below
 
@@ -64,7 +69,8 @@ loop-element-preserved c =
     let h = c.requires.labelled in
     let there = c.loop-element.invariant.there in
     let same = h.same_back in
-    let link = c.index-before.ensures ∙ get_or_default_zero links.prev.items c.loop-element.element c.index-before.result.now (omega (arith, there, same)) in
+    let link = c.index-before.ensures ∙ get_or_default_zero links.prev.items c.loop-element.element c.index-before.result.now
+    (omega (arith, there, same)) in
     let step = steps_back links h c.loop-element.element c.index-before.result.now there link c.if-before.false in
     let at = c.index.ensures ∙ get_or_default_zero links.label.items c.index-before.result.now c.index.result.now step.there in
     let below = step.below in
@@ -73,5 +79,6 @@ loop-element-preserved c =
       there = step.there;
       above = omega (arith, at, c.if-index-low.false);
       back = omega (arith, below, back);
-      steps = one_more_back links h c.loop-element.element c.index-before.result.now c.args.from c.loop-element.steps step back c.loop-element.invariant.steps;
+      steps = one_more_back links h c.loop-element.element c.index-before.result.now c.args.from c.loop-element.steps step back
+          c.loop-element.invariant.steps;
     }

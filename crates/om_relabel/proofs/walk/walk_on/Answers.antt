@@ -20,7 +20,8 @@ index-requires c =
     let h = c.requires.labelled in
     let there = c.loop-element.invariant.there in
     let same = h.same in
-    let link = c.index-after.ensures ∙ get_or_default_zero links.next.items c.loop-element.element c.index-after.result.now (omega (arith, there, same)) in
+    let link = c.index-after.ensures ∙ get_or_default_zero links.next.items c.loop-element.element c.index-after.result.now
+    (omega (arith, there, same)) in
     let step = steps_on links h c.loop-element.element c.index-after.result.now there link c.if-after.false in
     let inside = step.there in
     omega (arith, inside)
@@ -31,7 +32,8 @@ returns-then-after-clause-rest c =
     let h = c.requires.labelled in
     let there = c.loop-element.invariant.there in
     let same = h.same in
-    let link = c.index-after.ensures ∙ get_or_default_zero links.next.items c.loop-element.element c.index-after.result.now (omega (arith, there, same)) in
+    let link = c.index-after.ensures ∙ get_or_default_zero links.next.items c.loop-element.element c.index-after.result.now
+    (omega (arith, there, same)) in
     elim c.then-after.branch [
       | then-after-via-then-after w ↦
           none_after links h c.loop-element.element c.index-after.result.now there link w.if-after.true c.args.end
@@ -39,12 +41,14 @@ returns-then-after-clause-rest c =
           let step = steps_on links h c.loop-element.element c.index-after.result.now there link w.if-after.false in
           let at = w.index.ensures ∙ get_or_default_zero links.label.items c.index-after.result.now w.index.result.now step.there in
           let above : c.args.end ≤ label_of links c.index-after.result.now = omega (arith, at, w.if-index-end.true) in
-          none_up_to links h c.loop-element.element c.index-after.result.now c.args.end there link w.if-after.false above c.loop-element.invariant.below)
+          none_up_to links h c.loop-element.element c.index-after.result.now c.args.end there link w.if-after.false above
+          c.loop-element.invariant.below)
     ]
 
 pub overflow_add-steps : goal.overflow_add-steps
 overflow_add-steps c =
-    let few = count_few c.args.links.now c.requires.labelled (label_of c.args.links.now c.args.from + 1) (label_of c.args.links.now c.loop-element.element + 1) in
+    let few = count_few c.args.links.now c.requires.labelled (label_of c.args.links.now c.args.from + 1)
+    (label_of c.args.links.now c.loop-element.element + 1) in
     let steps = c.loop-element.invariant.steps in
     omega (arith, few, steps)
 
@@ -55,7 +59,8 @@ loop-element-smaller c =
     let there = c.loop-element.invariant.there in
     let below = c.loop-element.invariant.below in
     let same = h.same in
-    let link = c.index-after.ensures ∙ get_or_default_zero links.next.items c.loop-element.element c.index-after.result.now (omega (arith, there, same)) in
+    let link = c.index-after.ensures ∙ get_or_default_zero links.next.items c.loop-element.element c.index-after.result.now
+    (omega (arith, there, same)) in
     let step = steps_on links h c.loop-element.element c.index-after.result.now there link c.if-after.false in
     let above = step.above in
     omega (arith, above, below)
@@ -66,7 +71,8 @@ loop-element-preserved c =
     let h = c.requires.labelled in
     let there = c.loop-element.invariant.there in
     let same = h.same in
-    let link = c.index-after.ensures ∙ get_or_default_zero links.next.items c.loop-element.element c.index-after.result.now (omega (arith, there, same)) in
+    let link = c.index-after.ensures ∙ get_or_default_zero links.next.items c.loop-element.element c.index-after.result.now
+    (omega (arith, there, same)) in
     let step = steps_on links h c.loop-element.element c.index-after.result.now there link c.if-after.false in
     let at = c.index.ensures ∙ get_or_default_zero links.label.items c.index-after.result.now c.index.result.now step.there in
     let above = step.above in
@@ -75,5 +81,6 @@ loop-element-preserved c =
       there = step.there;
       below = omega (arith, at, c.if-index-end.false);
       on = omega (arith, above, on);
-      steps = one_more_on links h c.loop-element.element c.index-after.result.now c.args.from c.loop-element.steps step on c.loop-element.invariant.steps;
+      steps = one_more_on links h c.loop-element.element c.index-after.result.now c.args.from c.loop-element.steps step on
+          c.loop-element.invariant.steps;
     }

@@ -13,7 +13,8 @@ pub parent_below-requires-clause-rising : goal.parent_below-requires-clause-risi
 parent_below-requires-clause-rising c =
     let inside = c.requires.node.0 in (
       nodes_at (nodes_of_columns c.args.columns.now) (c.args.x.iteration - 1),
-      c.as_slice-left.ensures ∙ numbers_at (nodes_of_columns c.args.columns.now) c.args.numbers.now c.requires.numbers (c.args.x.iteration - 1)
+      c.as_slice-left.ensures ∙ numbers_at (nodes_of_columns c.args.columns.now) c.args.numbers.now c.requires.numbers
+          (c.args.x.iteration - 1)
           c.index-numbers-x.result c.index-numbers-x.is (omega (arith, inside)),
       c.requires.rising (c.args.x.iteration - 1),
     )
@@ -21,9 +22,11 @@ parent_below-requires-clause-rising c =
 pub parent_below-requires-clause-few : goal.parent_below-requires-clause-few
 parent_below-requires-clause-few c =
     let inside = c.requires.node.0 in
-    let numbers = c.as_slice-left.ensures ∙ numbers_at (nodes_of_columns c.args.columns.now) c.args.numbers.now c.requires.numbers (c.args.x.iteration - 1)
+    let numbers = c.as_slice-left.ensures ∙ numbers_at (nodes_of_columns c.args.columns.now) c.args.numbers.now c.requires.numbers
+    (c.args.x.iteration - 1)
     c.index-numbers-x.result c.index-numbers-x.is (omega (arith, inside)) in
-    let long = ap length numbers ∙ length-map (nodes_at (nodes_of_columns c.args.columns.now) (c.args.x.iteration - 1)) (λ (n : Node). n.number) in
+    let long = ap length numbers ∙ length-map (nodes_at (nodes_of_columns c.args.columns.now) (c.args.x.iteration - 1))
+    (λ (n : Node). n.number) in
     let few = c.requires.few (c.args.x.iteration - 1) in
     omega (arith, long, few)
 
@@ -35,7 +38,8 @@ returns-in-Some c =
     let numbers = c.as_slice-left.ensures ∙ numbers_at columns c.args.numbers.now c.requires.numbers (c.args.x.iteration - 1)
     c.index-numbers-x.result c.index-numbers-x.is (omega (arith, inside)) in
     let wide = length-map c.args.columns.now (λ d. d.nodes) in
-    let nodes = c.as_slice.ensures ∙ nodes_read c.args.columns.now c.args.x.iteration c.index-columns-x.result (omega (arith, inside, wide)) in
+    let nodes = c.as_slice.ensures ∙ nodes_read c.args.columns.now c.args.x.iteration c.index-columns-x.result
+    (omega (arith, inside, wide)) in
     c.parent_below.ensures left numbers
     ∙ (ap (λ ns. parent_by (slice_index_or ns c.args.x.index no_node).kind c.in-Some.above.joined
     (last_up_to left (slice_index_or ns c.args.x.index no_node).number)) nodes

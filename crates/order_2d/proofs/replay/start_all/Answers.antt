@@ -26,7 +26,8 @@ loop-m-preserved c =
       rows = one_more_started columns starts c.requires.run.columns_ok c.requires.run.starts_ok c.loop-m.m rows
           c.loop-m.invariant.rows within x.iteration x.index (c.requires.run.starts_ok.once c.loop-m.m within)
           c.push_started.new.rows.items
-          (c.in_ok-push_started.ensures ∙ ap (λ n. slice_set rows x.iteration (row_at rows x.iteration ++ n ∷ [])) c.start_next-node.ensures.node);
+          (c.in_ok-push_started.ensures ∙ ap (λ n. slice_set rows x.iteration (row_at rows x.iteration ++ n ∷ []))
+          c.start_next-node.ensures.node);
       marks = c.in_ok-push.ensures.items ∙ marks_more columns starts c.loop-m.m c.loop-m.marks.items c.start_next-node.result.marks within
           c.loop-m.invariant.marks (ap (λ (n : StartedNode). n.marks) c.start_next-node.ensures.node);
       lists = c.start_next-node.ensures.lists;

@@ -7,7 +7,8 @@ use Rattle.order_2d.specs.OrderPairs.{AreInserted, down_taken, right_taken}
 use Rattle.order_2d.specs.StartedNodes.{HasLists, IsAbove, joined_from}
 use Rattle.order_2d.proofs.LeftParentSearch.{joined_is}
 use Rattle.order_2d.proofs.ListsSoFar.{has_room, lists_more, log_long, marks_are}
-use Rattle.order_2d.proofs.ParentMarks.{above_is, above_node, above_there, inserted, is_above, left_there, parents_are, taken_down, taken_right}
+use Rattle.order_2d.proofs.ParentMarks.{above_is, above_node, above_there, inserted, is_above, left_there, parents_are, taken_down}
+use Rattle.order_2d.proofs.ParentMarks.{taken_right}
 use Rattle.order_2d.proofs.replay.start_next.Goals as goal
 use Rattle.pipe_model.specs.Orders.Starts.{start_at, start_number}
 use Rattle.pipe_model.specs.Orders.TwoOrders.{down_first_taken}
@@ -75,7 +76,8 @@ returns-clause-node c =
     (ap₂ down_taken both.0 both.1 ∙ taken_down columns starts x.iteration x.index)
     (ap₂ right_taken both.0 both.1 ∙ taken_right columns starts x.iteration x.index) in
     let joined = c.joined_index.ensures ∙ (ap₂ joined_from c.left_index-left.ensures above
-    ∙ joined_is columns x.iteration x.index (above_node columns starts x.iteration x.index) (is_above columns starts x.iteration x.index)) in
+    ∙ joined_is columns x.iteration x.index (above_node columns starts x.iteration x.index) (is_above columns starts x.iteration x.index))
+    in
     ap₂ (λ a b. let n : StartedNode = record { marks = a; joined = b } in n) marks joined
 
 pub returns-clause-lists : goal.returns-clause-lists

@@ -15,6 +15,9 @@ returns c =
     let new : Column = record { nodes = c.push.new.self; end = None } in
     subst (λ es. IsPlayed MOST_ITERATIONS es c.push-2.new.self.items c.push-3.new.self.items)
     (sym (c.in_ok-push-4.ensures.ok ∙ ap (λ i. play.events ++ Begin i ∷ []) (c.len-i.ensures ∙ play.columns.ok.0)))
-    (subst (λ cs. IsPlayed MOST_ITERATIONS (play.events ++ Begin (length play.columns.items) ∷ []) cs c.push-3.new.self.items) (sym c.in_ok-push-2.ensures.items)
-    (subst (λ ss. IsPlayed MOST_ITERATIONS (play.events ++ Begin (length play.columns.items) ∷ []) (play.columns.items ++ new ∷ []) ss) (sym c.in_ok-push-3.ensures.items)
-    (begun c.requires new (c.in_ok-push.ensures.ok ∙ ap (λ x. x ++ node_of Zero (pos 0) ∷ []) c.new-nodes.ensures) c.if-not-may_begin.ensures)))
+    (subst (λ cs. IsPlayed MOST_ITERATIONS (play.events ++ Begin (length play.columns.items) ∷ []) cs c.push-3.new.self.items)
+    (sym c.in_ok-push-2.ensures.items)
+    (subst (λ ss. IsPlayed MOST_ITERATIONS (play.events ++ Begin (length play.columns.items) ∷ []) (play.columns.items ++ new ∷ []) ss)
+    (sym c.in_ok-push-3.ensures.items)
+    (begun c.requires new (c.in_ok-push.ensures.ok ∙ ap (λ x. x ++ node_of Zero (pos 0) ∷ []) c.new-nodes.ensures)
+    c.if-not-may_begin.ensures)))

@@ -20,6 +20,8 @@ returns c =
     subst (λ es. IsPlayed MOST_ITERATIONS es c.push_node.new.columns.items (set c.args.play.now.statuses.items c.args.i Running))
     (sym c.in_ok-push.ensures.ok)
     (entered c.requires.played c.args.i c.requires.begun c.args.kind c.args.number c.push_node.new.columns.items c.requires.named
-    (subst (λ n. c.args.kind ≡ Wait → LeftHasPassed (control_after c.args.play.now.events).frames c.args.i n) number c.if-not-may_enter.ensures)
-    (c.in_ok-push_node.ensures.nodes ∙ ap (λ n. set (nodes_of_columns columns) c.args.i (nodes_at (nodes_of_columns columns) c.args.i ++ node_of c.args.kind n ∷ [])) number)
+    (subst (λ n. c.args.kind ≡ Wait → LeftHasPassed (control_after c.args.play.now.events).frames c.args.i n) number
+    c.if-not-may_enter.ensures)
+    (c.in_ok-push_node.ensures.nodes ∙ ap (λ n. set (nodes_of_columns columns) c.args.i
+    (nodes_at (nodes_of_columns columns) c.args.i ++ node_of c.args.kind n ∷ [])) number)
     c.in_ok-push_node.ensures.len)

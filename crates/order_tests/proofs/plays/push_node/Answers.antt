@@ -11,4 +11,5 @@ returns-clause-nodes c =
     let columns = c.args.columns.now.items in
     map-set (λ (x : Column). x.nodes) columns c.args.i (record { nodes = c.push.new.self; end = c.index_mut-column.result.now.end })
     ∙ ap (λ x. set (nodes_of_columns columns) c.args.i x) (c.in_ok-push.ensures.ok
-    ∙ ap (λ x. x ++ c.args.node ∷ []) (sym (column_nodes columns c.args.i c.index_mut-column.result.now c.requires c.index_mut-column.ensures.value)))
+    ∙ ap (λ x. x ++ c.args.node ∷ []) (sym (column_nodes columns c.args.i c.index_mut-column.result.now c.requires
+    c.index_mut-column.ensures.value)))

@@ -1,7 +1,8 @@
 use Rattle.std.proofs.Common.{rules, ◌≡◌, ◌∙◌, ap, length, Ok, Err}
 use Rattle.std.proofs.lemmas.Result.{err_from_is_err_and}
 use Rattle.pipe_model.specs.Language.SyntaxTree.{tree_of}
-use Rattle.pipe_check.proofs.Regions.{few_cells, cells_fail, at_init, init_fits, init_fails, at_test, test_fits, test_fails, at_body, body_fits, body_fails, at_last}
+use Rattle.pipe_check.proofs.Regions.{few_cells, cells_fail, at_init, init_fits, init_fails, at_test, test_fits, test_fails, at_body}
+use Rattle.pipe_check.proofs.Regions.{body_fits, body_fails, at_last}
 use Rattle.pipe_check.proofs.program.check_marks.Goals as goal
 
 pub of-requires-clause-few : goal.of-requires-clause-few
@@ -15,7 +16,8 @@ returns-in_err-cells-clause-err c =
 pub overflow_cast-next : goal.overflow_cast-next
 overflow_cast-next c =
     let few = few_cells (tree_of c.args.program.now) c.requires in
-    let counted : c.len-next.result ≡ length c.args.program.now.cells = c.len-next.ensures ∙ ap length (c.in_ok-cells.ensures.cells ∙ c.as_slice.ensures) in
+    let counted : c.len-next.result ≡ length c.args.program.now.cells = c.len-next.ensures
+    ∙ ap length (c.in_ok-cells.ensures.cells ∙ c.as_slice.ensures) in
     search (rules, few, counted)
 
 pub check_region-requires : goal.check_region-requires

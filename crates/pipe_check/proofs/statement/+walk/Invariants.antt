@@ -18,5 +18,6 @@ invariant-check_block-loop-s l = record {
       ≡ first_fault l.fn.next (marks_of_statements l.fn.scope (statements_of l.block.statements.items));
   numbers : l.next + length (marks_of_statements l.scope (statements_of (drop l.s-index l.s-items)))
       ≡ l.fn.next + length (marks_of_statements l.fn.scope (statements_of l.block.statements.items));
-  scope_after : after_statements l.scope (statements_of (drop l.s-index l.s-items)) ≡ after_statements l.fn.scope (statements_of l.block.statements.items);
+  scope_after : after_statements l.scope (statements_of (drop l.s-index l.s-items)) ≡ after_statements l.fn.scope
+      (statements_of l.block.statements.items);
 }

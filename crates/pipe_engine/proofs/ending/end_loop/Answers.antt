@@ -17,7 +17,8 @@ merge-requires-clause-book g c =
     let end = c.in_ok-book.field-0 in
     let ensured = c.in_ok-book.ensures in
     let log = c.in_ok-book_log.ensures in
-    let h = finished_end c.args.hall.before c.args.key.seen end.book end.shards.items ensured.len ensured.ended ensured.stop log.sound log.finished in
+    let h = finished_end c.args.hall.before c.args.key.seen end.book end.shards.items ensured.len ensured.ended ensured.stop log.sound
+    log.finished in
     subst BookRises (sym log.log) (can_be_merged c.args.hall.before end.book end.shards.items h).0
 
 pub merge-requires-clause-shards : goal.merge-requires-clause-shards
@@ -25,7 +26,8 @@ merge-requires-clause-shards g c =
     let end = c.in_ok-book.field-0 in
     let ensured = c.in_ok-book.ensures in
     let log = c.in_ok-book_log.ensures in
-    let h = finished_end c.args.hall.before c.args.key.seen end.book end.shards.items ensured.len ensured.ended ensured.stop log.sound log.finished in
+    let h = finished_end c.args.hall.before c.args.key.seen end.book end.shards.items ensured.len ensured.ended ensured.stop log.sound
+    log.finished in
     subst (All ShardRises) (sym c.in_ok-shard_logs.ensures) (can_be_merged c.args.hall.before end.book end.shards.items h).1
 
 pub gather-requires-clause-cells : goal.gather-requires-clause-cells
@@ -33,22 +35,29 @@ gather-requires-clause-cells g c =
     let end = c.in_ok-book.field-0 in
     let ensured = c.in_ok-book.ensures in
     let log = c.in_ok-book_log.ensures in
-    let h = finished_end c.args.hall.before c.args.key.seen end.book end.shards.items ensured.len ensured.ended ensured.stop log.sound log.finished in
+    let h = finished_end c.args.hall.before c.args.key.seen end.book end.shards.items ensured.len ensured.ended ensured.stop log.sound
+    log.finished in
     let merged = subst (λ (l : List BookEntry). AreMerged l (logs_of end.shards.items) c.in_ok-run_log.run_log.events) log.log
-    (subst (λ (ls : List (List ShardEntry)). AreMerged c.in_ok-book_log.book_log ls c.in_ok-run_log.run_log.events) c.in_ok-shard_logs.ensures c.in_ok-run_log.ensures.events) in
-    let all = races (tree_of c.args.prepared.now.checked.now) c.args.prepared.now.input.now c.args.throttle c.args.hall end.book end.shards.items
+    (subst (λ (ls : List (List ShardEntry)). AreMerged c.in_ok-book_log.book_log ls c.in_ok-run_log.run_log.events)
+    c.in_ok-shard_logs.ensures c.in_ok-run_log.ensures.events) in
+    let all = races (tree_of c.args.prepared.now.checked.now) c.args.prepared.now.input.now c.args.throttle c.args.hall end.book
+    end.shards.items
     c.in_ok-run_log.run_log c.requires.opened ensured.constants h merged c.in_ok-run_log.ensures.columns in
-    subst (λ (l : List (CellId × Found)). AllPairs (λ (a : CellId × Found) (b : CellId × Found). a.0 ≢ b.0) l) (sym (c.as_slice-2.ensures.value ∙ c.in_ok-found.ensures ∙ ap found_by c.as_slice.ensures.value)) all.cells
+    subst (λ (l : List (CellId × Found)). AllPairs (λ (a : CellId × Found) (b : CellId × Found). a.0 ≢ b.0) l)
+    (sym (c.as_slice-2.ensures.value ∙ c.in_ok-found.ensures ∙ ap found_by c.as_slice.ensures.value)) all.cells
 
 pub gather-requires-clause-instances : goal.gather-requires-clause-instances
 gather-requires-clause-instances g c =
     let end = c.in_ok-book.field-0 in
     let ensured = c.in_ok-book.ensures in
     let log = c.in_ok-book_log.ensures in
-    let h = finished_end c.args.hall.before c.args.key.seen end.book end.shards.items ensured.len ensured.ended ensured.stop log.sound log.finished in
+    let h = finished_end c.args.hall.before c.args.key.seen end.book end.shards.items ensured.len ensured.ended ensured.stop log.sound
+    log.finished in
     let merged = subst (λ (l : List BookEntry). AreMerged l (logs_of end.shards.items) c.in_ok-run_log.run_log.events) log.log
-    (subst (λ (ls : List (List ShardEntry)). AreMerged c.in_ok-book_log.book_log ls c.in_ok-run_log.run_log.events) c.in_ok-shard_logs.ensures c.in_ok-run_log.ensures.events) in
-    let all = races (tree_of c.args.prepared.now.checked.now) c.args.prepared.now.input.now c.args.throttle c.args.hall end.book end.shards.items
+    (subst (λ (ls : List (List ShardEntry)). AreMerged c.in_ok-book_log.book_log ls c.in_ok-run_log.run_log.events)
+    c.in_ok-shard_logs.ensures c.in_ok-run_log.ensures.events) in
+    let all = races (tree_of c.args.prepared.now.checked.now) c.args.prepared.now.input.now c.args.throttle c.args.hall end.book
+    end.shards.items
     c.in_ok-run_log.run_log c.requires.opened ensured.constants h merged c.in_ok-run_log.ensures.columns in
     subst (λ (l : List (CellId × Found)). All (λ (f : CellId × Found). IsFoundIn (column_nodes c.in_ok-run_log.run_log.columns) f.1) l)
     (sym (c.as_slice-2.ensures.value ∙ c.in_ok-found.ensures ∙ ap found_by c.as_slice.ensures.value)) all.instances
@@ -58,9 +67,11 @@ returns g c =
     let end = c.in_ok-book.field-0 in
     let ensured = c.in_ok-book.ensures in
     let log = c.in_ok-book_log.ensures in
-    let h = finished_end c.args.hall.before c.args.key.seen end.book end.shards.items ensured.len ensured.ended ensured.stop log.sound log.finished in
+    let h = finished_end c.args.hall.before c.args.key.seen end.book end.shards.items ensured.len ensured.ended ensured.stop log.sound
+    log.finished in
     let merged = subst (λ (l : List BookEntry). AreMerged l (logs_of end.shards.items) c.in_ok-run_log.run_log.events) log.log
-    (subst (λ (ls : List (List ShardEntry)). AreMerged c.in_ok-book_log.book_log ls c.in_ok-run_log.run_log.events) c.in_ok-shard_logs.ensures c.in_ok-run_log.ensures.events) in
+    (subst (λ (ls : List (List ShardEntry)). AreMerged c.in_ok-book_log.book_log ls c.in_ok-run_log.run_log.events)
+    c.in_ok-shard_logs.ensures c.in_ok-run_log.ensures.events) in
     let nodes = column_nodes c.in_ok-run_log.run_log.columns in
     let reports = c.in_ok-reports.reports in
     let gathered : AreGathered c.in_ok-run_log.run_log (found_by end.shards.items) reports = record {

@@ -12,4 +12,5 @@ loop-shard-preserved c =
     let longer : found_by (take (i + 1) shards) ≡ found_by (take i shards) ++ found_in x =
     ap found_by (take_more shards i c.shard-item.result c.loop-shard-test.true) ∙ flat_map-append found_in (take i shards) (x ∷ [])
     ∙ ap (λ l. found_by (take i shards) ++ l) (append-nil (found_in x)) in
-    c.in_ok-extend_from_slice.ensures.items ∙ ap₂ (λ xs ys. xs ++ ys) c.loop-shard.invariant (c.as_slice.ensures.value ∙ c.in_ok-found.ensures ∙ ap found_in c.shard-item.is) ∙ sym longer
+    c.in_ok-extend_from_slice.ensures.items ∙ ap₂ (λ xs ys. xs ++ ys) c.loop-shard.invariant
+    (c.as_slice.ensures.value ∙ c.in_ok-found.ensures ∙ ap found_in c.shard-item.is) ∙ sym longer

@@ -17,5 +17,6 @@ loop-shard-preserved c =
 pub returns : goal.returns
 returns c =
     let end = YieldsList-end (YieldsList-from_vec {s = c.into_iter-shard-iterator.result} c.args.shards.items (search rules) (search rules))
-    c.loop-shard.yielded c.loop-shard.shard-iterator c.loop-shard.yielded_by c.next.result c.next.new.self c.in-None.is c.next.ensures.steps in
+    c.loop-shard.yielded c.loop-shard.shard-iterator c.loop-shard.yielded_by c.next.result c.next.new.self c.in-None.is
+    c.next.ensures.steps in
     c.loop-shard.invariant ∙ ap logs_of (sym (map-id c.loop-shard.yielded) ∙ end.0)

@@ -18,11 +18,18 @@ loop-ends-preserved g c =
     let longer = c.in_ok-push.ensures.items in
     let fewer = s.ensures.items in
     record {
-      made = ends_push c.loop-ends.lanes.items c.push.new.self.items _ c.loop-ends.yielded c.in-Some.ends longer h.made c.new-worker.ensures.ends;
+      made = ends_push c.loop-ends.lanes.items c.push.new.self.items _ c.loop-ends.yielded c.in-Some.ends longer h.made
+          c.new-worker.ensures.ends;
       seats = omega (arith, h.seats, s.ensures.len, length_push c.loop-ends.yielded c.in-Some.ends);
       left = All_init (λ seat. g.H.Hall.named seat ≡ named) _ _ left;
-      named = rw longer (All-push (λ lane. g.H.Hall.named (seat_in lane) ≡ named) _ _ h.named (All_last (λ seat. g.H.Hall.named seat ≡ named) _ _ left));
-      numbers = rw longer (numbered_push _ _ h.numbers (omega (arith, c.new-worker.ensures.number, c.len-in-loop-ends.ensures, c.loop-ends.lanes.ok.0)));
+      named = rw longer (All-push (λ lane. g.H.Hall.named (seat_in lane) ≡ named) _ _ h.named
+          (All_last (λ seat. g.H.Hall.named seat ≡ named) _ _ left));
+      numbers = rw longer (numbered_push _ _ h.numbers (omega (
+        arith,
+        c.new-worker.ensures.number,
+        c.len-in-loop-ends.ensures,
+        c.loop-ends.lanes.ok.0,
+      )));
       sums = λ f. sums_move f _ _ _ _ _ _ longer fewer (h.sums f);
     }
 
@@ -34,5 +41,13 @@ returns-clause-seats g c = λ f.
     c.loop-ends.yielded c.loop-ends.ends-iterator c.loop-ends.yielded_by c.next.result c.next.new.self c.in-None.is c.next.ensures.steps in
     let all : c.loop-ends.yielded ≡ c.args.ends.items = sym (map-id c.loop-ends.yielded) ∙ end.0 in
     let count = ap length all in
-    let none = sum_of_none f c.loop-ends.seats.items (omega (arith, h.seats, count, c.requires.seats, c.loop-ends.seats.ok.0, c.args.seats.ok.0, c.args.ends.ok.0)) in
+    let none = sum_of_none f c.loop-ends.seats.items (omega (
+      arith,
+      h.seats,
+      count,
+      c.requires.seats,
+      c.loop-ends.seats.ok.0,
+      c.args.seats.ok.0,
+      c.args.ends.ok.0,
+    )) in
     omega (arith, sum, none)

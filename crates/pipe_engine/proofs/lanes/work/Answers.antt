@@ -14,7 +14,8 @@ returns-clause-all g c =
     let count : length after ≡ length before.items = c.lend.ensures.length ∙ ap length value in
     let whole = written_back before.len after before.items (omega (arith, count, before.ok.0)) (omega (arith, before.ok.0)) in
     let same = rw value at c.lend.ensures.workers in
-    subst (λ l. AreAllEnds (map ends_in l)) (sym whole) (all_ends_stay before.items after count (λ k d l. (same k d l).deques) c.requires.all)
+    subst (λ l. AreAllEnds (map ends_in l)) (sym whole)
+    (all_ends_stay before.items after count (λ k d l. (same k d l).deques) c.requires.all)
 
 pub returns-clause-tokens : goal.returns-clause-tokens
 returns-clause-tokens g c =

@@ -46,5 +46,6 @@ returns-clause-drives g c =
     let few : cells_of tree ≤ 4294967296 =
     few_cells tree (subst (λ n. n ≤ 65538) c.cell_count-count.ensures.count c.cell_count-count.ensures.few) in
     map_both c.hall_after.result c.hall_after.ensures.constants c.hall_after.ensures.constants (λ opened constants same.
-    can_drive g.B.RunCode.code opened.0.hall (constants_of book) c.args.prepared.now.code.now c.args.prepared.now.input.now constants c.requires.code
+    can_drive g.B.RunCode.code opened.0.hall (constants_of book) c.args.prepared.now.code.now c.args.prepared.now.input.now constants
+    c.requires.code
     (sym (ap (λ (b : BookState). b.input) made.book)) (subst (λ (t : SyntaxTree). cells_of t ≤ 4294967296) (sym tree_is) few))

@@ -17,10 +17,12 @@ loop-event-preserved c =
     let so_far = accesses_of (accesses_after (take i events)) in
     let e = get_or events i (Begin 0) in
     let longer : accesses_of (accesses_after (take (i + 1) events)) ≡ so_far ++ one_access e =
-    ap (λ (l : List Event). accesses_of (accesses_after l)) (take_more events i (Begin 0) c.loop-event-test.true) ∙ accesses_with (take i events) e in
+    ap (λ (l : List Event). accesses_of (accesses_after l)) (take_more events i (Begin 0) c.loop-event-test.true)
+    ∙ accesses_with (take i events) e in
     record {
       state = λ store before s.
           let h = c.replay_event.ensures.state store (before ++ so_far) (c.loop-event.invariant.state store before s) in
-          subst (λ (l : List Access). IsStateAfter store l c.replay_event.new.cells) (append_assoc before so_far (one_access e) ∙ ap (λ l. before ++ l) (sym longer)) h;
+          subst (λ (l : List Access). IsStateAfter store l c.replay_event.new.cells)
+          (append_assoc before so_far (one_access e) ∙ ap (λ l. before ++ l) (sym longer)) h;
       shard = c.replay_event.ensures.shard ∙ c.loop-event.invariant.shard;
     }

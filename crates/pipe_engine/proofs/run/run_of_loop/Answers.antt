@@ -14,10 +14,12 @@ pub end_after_loop-requires-clause-state : goal.end_after_loop-requires-clause-s
 end_after_loop-requires-clause-state c =
     let tree = tree_of c.args.prepared.now.checked.now in
     let before = init_accesses (whole_of tree c.args.prepared.now.input.now) in
-    subst (λ (es : List Event). IsStateAfter (store_of tree) (before ++ accesses_of (accesses_after es)) c.replay.new.cells) c.as_slice.ensures
+    subst (λ (es : List Event). IsStateAfter (store_of tree) (before ++ accesses_of (accesses_after es)) c.replay.new.cells)
+    c.as_slice.ensures
     (c.replay.ensures.state (store_of tree) before c.requires.state)
 
 pub returns : goal.returns
 returns c =
-    ran_to_end (tree_of c.args.prepared.now.checked.now) c.args.prepared.now.input.now c.args.throttle c.args.end c.in_ok-output.field-0 c.requires.accepted
+    ran_to_end (tree_of c.args.prepared.now.checked.now) c.args.prepared.now.input.now c.args.throttle c.args.end c.in_ok-output.field-0
+    c.requires.accepted
     c.requires.end c.in_ok-output.ensures

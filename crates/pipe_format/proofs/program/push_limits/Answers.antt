@@ -10,7 +10,9 @@ returns c =
     let stages : SFits w64 c.args.limits.now.stages = search rules in
     let steps : SFits w64 c.args.limits.now.steps = search rules in
     let emits : SFits w64 c.args.limits.now.emits = search rules in
-    limits_by_parts c.args.limits.now c.args.text.now.items c.push_field.new.text.items c.push_field-2.new.text.items c.push_field-3.new.text.items
+    limits_by_parts c.args.limits.now c.args.text.now.items c.push_field.new.text.items c.push_field-2.new.text.items
+    c.push_field-3.new.text.items
     c.push_field-4.new.text.items _
-    (simp to_z-of_z at c.in_ok-push_field.ensures) (simp to_z-of_z at c.in_ok-push_field-2.ensures) (simp to_z-of_z at c.in_ok-push_field-3.ensures)
+    (simp to_z-of_z at c.in_ok-push_field.ensures) (simp to_z-of_z at c.in_ok-push_field-2.ensures)
+    (simp to_z-of_z at c.in_ok-push_field-3.ensures)
     (simp to_z-of_z at c.in_ok-push_field-4.ensures) c.in_ok-extend_from_slice.ensures.items

@@ -5,6 +5,7 @@ use Rattle.pipe_format.proofs.program.push_loop.Goals as goal
 
 pub returns : goal.returns
 returns c =
-    on_ok c.push_line.result (λ h. loop_by_parts (expression_of c.args.test.now) (statements_of c.args.body.now.statements.items) c.args.text.now.items
+    on_ok c.push_line.result (λ h. loop_by_parts (expression_of c.args.test.now) (statements_of c.args.body.now.statements.items)
+    c.args.text.now.items
     c.push_between.new.text.items c.push_block.new.text.items _ c.in_ok-push_between.ensures c.in_ok-push_block.ensures h)
     c.push_line.ensures

@@ -13,13 +13,15 @@ use Rattle.pipe_hall.proofs.close.close.Goals as goal
 
 pub learn_all-requires-clause-lists : goal.learn_all-requires-clause-lists
 learn_all-requires-clause-lists g c = λ k l.
-    ((c.free_table.ensures.closed c.take_all-book.result (shard_in c.take_all-book.new.shards.items) c.take_all-book.ensures.holds).has_shards k l).identities
+    ((c.free_table.ensures.closed c.take_all-book.result (shard_in c.take_all-book.new.shards.items)
+    c.take_all-book.ensures.holds).has_shards k l).identities
 
 pub raise_stop-requires : goal.raise_stop-requires
 raise_stop-requires g c =
     let b = c.take_all-book.result in
     let closed = c.free_table.ensures.closed b (shard_in c.take_all-book.new.shards.items) c.take_all-book.ensures.holds in
-    let ended = learned_hall _ _ b (shard_in c.take_all-book.new.shards.items) (shard_in c.learn_all.new.shards.items) closed c.learn_all.ensures.learned in
+    let ended = learned_hall _ _ b (shard_in c.take_all-book.new.shards.items) (shard_in c.learn_all.new.shards.items) closed
+    c.learn_all.ensures.learned in
     let is = c.as_slice.ensures.value in
     let n = c.learn_all.ensures.len in
     record {
@@ -38,7 +40,8 @@ returns-clause-constants g c =
     let l = c.learn_all.ensures in
     let r = c.raise_stop.ensures in
     let last_seen = c.take_all-book.new.seat.me.0.it.seen in
-    let w = close_is key last_seen b c.learn_all.new.book end xs ys c.as_slice.result.now closed l.learned l.len c.as_slice.ensures.value l.book r.going r.stopped in
+    let w = close_is key last_seen b c.learn_all.new.book end xs ys c.as_slice.result.now closed l.learned l.len c.as_slice.ensures.value
+    l.book r.going r.stopped in
     sym (ap (λ (h : HallState). h.hall.constants) c.hall.view_is) ∙ ap (λ k. Some k) w.constants
 
 pub returns-clause-ended : goal.returns-clause-ended
@@ -52,7 +55,8 @@ returns-clause-ended g c =
     let l = c.learn_all.ensures in
     let r = c.raise_stop.ensures in
     let last_seen = c.take_all-book.new.seat.me.0.it.seen in
-    let w = close_is key last_seen b c.learn_all.new.book end xs ys c.as_slice.result.now closed l.learned l.len c.as_slice.ensures.value l.book r.going r.stopped in
+    let w = close_is key last_seen b c.learn_all.new.book end xs ys c.as_slice.result.now closed l.learned l.len c.as_slice.ensures.value
+    l.book r.going r.stopped in
     let seen = c.take_all-book.ensures.seen ∙ ap (λ (k : WorkerSeat). k.seen) c.key.view_is in
     let before = ap (λ (h : HallState). h.before) c.hall.view_is in
     subst (λ es. EndedHall (start_of end c.args.hall.before) es end (shard_in ys)) seen
@@ -69,7 +73,8 @@ returns-clause-stop g c =
     let l = c.learn_all.ensures in
     let r = c.raise_stop.ensures in
     let last_seen = c.take_all-book.new.seat.me.0.it.seen in
-    let w = close_is key last_seen b c.learn_all.new.book end xs ys c.as_slice.result.now closed l.learned l.len c.as_slice.ensures.value l.book r.going r.stopped in
+    let w = close_is key last_seen b c.learn_all.new.book end xs ys c.as_slice.result.now closed l.learned l.len c.as_slice.ensures.value
+    l.book r.going r.stopped in
     w.stop
 
 pub returns-clause-stopped : goal.returns-clause-stopped
@@ -83,6 +88,7 @@ returns-clause-stopped g c =
     let l = c.learn_all.ensures in
     let r = c.raise_stop.ensures in
     let last_seen = c.take_all-book.new.seat.me.0.it.seen in
-    let w = close_is key last_seen b c.learn_all.new.book end xs ys c.as_slice.result.now closed l.learned l.len c.as_slice.ensures.value l.book r.going r.stopped in
+    let w = close_is key last_seen b c.learn_all.new.book end xs ys c.as_slice.result.now closed l.learned l.len c.as_slice.ensures.value
+    l.book r.going r.stopped in
     let seen = c.take_all-book.ensures.seen ∙ ap (λ (k : WorkerSeat). k.seen) c.key.view_is in
     λ stopped. stopped_later last_seen (events_of end.log) w.ended.closed.seen (ap (λ es. (state_after es).stopped) seen ∙ stopped)

@@ -8,7 +8,8 @@ use Rattle.pipe_hall.proofs.close.free_table.Goals as goal
 pub loop-i-preserved : goal.loop-i-preserved
 loop-i-preserved g c =
     let o = c.take.ensures.others in
-    one_taken (slots_filled c.loop-i.closed.slots) (slots_filled c.take.new.self.slots) c.loop-i.i (slots_len c.loop-i.closed.slots) (slots_len c.take.new.self.slots) o.1 o.2 c.loop-i.invariant
+    one_taken (slots_filled c.loop-i.closed.slots) (slots_filled c.take.new.self.slots) c.loop-i.i (slots_len c.loop-i.closed.slots)
+    (slots_len c.take.new.self.slots) o.1 o.2 c.loop-i.invariant
 
 pub returns : goal.returns
 returns g c = record {

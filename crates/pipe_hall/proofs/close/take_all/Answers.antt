@@ -26,8 +26,10 @@ loop-k-preserved g c =
     record {
       table = t.own.0 ∙ c.loop-k.invariant.table;
       room = (let q = c.push_reserved.ensures.capacity in let r = c.loop-k.invariant.room in omega (arith, q, r));
-      holds = subst (λ (xs : List ShardValue). HoldsFirst start b xs (c.loop-k.k + 1) w) (sym (c.push_reserved.ensures.items ∙ ap (λ (x : ShardValue). c.loop-k.shards.items ++ x ∷ []) c.into_inner.ensures))
-          (first_more start c.loop-k.seat.me.0.it w b c.loop-k.shards.items c.loop-k.k c.take_shard-shard.result (ap (λ (k : ViewAndSlots g.row.M.Denot). k.0.it) t.taken) c.loop-k.invariant.holds);
+      holds = subst (λ (xs : List ShardValue). HoldsFirst start b xs (c.loop-k.k + 1) w)
+          (sym (c.push_reserved.ensures.items ∙ ap (λ (x : ShardValue). c.loop-k.shards.items ++ x ∷ []) c.into_inner.ensures))
+          (first_more start c.loop-k.seat.me.0.it w b c.loop-k.shards.items c.loop-k.k c.take_shard-shard.result
+          (ap (λ (k : ViewAndSlots g.row.M.Denot). k.0.it) t.taken) c.loop-k.invariant.holds);
     }
 
 pub push_reserved-requires : goal.push_reserved-requires
@@ -52,7 +54,9 @@ returns-clause-holds g c =
     let start = c.take_book-book.new.seat.me.0.it in
     let b = c.take_book-book.result in
     subst (λ x. HoldsAll c.loop-k.seat.me.0.it.held x (shard_in c.loop-k.shards.items)) (sym c.into_inner-2.ensures)
-    (holds_all start c.loop-k.seat.me.0.it b c.loop-k.shards.items (subst (λ (n : ℕ). HoldsFirst start b c.loop-k.shards.items n c.loop-k.seat.me.0.it) all c.loop-k.invariant.holds))
+    (holds_all start c.loop-k.seat.me.0.it b c.loop-k.shards.items
+    (subst (λ (n : ℕ). HoldsFirst start b c.loop-k.shards.items n c.loop-k.seat.me.0.it) all c.loop-k.invariant.holds))
 
 pub returns-clause-seen : goal.returns-clause-seen
-returns-clause-seen g c = c.loop-k.invariant.holds.seen ∙ ap (λ (k : ViewAndSlots g.row.M.Denot). k.0.it.seen) c.take_book-book.ensures.taken
+returns-clause-seen g c = c.loop-k.invariant.holds.seen ∙ ap (λ (k : ViewAndSlots g.row.M.Denot). k.0.it.seen)
+    c.take_book-book.ensures.taken

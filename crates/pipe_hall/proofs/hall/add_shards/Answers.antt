@@ -27,10 +27,22 @@ loop-number-preserved g c =
           omega (arith, n, m, r, cap));
       shards = (
         s.0 ++ x ∷ [],
-        p.items ∙ (ap (λ l. l ++ spaced (slots.Shard x)) s.1 ∙ (append_assoc init (shard_slots s.0) (spaced (slots.Shard x)) ∙ ap (λ l. init ++ l) (sym (shard_more g.row.M.Denot s.0 x)))),
+        p.items ∙ (ap (λ l. l ++ spaced (slots.Shard x)) s.1
+            ∙ (append_assoc init (shard_slots s.0) (spaced (slots.Shard x)) ∙ ap (λ l. init ++ l) (sym (shard_more g.row.M.Denot s.0 x)))),
         (let n = length-append s.0 (x ∷ []) in let l = s.2 in omega (arith, n, l)),
         new_more (IsNewShard c.args.before.now (tree_of c.args.checked.now) c.args.passes.now) s.0 x c.loop-number.number s.2 s.3
-            (subst (λ (y : ShardValue). IsNewShard c.args.before.now (tree_of c.args.checked.now) c.args.passes.now c.loop-number.number y) (sym c.in_ok-kept.ensures)
-            (record { number = e.number; part = e.part; cells = e.cells; histories = e.histories; room = e.room; log = e.log; last = e.last; lists = lists })),
+            (subst (λ (y : ShardValue). IsNewShard c.args.before.now (tree_of c.args.checked.now) c.args.passes.now c.loop-number.number y)
+            (sym c.in_ok-kept.ensures)
+            (record {
+              number = e.number;
+              part = e.part;
+              cells = e.cells;
+              histories = e.histories;
+              room = e.room;
+              log = e.log;
+              last =
+                  e.last;
+              lists = lists;
+            })),
       );
     }

@@ -22,7 +22,9 @@ loop-gap-preserved g c =
     let e = c.push_reserved.ensures in
     let init = c.args.slots.now.items in
     record {
-      items = e.items ∙ (ap (λ l. l ++ slots.Out ∷ []) i.items ∙ (append_assoc init (replicate c.loop-gap._gap slots.Out) (slots.Out ∷ []) ∙ ap (λ l. init ++ l) (replicate_more c.loop-gap._gap slots.Out)));
+      items = e.items ∙ (ap (λ l. l ++ slots.Out ∷ []) i.items
+          ∙ (append_assoc init (replicate c.loop-gap._gap slots.Out) (slots.Out ∷ []) ∙ ap (λ l. init ++ l)
+          (replicate_more c.loop-gap._gap slots.Out)));
       capacity = e.capacity ∙ i.capacity;
     }
 

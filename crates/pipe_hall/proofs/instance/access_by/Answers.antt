@@ -17,7 +17,8 @@ access-done-requires-clause-ready g c =
     let z = c.args.run.now.table_id in
     let v = c.args.run.now.me.0.it in
     let x = c.get_mut-lent.result.now in
-    let snapshot = subst (ShardSnapshot v (1 + c.args.cell.0 % 16)) (sym c.get_mut-lent.ensures.value) c.take_shard-shard.ensures.snapshot in
+    let snapshot = subst (ShardSnapshot v (1 + c.args.cell.0 % 16)) (sym c.get_mut-lent.ensures.value) c.take_shard-shard.ensures.snapshot
+    in
     can_begin v (1 + c.args.cell.0 % 16) x c.args.cell.0 r.constants snapshot r.knows
     (subst (λ (x : HallName). c.args.cell.0 < length (store_of x.tree).values) (ap (name_of z) r.knows) c.requires.cell) refl
 
@@ -27,7 +28,8 @@ access-done-requires-clause-lists g c =
     let z = c.args.run.now.table_id in
     let v = c.args.run.now.me.0.it in
     let x = c.get_mut-lent.result.now in
-    let snapshot = subst (ShardSnapshot v (1 + c.args.cell.0 % 16)) (sym c.get_mut-lent.ensures.value) c.take_shard-shard.ensures.snapshot in
+    let snapshot = subst (ShardSnapshot v (1 + c.args.cell.0 % 16)) (sym c.get_mut-lent.ensures.value) c.take_shard-shard.ensures.snapshot
+    in
     same_lists v (1 + c.args.cell.0 % 16) x r.constants c.args.passes.now snapshot r.knows
     (subst (λ (x : HallName). AreSeenLists (Some c.args.passes.now) x.lists.down x.lists.right) (ap (name_of z) r.knows) c.requires.lists)
 
@@ -36,7 +38,8 @@ return_shard-requires-clause-made g c =
     let q = c.requires.runs in
     let r = q.1 in
     let x = c.get_mut-lent.result.now in
-    let t = lent_shard g.row.M.Denot c.args.run.now.me c.take_shard-shard.new.seat.me (1 + c.args.cell.0 % 16) c.take_shard-shard.result x c.get_mut-lent.ensures.value c.take_shard-shard.ensures.taken in
+    let t = lent_shard g.row.M.Denot c.args.run.now.me c.take_shard-shard.new.seat.me (1 + c.args.cell.0 % 16) c.take_shard-shard.result x
+    c.get_mut-lent.ensures.value c.take_shard-shard.ensures.taken in
     let i = 1 + c.args.cell.0 % 16 in
     let e = c.access-done.ensures in
     let m1 = c.take_shard-shard.new.seat.me in
@@ -46,7 +49,8 @@ return_shard-requires-clause-made g c =
       ap (λ (k : ViewAndSlots g.row.M.Denot). k.0.it.held) t ∙ ap (λ hs. (i, TheShard x) ∷ hs) r.held,
       ⊎_elim (λ (s : c.access-done.new.self ≡ x). inl s)
           (λ (s : MadeBy r.run_data (c.args.cell.0 % 16) x c.access-done.new.self). inr (r.run_data, run_is, s))
-          (either_made c.args.who q.0 q.2 c.args.now c.args.joined c.args.cell.0 q.3 q.4 c.args.write x c.access-done.new.self c.args.trace.now c.access-done.new.trace c.access-done.result r.run_data r.fields e.none e.made),
+          (either_made c.args.who q.0 q.2 c.args.now c.args.joined c.args.cell.0 q.3 q.4 c.args.write x c.access-done.new.self
+          c.args.trace.now c.access-done.new.trace c.access-done.result r.run_data r.fields e.none e.made),
     )
 
 pub returns-clause-ran : goal.returns-clause-ran
@@ -55,19 +59,23 @@ returns-clause-ran g c =
     let r = q.1 in
     let x = c.get_mut-lent.result.now in
     let y = c.access-done.new.self in
-    let t = lent_shard g.row.M.Denot c.args.run.now.me c.take_shard-shard.new.seat.me (1 + c.args.cell.0 % 16) c.take_shard-shard.result x c.get_mut-lent.ensures.value c.take_shard-shard.ensures.taken in
+    let t = lent_shard g.row.M.Denot c.args.run.now.me c.take_shard-shard.new.seat.me (1 + c.args.cell.0 % 16) c.take_shard-shard.result x
+    c.get_mut-lent.ensures.value c.take_shard-shard.ensures.taken in
     let i = 1 + c.args.cell.0 % 16 in
     let e = c.access-done.ensures in
     let v = c.args.run.now.me.0.it in
     let held = ap (λ (k : ViewAndSlots g.row.M.Denot). k.0.it.held) t ∙ ap (λ hs. (i, TheShard x) ∷ hs) r.held in
     let given = c.return_shard.ensures.given x held in
     let w : SeatView = after_shard c.take_shard-shard.new.seat.me.0.it x y in
-    given ∙ ap (λ (u : SeatView). (view_of u, [])) (run_done c.args.who q.0 q.2 c.args.now c.args.joined c.args.cell.0 q.3 q.4 c.args.write x y c.args.trace.now c.access-done.new.trace c.access-done.result v w refl
-    (ap (λ (k : ViewAndSlots g.row.M.Denot). k.0.it.constants) t) (ap (λ (k : ViewAndSlots g.row.M.Denot). k.0.it.seen) t) (ap (λ (k : ViewAndSlots g.row.M.Denot). k.0.it.met) t) (ap (λ (k : ViewAndSlots g.row.M.Denot). k.0.it.tokens) t) r.held
+    given ∙ ap (λ (u : SeatView). (view_of u, [])) (run_done c.args.who q.0 q.2 c.args.now c.args.joined c.args.cell.0 q.3 q.4 c.args.write
+    x y c.args.trace.now c.access-done.new.trace c.access-done.result v w refl
+    (ap (λ (k : ViewAndSlots g.row.M.Denot). k.0.it.constants) t) (ap (λ (k : ViewAndSlots g.row.M.Denot). k.0.it.seen) t)
+    (ap (λ (k : ViewAndSlots g.row.M.Denot). k.0.it.met) t) (ap (λ (k : ViewAndSlots g.row.M.Denot). k.0.it.tokens) t) r.held
     (ap (λ (k : ViewAndSlots g.row.M.Denot). after_log k.0.it.run x.log y.log) t) e.none e.made)
 
 pub returns-clause-trace : goal.returns-clause-trace
 returns-clause-trace g c =
     let q = c.requires.runs in
     let e = c.access-done.ensures in
-    trace_done c.args.who q.0 q.2 c.args.now c.args.joined c.args.cell.0 q.3 q.4 c.args.write c.get_mut-lent.result.now c.access-done.new.self c.args.trace.now c.access-done.new.trace c.access-done.result e.none e.made
+    trace_done c.args.who q.0 q.2 c.args.now c.args.joined c.args.cell.0 q.3 q.4 c.args.write c.get_mut-lent.result.now
+    c.access-done.new.self c.args.trace.now c.access-done.new.trace c.access-done.result e.none e.made

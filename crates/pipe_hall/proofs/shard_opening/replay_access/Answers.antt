@@ -16,7 +16,8 @@ returns-then-count-access-clause-state c = λ store before h.
 pub returns-then-access-number-clause-state : goal.returns-then-access-number-clause-state
 returns-then-access-number-clause-state c = λ store before h.
     c.other_accesses_change_nothing.ensures store before c.args.access c.args.cells.now
-    (λ own. let e : c.args.access.cell.0 % 16 ≡ c.args.number = ap (λ n. c.args.access.cell.0 % n) (sym c.requires.shards) ∙ own ∙ c.requires.number in
+    (λ own. let e : c.args.access.cell.0 % 16 ≡ c.args.number = ap (λ n. c.args.access.cell.0 % n) (sym c.requires.shards) ∙ own
+    ∙ c.requires.number in
     absurd (omega arith)) h
 
 pub returns-in-Write-clause-state : goal.returns-in-Write-clause-state

@@ -15,7 +15,8 @@ returns-then-before-eq-MOST_NUMBERS-clause-flaw c =
     one_more c.args.is_negative c.args.bytes.now _ _ c.count_digits-count.ensures.counted (omega arith) (omega arith)
 
 pub returns-in_default-clause-flaw : goal.returns-in_default-clause-flaw
-returns-in_default-clause-flaw c = wide c.args.is_negative c.args.bytes.now _ _ c.count_digits-count.ensures.counted (omega arith) (omega arith)
+returns-in_default-clause-flaw c = wide c.args.is_negative c.args.bytes.now _ _ c.count_digits-count.ensures.counted (omega arith)
+    (omega arith)
     c.in_default.ensures.none
 
 pub returns-then-not-ends_number-clause-flaw : goal.returns-then-not-ends_number-clause-flaw

@@ -13,4 +13,5 @@ pub returns-clause-piece : goal.returns-clause-piece
 returns-clause-piece c =
     let r = c.requires in
     let fits : SFits w64 c.in-Some.value = search rules in
-    simp to_z-of_z (number_piece _ _ _ _ _ _ r.front r.letter r.digit c.digits-more.ensures.counted refl c.in-Some.ensures.some (omega (arith, ints, fits)))
+    simp to_z-of_z (number_piece _ _ _ _ _ _ r.front r.letter r.digit c.digits-more.ensures.counted refl c.in-Some.ensures.some
+    (omega (arith, ints, fits)))

@@ -10,4 +10,5 @@ returns-then-is_blank-clause-piece c =
     ABlank _ _ parts (sym c.is_blank.ensures ∙ c.if-is_blank.true)
 
 pub returns-then-begins_comment-clause-piece : goal.returns-then-begins_comment-clause-piece
-returns-then-begins_comment-clause-piece c = comment_piece _ _ (sym c.begins_comment.ensures ∙ c.if-begins_comment.true) c.line_bytes.ensures.counted
+returns-then-begins_comment-clause-piece c = comment_piece _ _ (sym c.begins_comment.ensures ∙ c.if-begins_comment.true)
+    c.line_bytes.ensures.counted

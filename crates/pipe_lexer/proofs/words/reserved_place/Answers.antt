@@ -15,4 +15,5 @@ loop-place-preserved c =
     below_more _ _ c.loop-place.invariant here
 
 pub returns : goal.returns
-returns c = sym (position_is_none (λ word. bytes_eq word c.args.text.now) reserved_words [] (λ j h. c.loop-place.invariant j (omega (arith, h))))
+returns c = sym (position_is_none (λ word. bytes_eq word c.args.text.now) reserved_words []
+    (λ j h. c.loop-place.invariant j (omega (arith, h))))

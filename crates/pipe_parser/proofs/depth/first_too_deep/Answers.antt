@@ -36,7 +36,8 @@ overflow_add-closed c =
 
 pub overflow_sub-result : goal.overflow_sub-result
 overflow_sub-result c =
-    let within = counted_within _ _ _ _ c.loop-first.invariant in omega (arith, within.0, c.len-all.ensures, c.len.ensures, ap length c.in-Some.ensures.some)
+    let within = counted_within _ _ _ _ c.loop-first.invariant in
+    omega (arith, within.0, c.len-all.ensures, c.len.ensures, ap length c.in-Some.ensures.some)
 
 pub returns-then-saturating_sub-gt-MOST_OPEN_BRACKETS-clause-some : goal.returns-then-saturating_sub-gt-MOST_OPEN_BRACKETS-clause-some
 returns-then-saturating_sub-gt-MOST_OPEN_BRACKETS-clause-some c =

@@ -5,7 +5,8 @@ use Rattle.std.proofs.lemmas.Int.{to_z-of_z}
 use Rattle.pipe_model.specs.declared.symbol.Symbol.TheVariants as terminals
 use Rattle.grammar_laws.specs.Reading.{Reads, ReadsChain, Ends}
 use Rattle.pipe_model.specs.Language.SyntaxTree.{expression_of}
-use Rattle.pipe_parser.proofs.ExpressionFronts.{fault_chained, fault_closed, joins, passes_join, name_read, element_read, number_read, more_read, take_read, iter_read, negative_read, not_read, bracket_read}
+use Rattle.pipe_parser.proofs.ExpressionFronts.{fault_chained, fault_closed, joins, passes_join, name_read, element_read, number_read}
+use Rattle.pipe_parser.proofs.ExpressionFronts.{more_read, take_read, iter_read, negative_read, not_read, bracket_read}
 use Rattle.pipe_parser.proofs.Results.{if_ok, if_err}
 use Rattle.pipe_parser.proofs.expression.+expression.Goals as goal
 
@@ -14,12 +15,14 @@ extend-loop-code-preserved t c =
     let front = c.in-Some.ensures.some in
     let next : c.args.level + 1 ≡ suc c.args.level = omega arith in
     let right : Reads (suc c.args.level) c.in-Some.following (expression_of c.in_ok-second.second) c.in_ok-second.after =
-    subst (λ level. Reads level c.in-Some.following (expression_of c.in_ok-second.second) c.in_ok-second.after) next c.in_ok-second.ensures.ok in
+    subst (λ level. Reads level c.in-Some.following (expression_of c.in_ok-second.second) c.in_ok-second.after) next
+    c.in_ok-second.ensures.ok in
     rw (c.in_ok-boxed.ensures, c.in_ok-boxed-2.ensures) (record {
       extends = λ e end g. c.loop-code.invariant.extends e end
           (joins c.args.level c.in-Some.code _ _ e c.loop-code.rest c.in-Some.following c.in_ok-second.after end front.0 front.1 right g);
       passes = λ below. c.loop-code.invariant.passes below
-          ∙ passes_join c.args.level c.in-Some.code _ c.loop-code.rest c.in-Some.following c.in_ok-second.after c.requires.from front.0 front.1 right below;
+          ∙ passes_join c.args.level c.in-Some.code _ c.loop-code.rest c.in-Some.following c.in_ok-second.after c.requires.from front.0
+          front.1 right below;
       shorter = omega (arith, c.loop-code.invariant.shorter, c.in_ok-second.ensures.shorter, ap length front.0);
     })
 
@@ -41,7 +44,8 @@ read_expression-returns-clause-ok t c =
 
 pub read_expression-returns-clause-err : goal.read_expression-returns-clause-err
 read_expression-returns-clause-err t c =
-    if_err _ _ c.extend.result (λ x g. fault_chained (c.args.level + 1) _ _ _ (omega arith) c.in_ok-first.ensures.ok x g) c.extend.ensures.err
+    if_err _ _ c.extend.result (λ x g. fault_chained (c.args.level + 1) _ _ _ (omega arith) c.in_ok-first.ensures.ok x g)
+    c.extend.ensures.err
 
 pub read_named-returns-in_ok-boxed-in-Some-clause-ok : goal.read_named-returns-in_ok-boxed-in-Some-clause-ok
 read_named-returns-in_ok-boxed-in-Some-clause-ok t c =

@@ -1,6 +1,7 @@
 use Rattle.std.proofs.Common.{rules, ◌≡◌, ◌≢◌, ◌<◌, arith, take}
 use Rattle.grammar_laws.specs.ProgramMachine.{Outside, Unexpected, TooLong, judge, program}
-use Rattle.pipe_parser.proofs.Parses.{at_place, count_within, cut_within, cut_long_within, cut_unexpected, cut_too_long, cut_too_deep, cut_read}
+use Rattle.pipe_parser.proofs.Parses.{at_place, count_within, cut_within, cut_long_within, cut_unexpected, cut_too_long, cut_too_deep}
+use Rattle.pipe_parser.proofs.Parses.{cut_read}
 use Rattle.pipe_parser.proofs.parse.fault_up_to.Goals as goal
 
 pub returns-in_default : goal.returns-in_default

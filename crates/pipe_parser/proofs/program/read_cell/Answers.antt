@@ -22,4 +22,5 @@ returns-clause-ok c =
     let fits : SFits w64 c.in_ok-value.value = search rules in
     let same : c.in_ok-name.name ≡ c.in-Some.name.now = search rules in
     rw same (simp to_z-of_z
-    (cell_read _ _ _ _ _ _ _ _ _ c.in-Some.ensures.some c.in_ok-size.ensures.ok c.in_ok-third.ensures.ok c.in_ok-value.ensures.ok c.in_ok-rest.ensures.ok))
+    (cell_read _ _ _ _ _ _ _ _ _ c.in-Some.ensures.some c.in_ok-size.ensures.ok c.in_ok-third.ensures.ok c.in_ok-value.ensures.ok
+    c.in_ok-rest.ensures.ok))

@@ -9,7 +9,8 @@ loop-declared-preserved c =
     record {
       reads = λ ds end r. rw cells
           (one_more_cell _ _ _ _ _ _ c.loop-declared.invariant.reads c.in-Some.ensures.some c.in_ok-cell.ensures.ok ds end r);
-      passes = λ below. c.loop-declared.invariant.passes below ∙ passes_one_cell _ _ _ _ c.in-Some.ensures.some c.in_ok-cell.ensures.ok below;
+      passes = λ below. c.loop-declared.invariant.passes below ∙ passes_one_cell _ _ _ _ c.in-Some.ensures.some c.in_ok-cell.ensures.ok
+          below;
     }
 
 pub returns-in_err-cell-clause-err : goal.returns-in_err-cell-clause-err

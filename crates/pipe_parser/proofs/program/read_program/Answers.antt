@@ -1,6 +1,7 @@
 use Rattle.std.proofs.Common.{◌≡◌, ◌<◌, length, arith}
 use Rattle.std.proofs.lemmas.Result.{err_from_is_err_and}
-use Rattle.pipe_parser.proofs.ProgramFronts.{refuses_limits, refuses_cells, refuses_init, refuses_loop, refuses_last, refuses_more, program_read}
+use Rattle.pipe_parser.proofs.ProgramFronts.{refuses_limits, refuses_cells, refuses_init, refuses_loop, refuses_last, refuses_more}
+use Rattle.pipe_parser.proofs.ProgramFronts.{program_read}
 use Rattle.pipe_parser.proofs.program.read_program.Goals as goal
 
 pub returns-in_err-limits-clause-err : goal.returns-in_err-limits-clause-err
@@ -21,7 +22,8 @@ returns-in_err-init-clause-err c =
 pub returns-in_err-test-clause-err : goal.returns-in_err-test-clause-err
 returns-in_err-test-clause-err c =
     let p = err_from_is_err_and c.from_residual-in_err-test.result c.from_residual-in_err-test.ensures.1 in
-    rw (p.1, p.2) (refuses_loop _ _ _ _ _ _ _ c.in_ok-limits.ensures.ok c.in_ok-cells.ensures.ok c.in_ok-init.ensures.ok _ c.in_err-test.ensures.err)
+    rw (p.1, p.2) (refuses_loop _ _ _ _ _ _ _ c.in_ok-limits.ensures.ok c.in_ok-cells.ensures.ok c.in_ok-init.ensures.ok _
+    c.in_err-test.ensures.err)
 
 pub returns-in_err-last-clause-err : goal.returns-in_err-last-clause-err
 returns-in_err-last-clause-err c =

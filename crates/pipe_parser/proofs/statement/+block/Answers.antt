@@ -5,7 +5,8 @@ use Rattle.grammar_laws.specs.Reading.{ReadsOneMore}
 use Rattle.pipe_model.proofs.NestedBlocks.{if_seen, while_seen}
 use Rattle.grammar_laws.proofs.ProgramPassing.{passes_statement}
 use Rattle.pipe_parser.proofs.Results.{if_ok}
-use Rattle.pipe_parser.proofs.StatementFronts.{before_one, block_read, fault_body, fault_then, fault_else, wait_read, continue_read, while_read, if_read, part_read, part_missing}
+use Rattle.pipe_parser.proofs.StatementFronts.{before_one, block_read, fault_body, fault_then, fault_else, wait_read, continue_read}
+use Rattle.pipe_parser.proofs.StatementFronts.{while_read, if_read, part_read, part_missing}
 use Rattle.pipe_parser.proofs.statement.+block.Goals as goal
 
 pub read_block-returns-in-Some-clause-ok : goal.read_block-returns-in-Some-clause-ok
@@ -38,7 +39,8 @@ read_if-returns-clause-ok t c =
     (if_read _ _ _ _ _ _ _ c.in_ok-e.ensures.ok c.in_ok-then.ensures.ok c.in_ok-other.ensures.ok)
 
 pub read_part-returns-in-Some-clause-ok : goal.read_part-returns-in-Some-clause-ok
-read_part-returns-in-Some-clause-ok t c = if_ok _ _ c.read_block.result (λ x b. part_read _ _ _ _ _ c.in-Some.ensures.some b) c.read_block.ensures.ok
+read_part-returns-in-Some-clause-ok t c = if_ok _ _ c.read_block.result (λ x b. part_read _ _ _ _ _ c.in-Some.ensures.some b)
+    c.read_block.ensures.ok
 
 pub read_part-returns-in-None-clause-ok : goal.read_part-returns-in-None-clause-ok
 read_part-returns-in-None-clause-ok t c = rw c.new.ensures.items (part_missing _ _ c.in-None.ensures.none)

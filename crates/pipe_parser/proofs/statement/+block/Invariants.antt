@@ -25,8 +25,10 @@ decreases-read_block l = 8 * length l.symbols.now + 1
 -- whatever is read from the rest comes after the statements found so far
 abbrev pub invariant-read_block-loop-following : goal.invariant-read_block-loop-following
 invariant-read_block-loop-following l = record {
-  reads : (ss : Statements) (end : List Symbol) → ReadsStatements 256 l.rest ss end → ReadsStatements 256 l.initial.rest (before l.statements.items ss) end;
-  passes : (below : List Want) → judge 256 l.initial.rest (Outside (machine.Statements ∷ below)) ≡ judge 256 l.rest (Outside (machine.Statements ∷ below));
+  reads : (ss : Statements) (end : List Symbol) → ReadsStatements 256 l.rest ss end → ReadsStatements 256 l.initial.rest
+      (before l.statements.items ss) end;
+  passes : (below : List Want) → judge 256 l.initial.rest (Outside (machine.Statements ∷ below)) ≡ judge 256 l.rest
+      (Outside (machine.Statements ∷ below));
   shorter : length l.rest ≤ length l.initial.rest;
 }
 

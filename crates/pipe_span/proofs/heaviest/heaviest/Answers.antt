@@ -16,8 +16,10 @@ returns-then-is_empty c =
     let copies : c.in_ok-copies.copies ≡ node_columns c.args.columns.now = c.in_ok-copies.ensures ∙ ap node_columns c.as_slice.ensures in
     let none : length c.in_ok-copies.copies ≡ 0 = grind (arith, c.is_empty.ensures, c.if-is_empty.true) in
     let nodes : node_columns c.args.columns.now ≡ [] = sym copies ∙ nil_from_length c.in_ok-copies.copies none in
-    no_columns _ c.args.steps.now c.as_slice-3.result.now c.sum_of-work.result _ _ (to_z_pos w64 c.sum_of-work.result (omega (arith, below)))
-    c.sum_of-work.ensures.sum (c.as_slice-3.ensures.value ∙ c.in_ok-weights.ensures ∙ ap weights_of c.as_slice-2.ensures) nodes c.new.ensures
+    no_columns _ c.args.steps.now c.as_slice-3.result.now c.sum_of-work.result _ _
+    (to_z_pos w64 c.sum_of-work.result (omega (arith, below)))
+    c.sum_of-work.ensures.sum (c.as_slice-3.ensures.value ∙ c.in_ok-weights.ensures ∙ ap weights_of c.as_slice-2.ensures) nodes
+    c.new.ensures
 
 pub heaviest_path-requires-clause-weights : goal.heaviest_path-requires-clause-weights
 heaviest_path-requires-clause-weights c =
@@ -27,7 +29,8 @@ pub returns : goal.returns
 returns c =
     let below = c.sum_of-work.ensures.below in
     let less = c.in_ok-span.ensures.below in
-    let columns : c.as_slice-4.result.now ≡ node_columns c.args.columns.now = c.as_slice-4.ensures ∙ c.in_ok-copies.ensures ∙ ap node_columns c.as_slice.ensures in
+    let columns : c.as_slice-4.result.now ≡ node_columns c.args.columns.now = c.as_slice-4.ensures ∙ c.in_ok-copies.ensures
+    ∙ ap node_columns c.as_slice.ensures in
     let same : c.as_slice-5.result.now ≡ c.as_slice-3.result.now = c.as_slice-5.ensures.value ∙ sym c.as_slice-3.ensures.value in
     let heaviest : IsHeaviest (node_columns c.args.columns.now) c.as_slice-3.result.now c.from_vec.result c.in_ok-span.span =
     rw (← columns, ← same, c.from_vec.ensures) c.in_ok-span.ensures.heaviest in

@@ -16,6 +16,9 @@ traced-requires-clause-few c =
 
 pub returns-clause-heaviest : goal.returns-clause-heaviest
 returns-clause-heaviest c =
-    let rows : AreRows c.args.columns.now c.args.weights.now c.as_slice-rows.result.now = rw c.as_slice-rows.ensures c.in_ok-table.ensures in
-    heaviest_to c.args.columns.now c.args.weights.now c.as_slice-rows.result.now c.heaviest_last-last.result _ _ rows c.heaviest_last-last.ensures
-    c.in_ok-path.ensures.traced c.in_ok-path.ensures.weight (ap (λ (r : List Entry). (entry_at r c.heaviest_last-last.result.index).weight) c.entries_of.ensures)
+    let rows : AreRows c.args.columns.now c.args.weights.now c.as_slice-rows.result.now = rw c.as_slice-rows.ensures c.in_ok-table.ensures
+    in
+    heaviest_to c.args.columns.now c.args.weights.now c.as_slice-rows.result.now c.heaviest_last-last.result _ _ rows
+    c.heaviest_last-last.ensures
+    c.in_ok-path.ensures.traced c.in_ok-path.ensures.weight
+    (ap (λ (r : List Entry). (entry_at r c.heaviest_last-last.result.index).weight) c.entries_of.ensures)

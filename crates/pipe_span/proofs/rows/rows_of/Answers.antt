@@ -36,10 +36,13 @@ loop-i-preserved c =
     let b = c.loop-i.invariant.0 in
     let d = ap length c.nodes_of-right.ensures in
     let len = c.in_ok-row.ensures.whole ∙ d in
-    let entries : AreEntries (left_nodes c.args.columns.now c.loop-i.i) (nodes_at c.args.columns.now c.loop-i.i) (left_row c.loop-i.rows c.loop-i.i)
+    let entries : AreEntries (left_nodes c.args.columns.now c.loop-i.i) (nodes_at c.args.columns.now c.loop-i.i)
+    (left_row c.loop-i.rows c.loop-i.i)
     c.in_ok-row.row c.args.weights.now (instances_before c.args.columns.now c.loop-i.i) =
-    rw (← c.nodes_left_of-left.ensures, ← c.nodes_of-right.ensures, ← c.as_slice.ensures, ← c.entries_left_of-left_row.ensures, ← b) c.in_ok-row.ensures.entries in
-    let below : IsBounded (instances_before c.args.columns.now c.loop-i.i + length (nodes_at c.args.columns.now c.loop-i.i)) c.in_ok-row.row =
+    rw (← c.nodes_left_of-left.ensures, ← c.nodes_of-right.ensures, ← c.as_slice.ensures, ← c.entries_left_of-left_row.ensures, ← b)
+    c.in_ok-row.ensures.entries in
+    let below : IsBounded (instances_before c.args.columns.now c.loop-i.i + length (nodes_at c.args.columns.now c.loop-i.i))
+    c.in_ok-row.row =
     rw (← c.nodes_of-right.ensures, ← b) c.in_ok-row.ensures.below in (
       omega (arith, a, b, d),
       one_more_row _ _ _ _ _ _ c.loop-i.invariant.1 len entries below c.in_ok-push.ensures.ok,

@@ -21,7 +21,16 @@ returns-then-is_some c =
     let steps = c.new-then-is_some-2.ensures ∙ ap (λ l. map pos (steps_from tree input 0 (init_accesses w) l)) (sym none) in
     let can = can_be_weighed tree c.args.code.now input c.limits-limits.result _ _ c.requires.code c.limits-limits.ensures.limits
     c.limits-limits.ensures.in_range columns steps in
-    record { elision = columns; counted = steps; columns = can.full; rising = can.rising; whole = can.whole; few = can.few; steps = can.each }
+    record {
+      elision = columns;
+      counted = steps;
+      columns = can.full;
+      rising = can.rising;
+      whole = can.whole;
+      few = can.few;
+      steps =
+          can.each;
+    }
 
 pub returns : goal.returns
 returns c =
@@ -35,4 +44,13 @@ returns c =
     let steps = c.in_ok-run.ensures.steps ∙ ap (λ l. map pos (steps_from tree input 0 (init_accesses w) l)) (sym all) in
     let can = can_be_weighed tree c.args.code.now input c.limits-limits.result _ _ c.requires.code c.limits-limits.ensures.limits
     c.limits-limits.ensures.in_range columns steps in
-    record { elision = columns; counted = steps; columns = can.full; rising = can.rising; whole = can.whole; few = can.few; steps = can.each }
+    record {
+      elision = columns;
+      counted = steps;
+      columns = can.full;
+      rising = can.rising;
+      whole = can.whole;
+      few = can.few;
+      steps =
+          can.each;
+    }

@@ -30,18 +30,25 @@ returns-clause-advances g c =
     let last = c.run_stage_by-end.new.memory in
     let d = (pipeline_of tree input).behaviour i in
     let ready = subst (λ (r : List (List ℤ)). g.M.Stands.ready_at tree input old.payload i r) c.requires.replies
-    (subst (λ (n : ℕ). g.M.Stands.ready_at tree input old.payload n (seated_replies (g.M.Stands.tie old.payload))) c.requires.iteration c.requires.given.ready) in
+    (subst (λ (n : ℕ). g.M.Stands.ready_at tree input old.payload n (seated_replies (g.M.Stands.tie old.payload))) c.requires.iteration
+    c.requires.given.ready) in
     let at = subst (λ h. HasMachine h (λ m. IsAtInstance code tree input m i given)) c.take_machine-machine.ensures.machine
     (g.met.M.Runs.machine_ready tree input old.payload i given ready) in
-    let before = subst (λ (x : List ℤ). StandsFor c.args.code.now (cells_of tree) x fresh.run (after_instances d given)) (sym c.requires.drives.input_is)
-    (subst (λ (x : FlatCode). StandsFor x (cells_of tree) input fresh.run (after_instances d given)) (sym c.requires.drives.code_is) at.stands) in
+    let before = subst (λ (x : List ℤ). StandsFor c.args.code.now (cells_of tree) x fresh.run (after_instances d given))
+    (sym c.requires.drives.input_is)
+    (subst (λ (x : FlatCode). StandsFor x (cells_of tree) input fresh.run (after_instances d given))
+    (sym c.requires.drives.code_is) at.stands) in
     let ran = c.run_stage_by-end.ensures.ran (after_instances d given) before in
-    let ran_here = subst (λ (x : List ℤ). RanInstance code (cells_of tree) x (after_instances d given) first.made last.made machine.run end) c.requires.drives.input_is
-    (subst (λ (x : FlatCode). RanInstance x (cells_of tree) c.args.input.now (after_instances d given) first.made last.made machine.run end) c.requires.drives.code_is ran) in
-    let from_empty = subst (λ (m : MemoryState). RanInstance code (cells_of tree) input (after_instances d given) m.made last.made machine.run end)
+    let ran_here = subst (λ (x : List ℤ). RanInstance code (cells_of tree) x (after_instances d given) first.made last.made machine.run
+    end) c.requires.drives.input_is
+    (subst (λ (x : FlatCode). RanInstance x (cells_of tree) c.args.input.now (after_instances d given) first.made last.made machine.run
+    end) c.requires.drives.code_is ran) in
+    let from_empty = subst (λ (m : MemoryState). RanInstance code (cells_of tree) input (after_instances d given) m.made last.made
+    machine.run end)
     c.new-memory.ensures ran_here in
     let ended = has_ended code (cells_of tree) input (after_instances d given) machine.run trace end
-    (subst (λ (l : List Access). RanInstance code (cells_of tree) input (after_instances d given) [] l machine.run end) c.finish-lent.ensures.made from_empty) in
+    (subst (λ (l : List Access). RanInstance code (cells_of tree) input (after_instances d given) [] l machine.run end)
+    c.finish-lent.ensures.made from_empty) in
     let can : CanRun code tree machine = record { code_of = at.can.code_of; made = c.run_stage_by-end.ensures.made code at.can.made } in
     let held = c.finish-lent.ensures.held in
     let tie = c.put_machine.ensures.tie in
@@ -60,7 +67,8 @@ returns-clause-advances g c =
           (subst (λ (n : ℕ). IsAtInstance code tree input machine n (given ++ replies_of trace ∷ [])) (sym held.iteration_is)
           (record {
             can = can;
-            stands = subst (StandsFor code (cells_of tree) input machine.run) (sym (after_instances-push d given (replies_of trace))) (ended.stands names);
+            stands = subst (StandsFor code (cells_of tree) input machine.run) (sym (after_instances-push d given (replies_of trace)))
+                (ended.stands names);
           }))));
       stopped = λ is. c.finish-lent.ensures.stopped (stops_only end last.stopped is c.run_stage_by-end.ensures.stops);
     }

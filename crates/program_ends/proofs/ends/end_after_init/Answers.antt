@@ -17,6 +17,7 @@ returns c = λ ran.
     let input = c.args.prepared.now.input.now in
     let w = whole_of tree input in
     let some : is_some c.args.trap ≡ true = c.requires.trapped in
-    let all = c.into_output.ensures.output (store_of tree) (init_accesses w) c.requires.state (has_output c.args.cells c.requires.serves.whole) in
+    let all = c.into_output.ensures.output (store_of tree) (init_accesses w) c.requires.state
+    (has_output c.args.cells c.requires.serves.whole) in
     trapped_before w ran initial_state c.into_output.result c.args.trap some (c.requires.trap ∙ sym (first_or_none (init_trap w)))
     (all ∙ ap (output_of (store_of tree)) (sym (append-nil (init_accesses w))))

@@ -20,21 +20,24 @@ least_trap-trap-requires-clause-count c =
     let accepted = c.requires.accepted in
     let run = c.requires.run in
     subst (λ l. length l ≤ 4294967296) (sym (c.as_slice.ensures ∙ c.requires.columns))
-    (columns_are_small (tree_of c.args.prepared.now.checked.now) c.args.prepared.now.input.now run.0 c.args.run_log.now.events accepted run.1).count
+    (columns_are_small (tree_of c.args.prepared.now.checked.now) c.args.prepared.now.input.now run.0 c.args.run_log.now.events accepted
+    run.1).count
 
 pub least_trap-trap-requires-clause-some : goal.least_trap-trap-requires-clause-some
 least_trap-trap-requires-clause-some c =
     let accepted = c.requires.accepted in
     let run = c.requires.run in
     subst (λ l. All (λ (column : Column). 0 < length column.nodes) l) (sym (c.as_slice.ensures ∙ c.requires.columns))
-    (columns_are_small (tree_of c.args.prepared.now.checked.now) c.args.prepared.now.input.now run.0 c.args.run_log.now.events accepted run.1).some
+    (columns_are_small (tree_of c.args.prepared.now.checked.now) c.args.prepared.now.input.now run.0 c.args.run_log.now.events accepted
+    run.1).some
 
 pub least_trap-trap-requires-clause-few : goal.least_trap-trap-requires-clause-few
 least_trap-trap-requires-clause-few c =
     let accepted = c.requires.accepted in
     let run = c.requires.run in
     subst (λ l. All (λ (column : Column). length column.nodes ≤ 4294967296) l) (sym (c.as_slice.ensures ∙ c.requires.columns))
-    (columns_are_small (tree_of c.args.prepared.now.checked.now) c.args.prepared.now.input.now run.0 c.args.run_log.now.events accepted run.1).few
+    (columns_are_small (tree_of c.args.prepared.now.checked.now) c.args.prepared.now.input.now run.0 c.args.run_log.now.events accepted
+    run.1).few
 
 pub returns-then-not-runs_final : goal.returns-then-not-runs_final
 returns-then-not-runs_final c =
@@ -43,9 +46,12 @@ returns-then-not-runs_final c =
     let before = init_accesses w ++ accesses_of (accesses_after log.events) in
     let run = c.requires.run in
     let first = trap_by_columns (tree_of c.args.prepared.now.checked.now) c.args.prepared.now.input.now run.0 log.events log.columns
-    c.least_trap-trap.result c.requires.no_trap run.1 c.requires.columns (c.least_trap-trap.ensures ∙ ap (least_trap 0) c.as_slice.ensures) in
-    let not_run : (reaches_final c.args.finished c.args.reports.now && not (is_some c.least_trap-trap.result)) ≡ false = sym c.runs_final.ensures ∙ c.if-not-runs_final.true in
-    without_final w (reaches_final c.args.finished c.args.reports.now) (state_after log.events) c.into_output.result c.least_trap-trap.result not_run
+    c.least_trap-trap.result c.requires.no_trap run.1 c.requires.columns (c.least_trap-trap.ensures ∙ ap (least_trap 0) c.as_slice.ensures)
+    in
+    let not_run : (reaches_final c.args.finished c.args.reports.now && not (is_some c.least_trap-trap.result)) ≡ false =
+    sym c.runs_final.ensures ∙ c.if-not-runs_final.true in
+    without_final w (reaches_final c.args.finished c.args.reports.now) (state_after log.events) c.into_output.result
+    c.least_trap-trap.result not_run
     first (c.into_output.ensures.output w.loop.store before c.requires.state (has_output c.args.cells c.requires.serves.whole))
 
 pub returns : goal.returns
@@ -55,9 +61,12 @@ returns c =
     let before = init_accesses w ++ accesses_of (accesses_after log.events) in
     let run = c.requires.run in
     let first = trap_by_columns (tree_of c.args.prepared.now.checked.now) c.args.prepared.now.input.now run.0 log.events log.columns
-    c.least_trap-trap.result c.requires.no_trap run.1 c.requires.columns (c.least_trap-trap.ensures ∙ ap (least_trap 0) c.as_slice.ensures) in
-    let ran : (reaches_final c.args.finished c.args.reports.now && not (is_some c.least_trap-trap.result)) ≡ true = sym c.runs_final.ensures ∙ c.if-not-runs_final.false in
-    after_final w (reaches_final c.args.finished c.args.reports.now) (state_after log.events) c.into_output-2.result c.least_trap-trap.result
+    c.least_trap-trap.result c.requires.no_trap run.1 c.requires.columns (c.least_trap-trap.ensures ∙ ap (least_trap 0) c.as_slice.ensures)
+    in
+    let ran : (reaches_final c.args.finished c.args.reports.now && not (is_some c.least_trap-trap.result)) ≡ true =
+    sym c.runs_final.ensures ∙ c.if-not-runs_final.false in
+    after_final w (reaches_final c.args.finished c.args.reports.now) (state_after log.events) c.into_output-2.result
+    c.least_trap-trap.result
     c.in_ok-last.last.trap ran first (c.in_ok-last.ensures.trap before c.requires.state)
     (c.into_output-2.ensures.output w.loop.store (before ++ accesses_in (last_trace w (accesses_of (accesses_after log.events))))
     (c.in_ok-last.ensures.state before c.requires.state) (has_output c.in_ok-last.last.cells c.in_ok-last.ensures.serves.whole))

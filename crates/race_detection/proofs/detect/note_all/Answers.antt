@@ -11,8 +11,10 @@ note-requires-clause-noted c =
     let k = c.loop-access.access-index in
     let a : NodeAccess = get_or c.args.accesses.now k no_access in
     let inside : a.access.cell.0 < length c.loop-access.histories.items =
-    (let count = c.loop-access.invariant.count in let below = c.requires.cells k no_access c.loop-access-test.true in omega (arith, count, below)) in
-    let here = history_here c.loop-access.histories.items a.access.cell.0 c.index_mut-history.result.now inside c.index_mut-history.ensures.value in
+    (let count = c.loop-access.invariant.count in let below = c.requires.cells k no_access c.loop-access-test.true in
+    omega (arith, count, below)) in
+    let here = history_here c.loop-access.histories.items a.access.cell.0 c.index_mut-history.result.now inside
+    c.index_mut-history.ensures.value in
     (accesses_to a.access.cell.0 (take k c.args.accesses.now), rw here (c.loop-access.invariant.noted.each a.access.cell.0 inside))
 
 pub loop-access-preserved : goal.loop-access-preserved
@@ -22,12 +24,16 @@ loop-access-preserved c =
     let a : NodeAccess = get_or accesses k no_access in
     let histories = c.loop-access.histories.items in
     let inside : a.access.cell.0 < length histories =
-    (let count = c.loop-access.invariant.count in let below = c.requires.cells k no_access c.loop-access-test.true in omega (arith, count, below)) in
+    (let count = c.loop-access.invariant.count in let below = c.requires.cells k no_access c.loop-access-test.true in
+    omega (arith, count, below)) in
     let here = history_here histories a.access.cell.0 c.index_mut-history.result.now inside c.index_mut-history.ensures.value in
-    let before = subst (HasNoted (nodes_of_columns c.args.run.now.columns.now) c.args.run.now.replayed.nodes (accesses_to a.access.cell.0 (take k accesses)))
+    let before = subst (HasNoted (nodes_of_columns c.args.run.now.columns.now) c.args.run.now.replayed.nodes
+    (accesses_to a.access.cell.0 (take k accesses)))
     (sym here) (c.loop-access.invariant.noted.each a.access.cell.0 inside) in
     record {
-      noted = one_more_noted (nodes_of_columns c.args.run.now.columns.now) c.args.run.now.replayed.nodes accesses histories k c.note.new.history
-          c.loop-access.invariant.noted c.loop-access-test.true inside (c.note.ensures (accesses_to a.access.cell.0 (take k accesses)) before);
+      noted = one_more_noted (nodes_of_columns c.args.run.now.columns.now) c.args.run.now.replayed.nodes accesses histories k
+          c.note.new.history
+          c.loop-access.invariant.noted c.loop-access-test.true inside
+          (c.note.ensures (accesses_to a.access.cell.0 (take k accesses)) before);
       count = set_count histories a.access.cell.0 c.note.new.history ∙ c.loop-access.invariant.count;
     }

@@ -15,6 +15,9 @@ returns c = λ accesses before.
     let started = c.started_node-started.result in
     let joined = ap (λ s. s.joined) c.started_node-started.ensures in
     let marked = marked_as columns starts x started c.requires.inside c.started_node-started.ensures in
-    let kept = known_kept columns starts c.requires.run.columns_ok c.requires.run.starts_ok c.requires.run.started x c.requires.inside c.args.history.now before.kept in
-    noted_again columns starts _ _ down right _ c.args.access.access.kind c.args.history.now c.note_joined.new.self c.note_joined.result accesses marked before
-    (Some started.joined) (rw joined kept) c.note_joined.ensures.step c.note_joined.ensures.race c.note_joined.ensures.each c.note_joined.ensures.report
+    let kept = known_kept columns starts c.requires.run.columns_ok c.requires.run.starts_ok c.requires.run.started x c.requires.inside
+    c.args.history.now before.kept in
+    noted_again columns starts _ _ down right _ c.args.access.access.kind c.args.history.now c.note_joined.new.self c.note_joined.result
+    accesses marked before
+    (Some started.joined) (rw joined kept) c.note_joined.ensures.step c.note_joined.ensures.race c.note_joined.ensures.each
+    c.note_joined.ensures.report

@@ -25,8 +25,10 @@ returns-then-count-stop g c =
     let followed : HasFollowed p c.args.throttle (take n events) c.in_ok-count.count =
     subst (λ q. HasFollowed q c.args.throttle (take n events) c.in_ok-count.count) same
     (subst (λ l. HasFollowed (pipeline_played v) l (take n events) c.in_ok-count.count) made.limit
-    (subst (λ es. HasFollowed (pipeline_played v) v.book.limit (take n es) c.in_ok-count.count) c.as_slice-events.ensures c.in_ok-count.ensures.followed)) in
-    IsNoRun c.in_ok-count.count (refused_before p c.args.throttle events (take n events) n c.in_ok-count.count first refl c.if-count-stop.true followed)
+    (subst (λ es. HasFollowed (pipeline_played v) v.book.limit (take n es) c.in_ok-count.count) c.as_slice-events.ensures
+    c.in_ok-count.ensures.followed)) in
+    IsNoRun c.in_ok-count.count (refused_before p c.args.throttle events (take n events) n c.in_ok-count.count first refl
+    c.if-count-stop.true followed)
 
 pub returns-then-stop-events : goal.returns-then-stop-events
 returns-then-stop-events g c =
@@ -40,9 +42,11 @@ returns-then-stop-events g c =
     let followed : HasFollowed p c.args.throttle (take n events) c.in_ok-count.count =
     subst (λ q. HasFollowed q c.args.throttle (take n events) c.in_ok-count.count) same
     (subst (λ l. HasFollowed (pipeline_played v) l (take n events) c.in_ok-count.count) made.limit
-    (subst (λ es. HasFollowed (pipeline_played v) v.book.limit (take n es) c.in_ok-count.count) c.as_slice-events.ensures c.in_ok-count.ensures.followed)) in
+    (subst (λ es. HasFollowed (pipeline_played v) v.book.limit (take n es) c.in_ok-count.count) c.as_slice-events.ensures
+    c.in_ok-count.ensures.followed)) in
     let all = all_followed p c.args.throttle events n c.in_ok-count.count first c.if-count-stop.false followed in
-    let are = c.in_ok-count.ensures.all (all.0 ∙ ap (λ es. length (take n es)) (sym c.as_slice-events.ensures)) ∙ ap (take n) c.as_slice-events.ensures in
+    let are = c.in_ok-count.ensures.all (all.0 ∙ ap (λ es. length (take n es)) (sym c.as_slice-events.ensures))
+    ∙ ap (take n) c.as_slice-events.ensures in
     let going : (state_after (take n events)).stopped ≡ false =
     subst (λ es. (state_after es).stopped ≡ false) are c.in_ok-count.ensures.play.going in
     let less : n + 1 < length events = subst (λ es. n + 1 < length es) c.as_slice-events.ensures c.if-stop-events.true in
@@ -61,9 +65,11 @@ returns g c =
     let followed : HasFollowed p c.args.throttle (take n events) c.in_ok-count.count =
     subst (λ q. HasFollowed q c.args.throttle (take n events) c.in_ok-count.count) same
     (subst (λ l. HasFollowed (pipeline_played v) l (take n events) c.in_ok-count.count) made.limit
-    (subst (λ es. HasFollowed (pipeline_played v) v.book.limit (take n es) c.in_ok-count.count) c.as_slice-events.ensures c.in_ok-count.ensures.followed)) in
+    (subst (λ es. HasFollowed (pipeline_played v) v.book.limit (take n es) c.in_ok-count.count) c.as_slice-events.ensures
+    c.in_ok-count.ensures.followed)) in
     let all = all_followed p c.args.throttle events n c.in_ok-count.count first c.if-count-stop.false followed in
-    let are = c.in_ok-count.ensures.all (all.0 ∙ ap (λ es. length (take n es)) (sym c.as_slice-events.ensures)) ∙ ap (take n) c.as_slice-events.ensures in
+    let are = c.in_ok-count.ensures.all (all.0 ∙ ap (λ es. length (take n es)) (sym c.as_slice-events.ensures))
+    ∙ ap (take n) c.as_slice-events.ensures in
     let keeps = c.in_ok-count.ensures.keeps in
     let few : length events ≤ n + 1 = subst (λ es. length es ≤ n + 1) c.as_slice-events.ensures c.if-stop-events.false in
     let b = nat_lt n (length c.as_slice-events.result.now) in

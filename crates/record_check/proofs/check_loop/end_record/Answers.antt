@@ -9,7 +9,8 @@ use Rattle.record_check.proofs.check_loop.end_record.Goals as goal
 pub detect-requires-clause-own : goal.detect-requires-clause-own
 detect-requires-clause-own g c =
     let v = c.args.player in
-    (record_detectable (tree_of v.book.program) v.book.input v.book.limit v.events c.in_ok-events.events c.args.stopped c.in_ok-columns.columns
+    (record_detectable (tree_of v.book.program) v.book.input v.book.limit v.events c.in_ok-events.events c.args.stopped
+    c.in_ok-columns.columns
     c.into_run-events.result.1 c.requires.accepted c.requires.play.run c.requires.play.going
     (c.in_ok-events.ensures ∙ ap (with_stop c.args.stopped) c.into_run-events.ensures.events)
     (c.in_ok-columns.ensures ∙ ap made_columns c.as_slice.ensures) (c.into_run-events.ensures.accesses ∙ c.requires.play.accesses)).own
@@ -17,7 +18,8 @@ detect-requires-clause-own g c =
 pub detect-requires-clause-few : goal.detect-requires-clause-few
 detect-requires-clause-few g c =
     let v = c.args.player in
-    (record_detectable (tree_of v.book.program) v.book.input v.book.limit v.events c.in_ok-events.events c.args.stopped c.in_ok-columns.columns
+    (record_detectable (tree_of v.book.program) v.book.input v.book.limit v.events c.in_ok-events.events c.args.stopped
+    c.in_ok-columns.columns
     c.into_run-events.result.1 c.requires.accepted c.requires.play.run c.requires.play.going
     (c.in_ok-events.ensures ∙ ap (with_stop c.args.stopped) c.into_run-events.ensures.events)
     (c.in_ok-columns.ensures ∙ ap made_columns c.as_slice.ensures) (c.into_run-events.ensures.accesses ∙ c.requires.play.accesses)).few
@@ -25,7 +27,8 @@ detect-requires-clause-few g c =
 pub detect-requires-clause-inside : goal.detect-requires-clause-inside
 detect-requires-clause-inside g c =
     let v = c.args.player in
-    (record_detectable (tree_of v.book.program) v.book.input v.book.limit v.events c.in_ok-events.events c.args.stopped c.in_ok-columns.columns
+    (record_detectable (tree_of v.book.program) v.book.input v.book.limit v.events c.in_ok-events.events c.args.stopped
+    c.in_ok-columns.columns
     c.into_run-events.result.1 c.requires.accepted c.requires.play.run c.requires.play.going
     (c.in_ok-events.ensures ∙ ap (with_stop c.args.stopped) c.into_run-events.ensures.events)
     (c.in_ok-columns.ensures ∙ ap made_columns c.as_slice.ensures) (c.into_run-events.ensures.accesses ∙ c.requires.play.accesses)).inside
@@ -33,11 +36,14 @@ detect-requires-clause-inside g c =
 pub returns : goal.returns
 returns g c =
     let v = c.args.player in
-    let can = record_detectable (tree_of v.book.program) v.book.input v.book.limit v.events c.in_ok-events.events c.args.stopped c.in_ok-columns.columns
+    let can = record_detectable (tree_of v.book.program) v.book.input v.book.limit v.events c.in_ok-events.events c.args.stopped
+    c.in_ok-columns.columns
     c.into_run-events.result.1 c.requires.accepted c.requires.play.run c.requires.play.going
     (c.in_ok-events.ensures ∙ ap (with_stop c.args.stopped) c.into_run-events.ensures.events)
     (c.in_ok-columns.ensures ∙ ap made_columns c.as_slice.ensures) (c.into_run-events.ensures.accesses ∙ c.requires.play.accesses) in
-    checked_run (pipeline_played v) v.book.limit v.events c.in_ok-events.events c.args.stopped c.is_finished-finished.result c.in_ok-columns.columns
-    c.into_run-events.result.1 c.in_ok-reports.reports c.kind_of.result c.requires.play.run c.requires.play.going c.is_finished-finished.ensures
+    checked_run (pipeline_played v) v.book.limit v.events c.in_ok-events.events c.args.stopped c.is_finished-finished.result
+    c.in_ok-columns.columns
+    c.into_run-events.result.1 c.in_ok-reports.reports c.kind_of.result c.requires.play.run c.requires.play.going
+    c.is_finished-finished.ensures
     (c.in_ok-events.ensures ∙ ap (with_stop c.args.stopped) c.into_run-events.ensures.events)
     (c.into_run-events.ensures.accesses ∙ c.requires.play.accesses) can c.in_ok-reports.ensures c.kind_of.ensures

@@ -9,7 +9,8 @@ use Rattle.record_parser.proofs.log_line.event_of_line.Goals as goal
 
 pub returns-in_default-log_word-clause-none : goal.returns-in_default-log_word-clause-none
 returns-in_default-log_word-clause-none c = λ e h. elim (divided c.args.cells.now c.args.line.now e h) [
-  | inl s ↦ never_divided space (codes "stop") c.in-Some.first.now c.in-Some.fields.now (free_by_test space (codes "stop") refl) (sym s.1 ∙ c.in-Some.ensures.parts)
+  | inl s ↦ never_divided space (codes "stop") c.in-Some.first.now c.in-Some.fields.now (free_by_test space (codes "stop") refl)
+      (sym s.1 ∙ c.in-Some.ensures.parts)
   | inr d ↦ (
       let parts = at_first space c.args.line.now c.in-Some.first.now c.in-Some.fields.now (word_text d.word) d.fields
       c.in-Some.ensures.parts c.in-Some.ensures.first d.text (word_free space d.word refl) in
@@ -25,7 +26,8 @@ returns-clause-some c =
 pub returns-clause-none : goal.returns-clause-none
 returns-clause-none c =
     none_map c.event_of.result c.event_of.ensures.none (λ none e h. elim (divided c.args.cells.now c.args.line.now e h) [
-      | inl s ↦ never_divided space (codes "stop") c.in-Some.first.now c.in-Some.fields.now (free_by_test space (codes "stop") refl) (sym s.1 ∙ c.in-Some.ensures.parts)
+      | inl s ↦ never_divided space (codes "stop") c.in-Some.first.now c.in-Some.fields.now (free_by_test space (codes "stop") refl)
+          (sym s.1 ∙ c.in-Some.ensures.parts)
       | inr d ↦ (
           let parts = at_first space c.args.line.now c.in-Some.first.now c.in-Some.fields.now (word_text d.word) d.fields
           c.in-Some.ensures.parts c.in-Some.ensures.first d.text (word_free space d.word refl) in

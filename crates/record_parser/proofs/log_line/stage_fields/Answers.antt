@@ -5,7 +5,8 @@ use Rattle.record_parser.proofs.FreeFields.{iteration_free, no_digit}
 use Rattle.record_parser.proofs.log_line.stage_fields.Goals as goal
 
 pub returns-in_default-clause-none : goal.returns-in_default-clause-none
-returns-in_default-clause-none c = λ i n h. never_divided space c.args.bytes.now (decimal i) (signed_decimal n) c.in_default.ensures.none h.1.1
+returns-in_default-clause-none c = λ i n h. never_divided space c.args.bytes.now (decimal i)
+    (signed_decimal n) c.in_default.ensures.none h.1.1
 
 pub returns-in_default-iteration_field-clause-none : goal.returns-in_default-iteration_field-clause-none
 returns-in_default-iteration_field-clause-none c = λ i n h.

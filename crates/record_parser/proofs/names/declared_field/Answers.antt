@@ -11,8 +11,10 @@ loop-declaration-preserved c =
     let before = c.loop-declaration.before in
     let size = c.size_of-before.result in
     record {
-      total = total_after cells (drop i cells) (drop (i + 1) cells) d before size parts c.size_of-before.ensures c.loop-declaration.invariant.total;
-      following = names_after cells (drop i cells) (drop (i + 1) cells) d before size parts c.size_of-before.ensures c.loop-declaration.invariant.following;
+      total = total_after cells (drop i cells) (drop (i + 1) cells) d before size parts c.size_of-before.ensures
+          c.loop-declaration.invariant.total;
+      following = names_after cells (drop i cells) (drop (i + 1) cells) d before size parts c.size_of-before.ensures
+          c.loop-declaration.invariant.following;
       others = others_after cells (drop i cells) (drop (i + 1) cells) d before size c.args.bytes.now parts c.size_of-before.ensures
           c.loop-declaration.invariant.following c.loop-declaration.invariant.others c.in_default.ensures.none;
     }

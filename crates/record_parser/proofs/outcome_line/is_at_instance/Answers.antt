@@ -12,17 +12,20 @@ returns-in_default-clause-no c = λ instance h e. never_divided space c.args.byt
 
 pub returns-then-not-is_at-clause-no : goal.returns-then-not-is_at-clause-no
 returns-then-not-is_at-clause-no c = λ instance h e.
-    let parts = at_first space c.args.bytes.now c.in-Some.first.now c.in-Some.second.now (codes "at") instance c.in-Some.ensures.parts c.in-Some.ensures.first e
+    let parts = at_first space c.args.bytes.now c.in-Some.first.now c.in-Some.second.now (codes "at") instance c.in-Some.ensures.parts
+    c.in-Some.ensures.first e
     (free_by_test space (codes "at") refl) in
     let z : true ≡ false = sym (c.is_at.ensures.1 parts.0) ∙ c.if-not-is_at.true in
     cc
 
 pub returns-clause-yes : goal.returns-clause-yes
 returns-clause-yes c = true_map c.is_instance.result c.is_instance.ensures.yes (λ h.
-    AtInstance c.in-Some.second.now h (c.in-Some.ensures.parts ∙ ap (λ w. w ++ space ∷ c.in-Some.second.now) (c.is_at.ensures.0 c.if-not-is_at.false)))
+    AtInstance c.in-Some.second.now h (c.in-Some.ensures.parts ∙ ap (λ w. w ++ space ∷ c.in-Some.second.now)
+    (c.is_at.ensures.0 c.if-not-is_at.false)))
 
 pub returns-clause-no : goal.returns-clause-no
 returns-clause-no c = false_map c.is_instance.result c.is_instance.ensures.no (λ no instance h e.
-    let parts = at_first space c.args.bytes.now c.in-Some.first.now c.in-Some.second.now (codes "at") instance c.in-Some.ensures.parts c.in-Some.ensures.first e
+    let parts = at_first space c.args.bytes.now c.in-Some.first.now c.in-Some.second.now (codes "at") instance c.in-Some.ensures.parts
+    c.in-Some.ensures.first e
     (free_by_test space (codes "at") refl) in
     no (subst IsInstanceText (sym parts.1) h))

@@ -5,7 +5,8 @@ use Rattle.record_parser.proofs.FreeFields.{iteration_free, no_digit_slash}
 use Rattle.record_parser.proofs.outcome_line.is_instance.Goals as goal
 
 pub returns-in_default-clause-no : goal.returns-in_default-clause-no
-returns-in_default-clause-no c = λ h. never_divided slash c.args.bytes.now (decimal h.iteration) (signed_decimal h.number) c.in_default.ensures.none h.is
+returns-in_default-clause-no c = λ h. never_divided slash c.args.bytes.now (decimal h.iteration)
+    (signed_decimal h.number) c.in_default.ensures.none h.is
 
 pub returns-in_default-iteration_field-clause-no : goal.returns-in_default-iteration_field-clause-no
 returns-in_default-iteration_field-clause-no c = λ h.

@@ -16,7 +16,8 @@ not_divided cells line f (TrapLine text h e) = never_divided space line (codes "
 
 -- by the first word
 by_word : (cells : List Declaration) (line word fields : List ℕ) → line ≡ word ++ space ∷ fields → IsFreeOf space word
-    → (word ≡ codes "race" → IsRaceText cells fields → ⊥) → (word ≡ codes "trap" → IsOutcomeTrapText fields → ⊥) → IsWordedOutcome cells line → ⊥
+    → (word ≡ codes "race" → IsRaceText cells fields → ⊥) → (word ≡ codes "trap" → IsOutcomeTrapText fields → ⊥)
+    → IsWordedOutcome cells line → ⊥
 by_word cells line word fields e f race trap (RaceLine text h is) =
     let parts = at_first space line word fields (codes "race") text e f is (free_by_test space (codes "race") refl) in
     race parts.0 (subst (IsRaceText cells) (sym parts.1) h)
@@ -34,7 +35,8 @@ returns-in_default-clause-no c = λ h. not_divided c.args.cells.now c.args.line.
 
 pub returns-then-is_race_word-clause-yes : goal.returns-then-is_race_word-clause-yes
 returns-then-is_race_word-clause-yes c = true_map c.is_race.result c.is_race.ensures.yes (λ h.
-    RaceLine c.in-Some.fields.now h (c.in-Some.ensures.parts ∙ ap (λ w. w ++ space ∷ c.in-Some.fields.now) (c.is_race_word.ensures.0 c.if-is_race_word.true)))
+    RaceLine c.in-Some.fields.now h (c.in-Some.ensures.parts ∙ ap (λ w. w ++ space ∷ c.in-Some.fields.now)
+    (c.is_race_word.ensures.0 c.if-is_race_word.true)))
 
 pub returns-then-is_race_word-clause-no : goal.returns-then-is_race_word-clause-no
 returns-then-is_race_word-clause-no c = false_map c.is_race.result c.is_race.ensures.no (λ no h.
@@ -43,7 +45,8 @@ returns-then-is_race_word-clause-no c = false_map c.is_race.result c.is_race.ens
 
 pub returns-then-is_trap_word-clause-yes : goal.returns-then-is_trap_word-clause-yes
 returns-then-is_trap_word-clause-yes c = true_map c.is_outcome_trap.result c.is_outcome_trap.ensures.yes (λ h.
-    TrapLine c.in-Some.fields.now h (c.in-Some.ensures.parts ∙ ap (λ w. w ++ space ∷ c.in-Some.fields.now) (c.is_trap_word.ensures.0 c.if-is_trap_word.true)))
+    TrapLine c.in-Some.fields.now h (c.in-Some.ensures.parts ∙ ap (λ w. w ++ space ∷ c.in-Some.fields.now)
+    (c.is_trap_word.ensures.0 c.if-is_trap_word.true)))
 
 pub returns-then-is_trap_word-clause-no : goal.returns-then-is_trap_word-clause-no
 returns-then-is_trap_word-clause-no c = false_map c.is_outcome_trap.result c.is_outcome_trap.ensures.no (λ no h.

@@ -26,6 +26,7 @@ pub returns-in_default-kind_field-clause-none : goal.returns-in_default-kind_fie
 returns-in_default-kind_field-clause-none c = λ before h.
     let parts = at_last space c.args.bytes.now c.in-Some.others.now c.in-Some.instance.now (before ++ space ∷ kind_text h.kind) h.instance
     c.in-Some.ensures.parts c.in-Some.ensures.last h.is (instance_free h.instance h.is_instance) in
-    let more = at_last space c.in-Some.others.now c.in-Some-split_at_last.before.now c.in-Some-split_at_last.kind.now before (kind_text h.kind)
+    let more = at_last space c.in-Some.others.now c.in-Some-split_at_last.before.now c.in-Some-split_at_last.kind.now before
+    (kind_text h.kind)
     c.in-Some-split_at_last.ensures.parts c.in-Some-split_at_last.ensures.last parts.0 (kind_free space h.kind refl) in
     c.in_default-kind_field.ensures.none h.kind more.1

@@ -20,4 +20,5 @@ returns-clause-yes c =
 
 pub returns-clause-no : goal.returns-clause-no
 returns-clause-no c =
-    false_map c.is_outcome_line.result c.is_outcome_line.ensures.no (λ no. record { no_event = λ e h. c.in_default.ensures.none e h; no_outcome = λ e. no })
+    false_map c.is_outcome_line.result c.is_outcome_line.ensures.no
+    (λ no. record { no_event = λ e h. c.in_default.ensures.none e h; no_outcome = λ e. no })

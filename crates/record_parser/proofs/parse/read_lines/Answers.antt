@@ -9,14 +9,17 @@ returns-in_default-clause-fault c = IsOutOfMemory
 pub returns-then-not-is_known-clause-fault : goal.returns-then-not-is_known-clause-fault
 returns-then-not-is_known-clause-fault c =
     HasBadLine c.loop-rest.number c.requires.short
-    (bad_line c.args.cells.now c.args.text.now c.loop-rest.rest.now c.first_line.result.line.now c.first_line.result.following.now c.loop-rest.number c.loop-rest.events
+    (bad_line c.args.cells.now c.args.text.now c.loop-rest.rest.now c.first_line.result.line.now c.first_line.result.following.now
+    c.loop-rest.number c.loop-rest.events
     c.loop-rest.invariant c.first_line.ensures.lines (when_false c.in-Ok.is_known c.in-Ok.ensures.no c.if-not-is_known.true))
 
 pub loop-rest-preserved : goal.loop-rest-preserved
 loop-rest-preserved c =
-    one_more c.args.cells.now c.args.text.now c.loop-rest.rest.now c.first_line.result.line.now c.first_line.result.following.now c.loop-rest.number c.loop-rest.events
+    one_more c.args.cells.now c.args.text.now c.loop-rest.rest.now c.first_line.result.line.now c.first_line.result.following.now
+    c.loop-rest.number c.loop-rest.events
     c.read_line.new.events c.loop-rest.invariant c.first_line.ensures.lines c.first_line.ensures.shorter
     (when_true c.in-Ok.is_known c.in-Ok.ensures.yes c.if-not-is_known.false)
 
 pub returns-clause-few : goal.returns-clause-few
-returns-clause-few c = events_are_few c.args.cells.now c.args.text.now c.loop-rest.rest.now c.loop-rest.number c.loop-rest.events c.loop-rest.invariant
+returns-clause-few c = events_are_few c.args.cells.now c.args.text.now c.loop-rest.rest.now c.loop-rest.number c.loop-rest.events
+    c.loop-rest.invariant

@@ -14,4 +14,5 @@ loop-entry-preserved c =
     let here : s.entry-index < length s.alive = (let same = s.auto.alive in omega (arith, inside, same)) in
     let x = slice_index_or s.alive s.entry-index _ in
     ap (slice_set s.alive s.entry-index) c.after.ensures
-    ∙ map_over_more (after_change c.args.change) old s.alive s.entry-index x inside s.invariant (get_or_default s.alive s.entry-index _ x here)
+    ∙ map_over_more (after_change c.args.change) old s.alive s.entry-index x inside s.invariant
+    (get_or_default s.alive s.entry-index _ x here)

@@ -22,7 +22,8 @@ loop-k-preserved c =
     let capacity = c.push_reserved.ensures.capacity in
     let room = s.invariant.1 in
     let more = map-range_with_len_more (choice c.args.number) 1 s.k (s.k + 1) (omega arith) in (
-      c.push_reserved.ensures.items ∙ ap (λ l. l ++ c.choice.result ∷ []) s.invariant.0 ∙ ap (λ v. first_choices c.args.number s.k ++ v ∷ []) c.choice.ensures.value ∙ sym more,
+      c.push_reserved.ensures.items ∙ ap (λ l. l ++ c.choice.result ∷ []) s.invariant.0
+          ∙ ap (λ v. first_choices c.args.number s.k ++ v ∷ []) c.choice.ensures.value ∙ sym more,
       omega (arith, capacity, room),
     )
 

@@ -13,5 +13,6 @@ pub returns-in-Write-clause-state : goal.returns-in-Write-clause-state
 returns-in-Write-clause-state c = λ store before state.
     let fits : SFits w64 c.args.access.value = search rules in
     let written = simp to_z-of_z at c.write.ensures.state in
-    let same : c.args.access ≡ write_access c.args.access.cell.0 c.args.access.value = ap (λ (k : AccessKind). record c.args.access { kind = k }) c.in-Write.is in
+    let same : c.args.access ≡ write_access c.args.access.cell.0 c.args.access.value =
+    ap (λ (k : AccessKind). record c.args.access { kind = k }) c.in-Write.is in
     rw same (written store before state)

@@ -16,10 +16,13 @@ unreachable-requires g c =
     let begun = c.new-memory.ensures in
     let run = c.go_on-end.new.self.run in
     let stopped = subst (λ (m : AccessState). IsStopped code m.cells.shard.cells input machine.run t) (sym begun) c.requires.before.1 in
-    let over = subst (λ (m : AccessState). RanInstance code m.cells.shard.cells input t (access_list m.made) (access_list c.go_on-end.new.memory.made) run c.go_on-end.result)
+    let over = subst (λ (m : AccessState). RanInstance code m.cells.shard.cells input t (access_list m.made)
+    (access_list c.go_on-end.new.memory.made) run c.go_on-end.result)
     begun (c.go_on-end.ensures.ran t stopped) in
-    let ran = subst (λ (made : Option Access). RanInstance code cells input t [] (access_list made) run c.go_on-end.result) (sym c.access.ensures.access) over in
-    let some = makes_access code cells input machine.run run t c.go_on-end.result c.go_on-end.new.memory.stopped c.access.result c.requires.before.1 ran
+    let ran = subst (λ (made : Option Access). RanInstance code cells input t [] (access_list made) run c.go_on-end.result)
+    (sym c.access.ensures.access) over in
+    let some = makes_access code cells input machine.run run t c.go_on-end.result c.go_on-end.new.memory.stopped c.access.result
+    c.requires.before.1 ran
     c.go_on-end.ensures.stops c.access.ensures.stops in
     let none : false ≡ true = subst (λ (made : Option Access). is_some made ≡ true) c.in-None.is some in
     absurd (cc (none))
@@ -32,7 +35,9 @@ returns-clause-ran g c = λ t before.
     let begun = c.new-memory.ensures in
     let run = c.go_on-end.new.self.run in
     let stopped = subst (λ (m : AccessState). IsStopped code m.cells.shard.cells input c.args.machine.now.run t) (sym begun) before in
-    let over = subst (λ (m : AccessState). RanInstance code m.cells.shard.cells input t (access_list m.made) (access_list c.go_on-end.new.memory.made) run c.go_on-end.result)
+    let over = subst (λ (m : AccessState). RanInstance code m.cells.shard.cells input t (access_list m.made)
+    (access_list c.go_on-end.new.memory.made) run c.go_on-end.result)
     begun (c.go_on-end.ensures.ran t stopped) in
-    let ran = subst (λ (made : Option Access). RanInstance code cells input t [] (access_list made) run c.go_on-end.result) (sym c.access.ensures.access) over in
+    let ran = subst (λ (made : Option Access). RanInstance code cells input t [] (access_list made) run c.go_on-end.result)
+    (sym c.access.ensures.access) over in
     subst (λ (made : Option Access). RanInstance code cells input t [] (access_list made) run c.go_on-end.result) c.in-Some.is ran

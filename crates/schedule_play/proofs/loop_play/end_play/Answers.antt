@@ -14,9 +14,11 @@ detect-requires-clause-own g c =
     let v = c.args.player in
     let accepted = c.requires.accepted in
     let ensured = c.into_run-events.ensures in
-    let can = detectable (tree_of v.book.program) v.book.input v.book.limit c.into_run-events.result.0 c.in_ok-columns.columns c.into_run-events.result.1
+    let can = detectable (tree_of v.book.program) v.book.input v.book.limit c.into_run-events.result.0 c.in_ok-columns.columns
+    c.into_run-events.result.1
     accepted (subst (λ es. Run (pipeline_played v) v.book.limit es (state_after es)) (sym ensured.events) c.requires.play.run)
-    (c.in_ok-columns.ensures ∙ ap made_columns c.as_slice.ensures) (ensured.accesses ∙ c.requires.play.accesses ∙ ap (λ es. (state_after es).accesses) (sym ensured.events)) in
+    (c.in_ok-columns.ensures ∙ ap made_columns c.as_slice.ensures)
+    (ensured.accesses ∙ c.requires.play.accesses ∙ ap (λ es. (state_after es).accesses) (sym ensured.events)) in
     can.own
 
 pub detect-requires-clause-few : goal.detect-requires-clause-few
@@ -24,9 +26,11 @@ detect-requires-clause-few g c =
     let v = c.args.player in
     let accepted = c.requires.accepted in
     let ensured = c.into_run-events.ensures in
-    let can = detectable (tree_of v.book.program) v.book.input v.book.limit c.into_run-events.result.0 c.in_ok-columns.columns c.into_run-events.result.1
+    let can = detectable (tree_of v.book.program) v.book.input v.book.limit c.into_run-events.result.0 c.in_ok-columns.columns
+    c.into_run-events.result.1
     accepted (subst (λ es. Run (pipeline_played v) v.book.limit es (state_after es)) (sym ensured.events) c.requires.play.run)
-    (c.in_ok-columns.ensures ∙ ap made_columns c.as_slice.ensures) (ensured.accesses ∙ c.requires.play.accesses ∙ ap (λ es. (state_after es).accesses) (sym ensured.events)) in
+    (c.in_ok-columns.ensures ∙ ap made_columns c.as_slice.ensures)
+    (ensured.accesses ∙ c.requires.play.accesses ∙ ap (λ es. (state_after es).accesses) (sym ensured.events)) in
     can.few
 
 pub detect-requires-clause-inside : goal.detect-requires-clause-inside
@@ -34,9 +38,11 @@ detect-requires-clause-inside g c =
     let v = c.args.player in
     let accepted = c.requires.accepted in
     let ensured = c.into_run-events.ensures in
-    let can = detectable (tree_of v.book.program) v.book.input v.book.limit c.into_run-events.result.0 c.in_ok-columns.columns c.into_run-events.result.1
+    let can = detectable (tree_of v.book.program) v.book.input v.book.limit c.into_run-events.result.0 c.in_ok-columns.columns
+    c.into_run-events.result.1
     accepted (subst (λ es. Run (pipeline_played v) v.book.limit es (state_after es)) (sym ensured.events) c.requires.play.run)
-    (c.in_ok-columns.ensures ∙ ap made_columns c.as_slice.ensures) (ensured.accesses ∙ c.requires.play.accesses ∙ ap (λ es. (state_after es).accesses) (sym ensured.events)) in
+    (c.in_ok-columns.ensures ∙ ap made_columns c.as_slice.ensures)
+    (ensured.accesses ∙ c.requires.play.accesses ∙ ap (λ es. (state_after es).accesses) (sym ensured.events)) in
     can.inside
 
 pub returns : goal.returns
@@ -44,14 +50,17 @@ returns g c =
     let v = c.args.player in
     let accepted = c.requires.accepted in
     let ensured = c.into_run-events.ensures in
-    let can = detectable (tree_of v.book.program) v.book.input v.book.limit c.into_run-events.result.0 c.in_ok-columns.columns c.into_run-events.result.1
+    let can = detectable (tree_of v.book.program) v.book.input v.book.limit c.into_run-events.result.0 c.in_ok-columns.columns
+    c.into_run-events.result.1
     accepted (subst (λ es. Run (pipeline_played v) v.book.limit es (state_after es)) (sym ensured.events) c.requires.play.run)
-    (c.in_ok-columns.ensures ∙ ap made_columns c.as_slice.ensures) (ensured.accesses ∙ c.requires.play.accesses ∙ ap (λ es. (state_after es).accesses) (sym ensured.events)) in
+    (c.in_ok-columns.ensures ∙ ap made_columns c.as_slice.ensures)
+    (ensured.accesses ∙ c.requires.play.accesses ∙ ap (λ es. (state_after es).accesses) (sym ensured.events)) in
     record {
       events = ensured.events;
       columns = can.ended ∙ ap ended_columns_after ensured.events;
       accesses = ensured.accesses;
-      reports = c.in_ok-reports.ensures ∙ can.found ∙ ap₂ (λ es l. found_reports (columns_after es) (starts_of es) l) ensured.events ensured.accesses;
+      reports = c.in_ok-reports.ensures ∙ can.found ∙ ap₂ (λ es l. found_reports (columns_after es) (starts_of es) l) ensured.events
+          ensured.accesses;
       finished = c.is_finished-finished.ensures;
       cells = ensured.cells;
     }

@@ -15,6 +15,8 @@ returns g c =
     let same = ap₂ (λ (q : Program) i. pipeline_after_init (tree_of q) i) ensured.keeps.program ensured.keeps.input in
     let events = ensured.events ∙ sym (ap₂ (λ q l. played q l limits.workers c.args.choices.now limits.turns) same ensured.keeps.limit) in
     map_ok c.end_play.result c.end_play.ensures (λ r end.
-    loop_play (tree_of c.args.checked.now) c.args.input.now limits c.args.choices.now v g.B.PlayedCode.code g.B.PlayedCode.cells r ensured.play
-    c.requires.throttle c.requires.workers (ap (λ (q : Program). tree_of q) ensured.keeps.program ∙ first.tree) (ensured.keeps.input ∙ first.input)
+    loop_play (tree_of c.args.checked.now) c.args.input.now limits c.args.choices.now v g.B.PlayedCode.code g.B.PlayedCode.cells r
+    ensured.play
+    c.requires.throttle c.requires.workers (ap (λ (q : Program). tree_of q) ensured.keeps.program ∙ first.tree)
+    (ensured.keeps.input ∙ first.input)
     (ensured.keeps.limit ∙ first.limit) events end)

@@ -43,9 +43,11 @@ new-requires-clause-room g c =
     (omega (arith, few, same, down), omega (arith, few, same, right))
 
 pub returns-clause-tree : goal.returns-clause-tree
-returns-clause-tree g c = subst (λ (p : Program). IfOk c.new.result (λ book. tree_of book.program ≡ tree_of p)) c.program.ensures.program c.new.ensures.tree
+returns-clause-tree g c = subst (λ (p : Program). IfOk c.new.result (λ book. tree_of book.program ≡ tree_of p)) c.program.ensures.program
+    c.new.ensures.tree
 
 pub returns-clause-book : goal.returns-clause-book
 returns-clause-book g c =
     let lists = ap₂ (λ a b. record { down = a; right = b }) c.in_ok-orders.ensures.down.identity c.in_ok-orders.ensures.right.identity in
-    subst (λ (l : ListIdentities). IfOk c.new.result (λ book. book ≡ new_book book.program c.args.input.now c.args.throttle l)) lists c.new.ensures.book
+    subst (λ (l : ListIdentities). IfOk c.new.result (λ book. book ≡ new_book book.program c.args.input.now c.args.throttle l)) lists
+    c.new.ensures.book

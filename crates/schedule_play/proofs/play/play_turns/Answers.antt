@@ -29,7 +29,8 @@ returns-in_default-clause-events g c =
     let choice = c.choice_at-choice.result in
     let made = chosen choice (candidates (pipeline_played v) v.book.limit c.args.workers (run_state v)) in
     let none = no_event (turn_event (pipeline_played v) v.book.limit (run_state v)) c.choose.result made c.in_default.is c.choose.ensures in
-    ends_early code cells c.args.player.now v c.args.workers c.args.choices.now c.args.turns c.loop-turn.turn c.loop-turn.invariant choice c.loop-turn-test.true
+    ends_early code cells c.args.player.now v c.args.workers c.args.choices.now c.args.turns c.loop-turn.turn c.loop-turn.invariant choice
+    c.loop-turn-test.true
     c.choice_at-choice.ensures none
 
 pub loop-turn-preserved : goal.loop-turn-preserved
@@ -39,7 +40,9 @@ loop-turn-preserved g c =
     let v = c.loop-turn.player in
     let choice = c.choice_at-choice.result in
     let made = chosen choice (candidates (pipeline_played v) v.book.limit c.args.workers (run_state v)) in
-    let event = event_of (turn_event (pipeline_played v) v.book.limit (run_state v)) c.choose.result c.in-Some.next made c.in-Some.is c.choose.ensures in
+    let event = event_of (turn_event (pipeline_played v) v.book.limit (run_state v)) c.choose.result c.in-Some.next made c.in-Some.is
+    c.choose.ensures in
     let ensured = c.in_ok-take_turn.ensures in
-    goes_on code cells c.args.player.now v c.args.workers c.args.choices.now c.args.turns c.loop-turn.turn c.loop-turn.invariant choice event.0 c.take_turn.new.self
+    goes_on code cells c.args.player.now v c.args.workers c.args.choices.now c.args.turns c.loop-turn.turn c.loop-turn.invariant choice
+    event.0 c.take_turn.new.self
     c.loop-turn-test.true c.choice_at-choice.ensures event.1 (ensured.event event.0 event.2) ensured.play ensured.keeps

@@ -12,4 +12,5 @@ returns c =
     let input = c.args.prepared.now.input.now in
     let trapped : is_some (init_trap (whole_of tree input)) ≡ true = ap is_some (sym c.requires.trap) ∙ c.requires.trapped in
     rw (c.new.ensures, c.new-2.ensures, c.new-3.ensures)
-    (trapped_in_init tree input c.args.limits c.args.choices.now c.end_after_init-output.result trapped (c.end_after_init-output.ensures true))
+    (trapped_in_init tree input c.args.limits c.args.choices.now c.end_after_init-output.result trapped
+    (c.end_after_init-output.ensures true))

@@ -11,7 +11,8 @@ returns-then-count-eq0 c = λ p limit s kept begin.
     let room = c.has_room-room.result in
     let workers = c.args.workers in
     let all = turns room c.args.begins c.args.alive.now in
-    let fewer : room ≡ nat_lt (running_instances s) workers = c.has_room-room.ensures ∙ ap (λ n. nat_lt n workers) (running_are s c.args.alive.now kept) in
+    let fewer : room ≡ nat_lt (running_instances s) workers = c.has_room-room.ensures ∙ ap (λ n. nat_lt n workers)
+    (running_are s c.args.alive.now kept) in
     let none : length all ≡ 0 = sym c.count_turns-count.ensures ∙ c.if-count-eq0.true in
     ap (option_map (turn_event p limit s)) (none_chosen c.args.choice all none)
     ∙ chosen_is (turn_event p limit s) all (candidates p limit workers s) c.args.choice
@@ -22,12 +23,15 @@ returns c = λ p limit s kept begin.
     let room = c.has_room-room.result in
     let workers = c.args.workers in
     let all = turns room c.args.begins c.args.alive.now in
-    let fewer : room ≡ nat_lt (running_instances s) workers = c.has_room-room.ensures ∙ ap (λ n. nat_lt n workers) (running_are s c.args.alive.now kept) in
+    let fewer : room ≡ nat_lt (running_instances s) workers = c.has_room-room.ensures ∙ ap (λ n. nat_lt n workers)
+    (running_are s c.args.alive.now kept) in
     let counted = c.count_turns-count.ensures in
     let some = c.if-count-eq0.false in
-    let below : c.args.choice % c.count_turns-count.result < c.count_turns-count.result = mod_below c.args.choice c.count_turns-count.result (omega (arith, some)) in
+    let below : c.args.choice % c.count_turns-count.result < c.count_turns-count.result = mod_below c.args.choice
+    c.count_turns-count.result (omega (arith, some)) in
     ap (λ t. Some (turn_event p limit s t)) c.turn_at.ensures
     ∙ ap (option_map (turn_event p limit s))
-    (some_chosen c.args.choice room c.args.begins c.args.alive.now (c.args.choice % c.count_turns-count.result) (ap (λ n. c.args.choice % n) counted) (omega (arith, below, counted)))
+    (some_chosen c.args.choice room c.args.begins c.args.alive.now (c.args.choice % c.count_turns-count.result)
+    (ap (λ n. c.args.choice % n) counted) (omega (arith, below, counted)))
     ∙ chosen_is (turn_event p limit s) all (candidates p limit workers s) c.args.choice
     (turns_are p limit workers s room c.args.begins c.args.alive.now kept begin fewer)

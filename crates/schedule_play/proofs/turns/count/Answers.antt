@@ -8,6 +8,8 @@ pub returns : goal.returns
 returns c = λ p limit s kept begin.
     let room = c.has_room.result in
     let workers = c.args.workers in
-    let fewer : room ≡ nat_lt (running_instances s) workers = c.has_room.ensures ∙ ap (λ n. nat_lt n workers) (running_are s c.args.alive.now kept) in
+    let fewer : room ≡ nat_lt (running_instances s) workers = c.has_room.ensures ∙ ap (λ n. nat_lt n workers)
+    (running_are s c.args.alive.now kept) in
     c.count_turns.ensures
-    ∙ count_is p limit workers s (turns room c.args.begins c.args.alive.now) (turns_are p limit workers s room c.args.begins c.args.alive.now kept begin fewer)
+    ∙ count_is p limit workers s (turns room c.args.begins c.args.alive.now)
+    (turns_are p limit workers s room c.args.begins c.args.alive.now kept begin fewer)

@@ -22,4 +22,5 @@ returns-else-room c =
       | else-room-via-else-room w ↦ rw w.if-room.false refl
     ] in
     let same : count + 0 ≡ count = omega arith in
-    c.count_iterations-iterations.ensures ∙ sym same ∙ ap (λ b. count + (if b then 1 else 0)) (sym none) ∙ sym (turns_counted c.args.room c.args.begins kept)
+    c.count_iterations-iterations.ensures ∙ sym same ∙ ap (λ b. count + (if b then 1 else 0)) (sym none)
+    ∙ sym (turns_counted c.args.room c.args.begins kept)

@@ -24,7 +24,8 @@ returns c =
     let run = c.args.run in
     let before = init_accesses w ++ accesses_of run.log.accesses in
     let none : is_some run.trap ≡ false = sym c.is_some.ensures ∙ c.if-is_some.false in
-    ran_to_end w run c.into_output-2.result c.in_ok-last.last.trap c.requires.no_trap c.requires.ran none (c.in_ok-last.ensures.trap before c.requires.ran.cells)
+    ran_to_end w run c.into_output-2.result c.in_ok-last.last.trap c.requires.no_trap c.requires.ran none
+    (c.in_ok-last.ensures.trap before c.requires.ran.cells)
     (c.into_output-2.ensures.output w.loop.store (before ++ accesses_in (last_trace w (accesses_of run.log.accesses)))
     (c.in_ok-last.ensures.state before c.requires.ran.cells)
     (has_output c.in_ok-last.last.cells c.in_ok-last.ensures.serves.whole))

@@ -19,7 +19,8 @@ returns-in-Some-clause-ran g c = λ t stands.
     let run = c.run_stage-end.new.self.run in
     let none : made_since log c.new-recorder.result.log ≡ [] =
     ap (λ (r : Recording). made_since log r.log) begun ∙ ap (made_since log) c.requires.log ∙ made_none log in
-    let ran = c.run_stage-end.ensures.ran t (subst (λ (r : Recording). StandsFor code r.log.cells.shard.cells input c.args.machine.now.run t)
+    let ran = c.run_stage-end.ensures.ran t (subst (λ (r : Recording). StandsFor code r.log.cells.shard.cells input c.args.machine.now.run
+    t)
     (sym begun) stands) in
     let adds = c.into_log.ensures.adds (sym c.is_full.ensures ∙ c.if-is_full.false) in
     let own = subst (λ (x : NodeId). Adds x log (made_since log now) now) (sym c.requires.node) adds in
@@ -40,13 +41,15 @@ returns-in-Some-clause-tree g c = λ d stands.
     let run = c.run_stage-end.new.self.run in
     let none : made_since log c.new-recorder.result.log ≡ [] =
     ap (λ (r : Recording). made_since log r.log) begun ∙ ap (made_since log) c.requires.log ∙ made_none log in
-    let ran = c.run_stage-end.ensures.tree d (subst (λ (r : Recording). StandsForTree code r.log.cells.shard.cells input c.args.machine.now.run d)
+    let ran = c.run_stage-end.ensures.tree d (subst (λ (r : Recording). StandsForTree code r.log.cells.shard.cells input
+    c.args.machine.now.run d)
     (sym begun) stands) in
     let adds = c.into_log.ensures.adds (sym c.is_full.ensures ∙ c.if-is_full.false) in
     let own = subst (λ (x : NodeId). Adds x log (made_since log now) now) (sym c.requires.node) adds in
     let since = subst (λ (l : Log). Adds c.args.node l (made_since log now) now) (sym c.requires.log) own in
     tree_ran_from code c.args.log.cells.shard.cells input d c.args.node c.args.log now run _ c.in-Some.end _ _ none
-    (subst (λ (r : Recording). RanTree code r.log.cells.shard.cells input d (natural code.limits.steps) (made_since log c.new-recorder.result.log)
+    (subst (λ (r : Recording). RanTree code r.log.cells.shard.cells input d (natural code.limits.steps)
+    (made_since log c.new-recorder.result.log)
     (made_since log c.run_stage-end.new.memory.log) run c.run_stage-end.result) begun ran)
     (subst (λ (l : Log). Adds c.args.node c.args.log (made_since log l) now) c.into_log.ensures.log since)
     (sym c.instance_end.ensures ∙ c.in-Some.is)

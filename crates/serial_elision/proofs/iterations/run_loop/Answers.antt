@@ -47,7 +47,8 @@ loop-iteration-preserved c =
           was (c.in_ok-column.ensures.ran _ s.invariant.elided.cells) c.column_closes-closes.ensures
           (λ h. absurd (let e : false ≡ true = sym c.if-closes.false ∙ h in cc (e))) (λ h. refl)
           c.in_ok-push.ensures.ok c.or-trap.ensures c.column_trap.ensures;
-      counted = steps_push tree input p rest rest s.iteration s.log c.in_ok-column.ran c.in_ok-column.column c.column_closes-closes.result s.steps
+      counted = steps_push tree input p rest rest s.iteration s.log c.in_ok-column.ran c.in_ok-column.column c.column_closes-closes.result
+          s.steps
           c.run_part.new.steps (subst (λ n. StepsSoFar tree input p n s.iteration s.log s.steps) more s.invariant.counted)
           (c.in_ok-column.ensures.ran _ s.invariant.elided.cells) c.column_closes-closes.ensures
           (λ h. absurd (let e : false ≡ true = sym c.if-closes.false ∙ h in cc (e))) (λ h. refl)
@@ -82,7 +83,8 @@ returns-clause-ran c =
     let input = c.args.prepared.now.input.now in
     let p = loop_after_init (whole_of tree input) in
     let none : c.last_iteration-last.result + 1 - s.iteration ≡ zero = omega (arith, c.loop-iteration-test.false) in
-    elided_all p s.iteration s.columns s.steps s.trap s.log (subst (λ n. Elided p n s.iteration s.columns s.trap s.log) none s.invariant.elided)
+    elided_all p s.iteration s.columns s.steps s.trap s.log
+    (subst (λ n. Elided p n s.iteration s.columns s.trap s.log) none s.invariant.elided)
 
 pub returns-then-closes-clause-steps : goal.returns-then-closes-clause-steps
 returns-then-closes-clause-steps c =
@@ -93,7 +95,8 @@ returns-then-closes-clause-steps c =
     let last = c.last_iteration-last.result in
     let more : last + 1 - s.iteration ≡ suc (last - s.iteration) = omega (arith, c.loop-iteration-test.true) in
     steps_all tree input p (s.iteration + 1) c.in_ok-column.ran c.run_part.new.steps
-    (steps_push tree input p (last - s.iteration) zero s.iteration s.log c.in_ok-column.ran c.in_ok-column.column c.column_closes-closes.result
+    (steps_push tree input p (last - s.iteration) zero s.iteration s.log c.in_ok-column.ran c.in_ok-column.column
+    c.column_closes-closes.result
     s.steps c.run_part.new.steps (subst (λ n. StepsSoFar tree input p n s.iteration s.log s.steps) more s.invariant.counted)
     (c.in_ok-column.ensures.ran _ s.invariant.elided.cells) c.column_closes-closes.ensures (λ h. refl)
     (λ h. absurd (let e : true ≡ false = sym c.if-closes.true ∙ h in cc (e)))
@@ -106,4 +109,5 @@ returns-clause-steps c =
     let input = c.args.prepared.now.input.now in
     let p = loop_after_init (whole_of tree input) in
     let none : c.last_iteration-last.result + 1 - s.iteration ≡ zero = omega (arith, c.loop-iteration-test.false) in
-    steps_all tree input p s.iteration s.log s.steps (subst (λ n. StepsSoFar tree input p n s.iteration s.log s.steps) none s.invariant.counted)
+    steps_all tree input p s.iteration s.log s.steps (subst (λ n. StepsSoFar tree input p n s.iteration s.log s.steps) none
+    s.invariant.counted)

@@ -11,7 +11,8 @@ abbrev pub invariant-loop-iteration : goal.invariant-loop-iteration
 invariant-loop-iteration l =
     let tree = tree_of l.prepared.checked.now in record {
       elided : Elided (loop_after_init (whole_of tree l.prepared.input.now)) (l.last + 1 - l.iteration) l.iteration l.columns l.trap l.log;
-      counted : StepsSoFar tree l.prepared.input.now (loop_after_init (whole_of tree l.prepared.input.now)) (l.last + 1 - l.iteration) l.iteration l.log l.steps;
+      counted : StepsSoFar tree l.prepared.input.now (loop_after_init (whole_of tree l.prepared.input.now))
+          (l.last + 1 - l.iteration) l.iteration l.log l.steps;
       made : IsMadeFor l.prepared.code.now l.machine;
       serves : Serves tree l.log.cells;
     }

@@ -14,7 +14,8 @@ returns-clause-accesses c = λ before state.
     let tree = tree_of c.args.prepared.now.checked.now in
     let trace = serial_trace (store_of tree) (behaviour_in tree c.args.prepared.now.input.now c.args.part 0) before in
     let begun = subst (λ (l : Log). IsStateAfter (store_of tree) before l.cells) (sym c.new-log.ensures) state in
-    let made = (c.in_ok-column.ensures.ran before begun).accesses_are ∙ ap (λ (l : Log). l.accesses ++ located 0 0 trace) c.new-log.ensures in
+    let made = (c.in_ok-column.ensures.ran before begun).accesses_are ∙ ap (λ (l : Log). l.accesses ++ located 0 0 trace) c.new-log.ensures
+    in
     c.in_ok-plain_accesses.ensures ∙ ap accesses_of made ∙ accesses_of-located 0 0 trace
 
 pub returns-clause-made : goal.returns-clause-made

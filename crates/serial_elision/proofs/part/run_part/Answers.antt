@@ -29,14 +29,16 @@ loop-nodes-init c =
       left = left_begun code cells input (store_of tree) (behaviour_in tree input c.args.part c.args.iteration) c.args.iteration c.args.log
           c.reset.new.self.run c.in_ok-nodes.nodes c.in_ok-log.log
           stands c.in_ok-nodes.ensures begun;
-      counted = steps_begun code cells input (store_of tree) (interaction_in tree input c.args.part c.args.iteration) c.args.iteration c.args.log
+      counted = steps_begun code cells input (store_of tree) (interaction_in tree input c.args.part c.args.iteration) c.args.iteration
+          c.args.log
           c.args.steps.now c.reset.new.self.run c.in_ok-log.log tree_stands begun;
       made = c.reset.ensures.made;
       shard = ap (λ (l : Log). l.cells.shard) begun;
       whole = subst (λ (l : Log). IsWhole l.cells) (sym begun) c.requires.serves.whole;
       some = omega (arith, one);
       room = omega (arith, one);
-      few = subst (λ l. natural l ≤ 4096) (ap (λ l. l.stages) c.limits-limits.ensures.limits) (natural_most _ 4096 c.limits-limits.ensures.in_range.stages.1);
+      few = subst (λ l. natural l ≤ 4096) (ap (λ l. l.stages) c.limits-limits.ensures.limits)
+          (natural_most _ 4096 c.limits-limits.ensures.in_range.stages.1);
     }
 
 pub loop-nodes-preserved : goal.loop-nodes-preserved
@@ -58,7 +60,8 @@ loop-nodes-preserved c =
     record {
       left = left_entered code c.args.log.cells.shard.cells s.log.cells.shard.cells input (store_of tree)
           (behaviour_in tree input c.args.part c.args.iteration) c.args.iteration c.args.log s.machine.run
-          c.run_instance.new.machine.run c.last_node-node.result s.nodes c.push-in-Next.new.self s.log ran c.in_ok-log-in-Next.log c.in_ok-end.end
+          c.run_instance.new.machine.run c.last_node-node.result s.nodes c.push-in-Next.new.self s.log ran c.in_ok-log-in-Next.log
+          c.in_ok-end.end
           c.in-Next.kind c.in-Next.number s.invariant.left
           c.in_ok-end.ensures.ran (ap (λ x. x.cells) s.invariant.shard) c.last_node-node.ensures c.in-Next.is grown entered;
       counted = steps_entered code c.args.log.cells.shard.cells s.log.cells.shard.cells input (store_of tree)
@@ -84,7 +87,8 @@ returns-in-Ended-clause-ran c = λ before state.
     (behaviour_in tree input c.args.part c.args.iteration) c.args.iteration c.args.log s.machine.run
     c.run_instance.new.machine.run c.last_node-node.result s.nodes s.log c.in_ok-end.ran c.in_ok-finish-in-Ended.field-0 c.in_ok-end.end
     c.in-Ended.end before s.invariant.left
-    c.in_ok-end.ensures.ran (ap (λ x. x.cells) s.invariant.shard) c.last_node-node.ensures c.in-Ended.is c.in_ok-finish-in-Ended.ensures state
+    c.in_ok-end.ensures.ran (ap (λ x. x.cells) s.invariant.shard) c.last_node-node.ensures c.in-Ended.is c.in_ok-finish-in-Ended.ensures
+    state
 
 pub returns-in-Ended-clause-made : goal.returns-in-Ended-clause-made
 returns-in-Ended-clause-made c = λ k h. c.run_instance.ensures.made k (c.loop-nodes.invariant.made k h)

@@ -17,13 +17,15 @@ invariant-loop-nodes l =
     let input = l.prepared.input.now in record {
       left : Left l.prepared.code.now l.fn.log.cells.shard.cells input (store_of tree) (behaviour_in tree input l.fn.part l.iteration)
           l.iteration l.fn.log l.machine.run l.nodes l.log;
-      counted : StepsLeft l.prepared.code.now l.fn.log.cells.shard.cells input (store_of tree) (interaction_in tree input l.fn.part l.iteration)
+      counted : StepsLeft l.prepared.code.now l.fn.log.cells.shard.cells input (store_of tree)
+          (interaction_in tree input l.fn.part l.iteration)
           l.fn.log l.initial.steps l.machine.run l.log l.steps;
       made : (code : FlatCode) → IsMadeFor code l.fn.machine → IsMadeFor code l.machine;
       shard : l.log.cells.shard ≡ l.fn.log.cells.shard;
       whole : IsWhole l.log.cells;
       some : 0 < length l.nodes;
-      room : length l.nodes + (natural l.prepared.code.now.limits.stages - l.machine.run.state.stage.count) ≤ natural l.prepared.code.now.limits.stages + 1;
+      room : length l.nodes + (natural l.prepared.code.now.limits.stages - l.machine.run.state.stage.count) ≤ natural
+          l.prepared.code.now.limits.stages + 1;
       few : natural l.prepared.code.now.limits.stages ≤ natural MOST_STAGES;
     }
 

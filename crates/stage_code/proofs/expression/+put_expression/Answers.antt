@@ -15,12 +15,15 @@ returns-in_ok-put-in-Binary-2 t c =
     let op = c.in-Binary.op in
     let a = expression_of c.deref-in-Binary.result.now in
     let b = expression_of c.deref-in-Binary-2.result.now in
-    let is : expression_of c.args.e.now ≡ binary_expression op a b = rw (c.in-Binary.is, c.deref-in-Binary.ensures, c.deref-in-Binary-2.ensures) in
+    let is : expression_of c.args.e.now ≡ binary_expression op a b =
+    rw (c.in-Binary.is, c.deref-in-Binary.ensures, c.deref-in-Binary-2.ensures) in
     let short : is_short op ≡ true = search rules in
     let now : c.test_code-in-Binary.result ≡ test_code op c.place.result = search rules in
     ap (λ i. slice_set c.put-in-Binary-2.new.code.items c.len-test.result i) now
-    ∙ passing_patched (test_code op) base (expression_code cells scope (length base) a) c.put_expression-in-Binary.new.code.items c.put-in-Binary.new.code.items
-    c.put_expression-in-Binary-2.new.code.items c.put-in-Binary-2.new.code.items (λ n. expression_code cells scope n b) c.test_code.result instrs.Truth
+    ∙ passing_patched (test_code op) base (expression_code cells scope (length base) a) c.put_expression-in-Binary.new.code.items
+    c.put-in-Binary.new.code.items
+    c.put_expression-in-Binary-2.new.code.items c.put-in-Binary-2.new.code.items (λ n. expression_code cells scope n b) c.test_code.result
+    instrs.Truth
     c.len-test.result c.place.result c.in_ok-put_expression-in-Binary.ensures (search rules) c.in_ok-put-in-Binary.ensures
     c.in_ok-put_expression-in-Binary-3.ensures
     c.in_ok-put-in-Binary-2.ensures c.place.ensures

@@ -12,4 +12,5 @@ decreases-height_of_statement l = 4 * statement_count (statement_of l.s.now)
 
 abbrev pub invariant-height_of_block-loop-s : goal.invariant-height_of_block-loop-s
 invariant-height_of_block-loop-s l =
-    greater l.most (height_of_statements (statements_of (drop l.s-index l.s-items))) ≡ height_of_statements (statements_of l.block.statements.items)
+    greater l.most (height_of_statements (statements_of (drop l.s-index l.s-items))) ≡ height_of_statements
+    (statements_of l.block.statements.items)

@@ -11,7 +11,8 @@ use Rattle.stage_code.proofs.lower.lower_program.Goals as goal
 
 pub of-requires-clause-new : goal.of-requires-clause-new
 of-requires-clause-new c =
-    subst (λ (ds : List Declaration). AreNew [] ds) (sym c.as_slice.ensures) (ready (tree_of c.args.program.now) c.requires.spellable c.requires.obeys).new
+    subst (λ (ds : List Declaration). AreNew [] ds) (sym c.as_slice.ensures)
+    (ready (tree_of c.args.program.now) c.requires.spellable c.requires.obeys).new
 
 pub of-requires-clause-few : goal.of-requires-clause-few
 of-requires-clause-few c =
@@ -20,7 +21,8 @@ of-requires-clause-few c =
 
 pub put_part-requires-clause-fits : goal.put_part-requires-clause-fits
 put_part-requires-clause-fits c =
-    init_fits (tree_of c.args.program.now) (range_of 2 c.in_ok-cells.cells) c.new-instrs.result.items c.requires.spellable.bounded c.new-instrs.ensures.items
+    init_fits (tree_of c.args.program.now) (range_of 2 c.in_ok-cells.cells) c.new-instrs.result.items c.requires.spellable.bounded
+    c.new-instrs.ensures.items
 
 pub put_part-requires-clause-slots : goal.put_part-requires-clause-slots
 put_part-requires-clause-slots c = (ready (tree_of c.args.program.now) c.requires.spellable c.requires.obeys).init
@@ -48,7 +50,8 @@ place-last-requires c =
 
 pub put_part-requires-2-clause-fits : goal.put_part-requires-2-clause-fits
 put_part-requires-2-clause-fits c =
-    last_fits (tree_of c.args.program.now) (range_of 2 c.in_ok-cells.cells) c.new-instrs.result.items c.put_part.new.code.items c.put_iteration.new.code.items
+    last_fits (tree_of c.args.program.now) (range_of 2 c.in_ok-cells.cells) c.new-instrs.result.items c.put_part.new.code.items
+    c.put_iteration.new.code.items
     c.requires.spellable.bounded c.new-instrs.ensures.items c.in_ok-put_part.ensures c.in_ok-put_iteration.ensures
 
 pub put_part-requires-2-clause-slots : goal.put_part-requires-2-clause-slots
@@ -63,7 +66,8 @@ new-requires c =
     let table : c.in_ok-cells.cells ≡ program.cells = c.in_ok-cells.ensures ∙ c.as_slice.ensures in
     subst IsSoundCode (sym (flat_is (tree_of program) c.in_ok-cells.cells c.new-instrs.result.items c.put_part.new.code.items
     c.put_iteration.new.code.items c.put_part-2.new.code.items
-    c.place-pipe.result c.place-last.result c.greatest_height-depth.result table c.new-instrs.ensures.items c.in_ok-put_part.ensures c.place-pipe.ensures
+    c.place-pipe.result c.place-last.result c.greatest_height-depth.result table c.new-instrs.ensures.items c.in_ok-put_part.ensures
+    c.place-pipe.ensures
     c.in_ok-put_iteration.ensures c.place-last.ensures c.in_ok-put_part-2.ensures c.greatest_height-depth.ensures))
     (flat_sound (tree_of program) c.requires.spellable c.requires.obeys)
 
@@ -74,5 +78,6 @@ returns c =
     subst (λ (made : FlatCode). IfOk c.new.result (λ code. code ≡ made))
     (flat_is (tree_of program) c.in_ok-cells.cells c.new-instrs.result.items c.put_part.new.code.items c.put_iteration.new.code.items
     c.put_part-2.new.code.items
-    c.place-pipe.result c.place-last.result c.greatest_height-depth.result table c.new-instrs.ensures.items c.in_ok-put_part.ensures c.place-pipe.ensures
+    c.place-pipe.result c.place-last.result c.greatest_height-depth.result table c.new-instrs.ensures.items c.in_ok-put_part.ensures
+    c.place-pipe.ensures
     c.in_ok-put_iteration.ensures c.place-last.ensures c.in_ok-put_part-2.ensures c.greatest_height-depth.ensures) c.new.ensures

@@ -7,7 +7,8 @@ use Rattle.pipe_model.proofs.NestedBlocks.{if_seen, while_seen}
 use Rattle.stage_code.specs.CodeOfTrees.{expression_code, statement_code, statements_code}
 use Rattle.stage_code.specs.declared.instr.Instr.TheVariants as instrs
 use Rattle.stage_code.proofs.Patches.{passing_patched, choosing_patched}
-use Rattle.stage_code.proofs.Statements.{statement_fits, statement_slots, block_left, first_fits, between_fits, second_fits, if_slots, while_slots, body_fits}
+use Rattle.stage_code.proofs.Statements.{statement_fits, statement_slots, block_left, first_fits, between_fits, second_fits, if_slots}
+use Rattle.stage_code.proofs.Statements.{while_slots, body_fits}
 use Rattle.stage_code.proofs.statement.+walk.Goals as goal
 
 pub put_block-put_statement-requires : goal.put_block-put_statement-requires
@@ -18,7 +19,8 @@ put_block-put_statement-requires t c =
     let whole = ap (λ ss. statement_counts (statements_of ss)) c.deref-s-items.ensures.value in (
       omega (arith, c.decreases, counted, whole),
       (
-        statement_fits (range_of 2 c.args.cells.now) c.loop-s.locals c.args.locals.now items c.loop-s.s-index c.loop-s.code.items c.args.code.now.items
+        statement_fits (range_of 2 c.args.cells.now) c.loop-s.locals c.args.locals.now items c.loop-s.s-index c.loop-s.code.items
+            c.args.code.now.items
             (statements_of c.args.block.now.statements.items) c.s-item.result w c.s-item.is c.loop-s.invariant.code c.requires.fits,
         statement_slots c.loop-s.locals items c.loop-s.s-index c.s-item.result w c.s-item.is c.loop-s.invariant.slots,
       ),
@@ -49,7 +51,8 @@ put_statement-put_block-requires t c =
 pub put_statement-place-requires : goal.put_statement-place-requires
 put_statement-place-requires t c =
     let is = ap statement_of c.in-If.is ∙ if_seen c.in-If.e c.in-If.a c.in-If.b in
-    let fits = between_fits (range_of 2 c.args.cells.now) c.args.locals.now (expression_of c.in-If.e) (statements_of c.in-If.a.statements.items)
+    let fits = between_fits (range_of 2 c.args.cells.now) c.args.locals.now (expression_of c.in-If.e)
+    (statements_of c.in-If.a.statements.items)
     (statements_of c.in-If.b.statements.items) _
     c.args.code.now.items c.put_expression.new.code.items c.put.new.code.items c.put_block.new.code.items c.put-in-If.new.code.items
     (instrs.Branch 0) (instrs.Jump 0) is c.requires.fits
@@ -97,7 +100,8 @@ pub put_statement-put_block-requires-in-While : goal.put_statement-put_block-req
 put_statement-put_block-requires-in-While t c =
     let is = ap statement_of c.in-While.is ∙ while_seen c.in-While.e c.in-While.a in
     let counted = ap statement_count is in
-    let fits = body_fits (range_of 2 c.args.cells.now) c.args.locals.now (expression_of c.in-While.e) (statements_of c.in-While.a.statements.items) _
+    let fits = body_fits (range_of 2 c.args.cells.now) c.args.locals.now (expression_of c.in-While.e)
+    (statements_of c.in-While.a.statements.items) _
     c.args.code.now.items c.put_expression-in-While.new.code.items c.put-in-While.new.code.items (instrs.Branch 0) is c.requires.fits
     c.in_ok-put_expression-in-While.ensures c.in_ok-put-in-While.ensures in (
       omega (arith, c.decreases, counted),
@@ -139,7 +143,8 @@ put_statement-returns-in_ok-put_block-in-If-2-clause-code t c =
     c.in_ok-put_block-in-If-2.ensures.code ∙ ap (λ (names : List (List ℕ)). c5 ++ statements_code cells names (length c5) b) left in
     choosing_patched base (expression_code cells scope (length base) (expression_of c.in-If.e)) c.put_expression.new.code.items
     c.put.new.code.items c.put_block.new.code.items c.put-in-If.new.code.items
-    c5 c.put_block-in-If.new.code.items (λ n. statements_code cells scope n a) (λ n. statements_code cells scope n b) (instrs.Branch 0) (instrs.Jump 0)
+    c5 c.put_block-in-If.new.code.items (λ n. statements_code cells scope n a) (λ n. statements_code cells scope n b) (instrs.Branch 0)
+    (instrs.Jump 0)
     c.len-test.result c.len-end.result c.place.result c.place-in-If.result c.in_ok-put_expression-in-If.ensures (search rules)
     c.in_ok-put-in-If.ensures c.in_ok-put_block-in-If.ensures.code
     (search rules) c.in_ok-put-in-If-2.ensures c.place.ensures refl grown c.place-in-If.ensures
@@ -156,7 +161,8 @@ put_statement-returns-in_ok-put-in-While-2-clause-code t c =
     c.in_ok-put-in-While-2.ensures ∙ ap (λ (n : ℕ). c.put_block-in-While.new.code.items ++ instrs.Jump n ∷ []) c.place-start.ensures in
     passing_patched (λ n. instrs.Branch n) base (expression_code cells scope (length base) (expression_of c.in-While.e))
     c.put_expression-in-While.new.code.items c.put-in-While.new.code.items
-    c.put_block-in-While.new.code.items c.put-in-While-2.new.code.items (λ n. statements_code cells scope n a) (instrs.Branch 0) (instrs.Jump (length base))
+    c.put_block-in-While.new.code.items c.put-in-While-2.new.code.items (λ n. statements_code cells scope n a) (instrs.Branch 0)
+    (instrs.Jump (length base))
     c.len-test-in-While.result c.place-in-While.result c.in_ok-put_expression-in-While.ensures (search rules) c.in_ok-put-in-While.ensures
     c.in_ok-put_block-in-While.ensures.code
     start c.place-in-While.ensures

@@ -16,7 +16,9 @@ decreases-put_statement l = 4 * statement_count (statement_of l.s.now)
 abbrev pub invariant-put_block-loop-s : goal.invariant-put_block-loop-s
 invariant-put_block-loop-s l = record {
   code : l.code.items ++ statements_code (range_of 2 l.cells) l.locals (length l.code.items) (statements_of (drop l.s-index l.s-items))
-      ≡ l.fn.code.items ++ statements_code (range_of 2 l.cells) l.fn.locals (length l.fn.code.items) (statements_of l.block.statements.items);
-  after : locals_at_end l.locals (statements_of (drop l.s-index l.s-items)) ≡ locals_at_end l.fn.locals (statements_of l.block.statements.items);
+      ≡ l.fn.code.items ++ statements_code (range_of 2 l.cells) l.fn.locals (length l.fn.code.items)
+      (statements_of l.block.statements.items);
+  after : locals_at_end l.locals (statements_of (drop l.s-index l.s-items)) ≡ locals_at_end l.fn.locals
+      (statements_of l.block.statements.items);
   slots : HaveSlots l.locals (statements_of (drop l.s-index l.s-items));
 }

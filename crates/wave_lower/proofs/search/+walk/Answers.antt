@@ -18,7 +18,8 @@ find_in_block-find_in_statement-requires t c =
     let whole = ap (λ ss. statement_counts (statements_of ss)) same in (
       omega (arith, c.decreases, counted, whole),
       statement_fits c.args.stage c.args.target items c.loop-s.s-index c.loop-s.next c.args.next c.s-item.result w c.s-item.is
-          c.loop-s.invariant (subst (λ ss. Fits c.args.next (flags_of_statements c.args.stage c.args.target (statements_of ss))) (sym same) c.requires),
+          c.loop-s.invariant (subst (λ ss. Fits c.args.next (flags_of_statements c.args.stage c.args.target (statements_of ss)))
+          (sym same) c.requires),
     )
 
 pub find_in_block-returns-in_err-next : goal.find_in_block-returns-in_err-next

@@ -1,7 +1,8 @@
 use Rattle.std.proofs.Common.{◌≡◌, rules, length}
 use Rattle.std.proofs.lemmas.Result.{err_from_is_err_and}
 use Rattle.pipe_model.specs.Language.SyntaxTree.{tree_of}
-use Rattle.wave_lower.proofs.ProgramFlags.{body_begins, body_fits, few_cells, found_in_body, found_in_init, found_in_last, init_fits, last_fits}
+use Rattle.wave_lower.proofs.ProgramFlags.{body_begins, body_fits, few_cells, found_in_body, found_in_init, found_in_last, init_fits}
+use Rattle.wave_lower.proofs.ProgramFlags.{last_fits}
 use Rattle.wave_lower.proofs.ProgramFlags.{none_found}
 use Rattle.wave_lower.proofs.wave.find_stage.Goals as goal
 

@@ -27,7 +27,8 @@ hold-requires-clause-others c =
     let events = advance_events t.iteration c.args.end (next.Go c.in-Go.token) in
     subst (λ i. AreHeldBut i c.advance-next.new.self c.take.new.self.tokens.items) (sym c.in-Go.ensures.returned.2)
     (held_after t.iteration v c.advance-next.new.self events c.take.new.self.tokens.items
-    (subst (λ w. Changes t.iteration v w events) (sym c.in-Go.ensures.book) (advance_changes v (fields_of t) c.args.end c.new.result (next.Go c.in-Go.token)))
+    (subst (λ w. Changes t.iteration v w events) (sym c.in-Go.ensures.book)
+    (advance_changes v (fields_of t) c.args.end c.new.result (next.Go c.in-Go.token)))
     c.last_ticket-self.ensures c.take.ensures.held)
 
 pub returns-in-Suspended : goal.returns-in-Suspended
@@ -39,7 +40,8 @@ returns-in-Suspended c =
     held_all t.iteration c.advance-next.new.self tokens
     (subst (λ i. token_of tokens i ≡ None) (sym c.in-Some.ensures.token.0) c.take.ensures.gone)
     (held_after t.iteration v c.advance-next.new.self events tokens
-    (subst (λ w. Changes t.iteration v w events) (sym c.in-Suspended.ensures.book) (advance_changes {M = Plan} v (fields_of t) c.args.end c.new.result next.Suspended)) c.last_ticket-self.ensures c.take.ensures.held)
+    (subst (λ w. Changes t.iteration v w events) (sym c.in-Suspended.ensures.book)
+    (advance_changes {M = Plan} v (fields_of t) c.args.end c.new.result next.Suspended)) c.last_ticket-self.ensures c.take.ensures.held)
 
 pub returns-in-Ended : goal.returns-in-Ended
 returns-in-Ended c =
@@ -50,4 +52,5 @@ returns-in-Ended c =
     held_all t.iteration c.advance-next.new.self tokens
     (subst (λ i. token_of tokens i ≡ None) (sym c.in-Some.ensures.token.0) c.take.ensures.gone)
     (held_after t.iteration v c.advance-next.new.self events tokens
-    (subst (λ w. Changes t.iteration v w events) (sym c.in-Ended.ensures.book) (advance_changes {M = Plan} v (fields_of t) c.args.end c.new.result next.Ended)) c.last_ticket-self.ensures c.take.ensures.held)
+    (subst (λ w. Changes t.iteration v w events) (sym c.in-Ended.ensures.book)
+    (advance_changes {M = Plan} v (fields_of t) c.args.end c.new.result next.Ended)) c.last_ticket-self.ensures c.take.ensures.held)

@@ -10,4 +10,5 @@ hold-requires-clause-others c =
     let v = c.args.self.now.book in
     let t = c.in-Started.token in
     held_after t.iteration v c.begin-begun.new.self (events.Begin t.iteration ∷ []) c.args.self.now.tokens.items
-    (subst (λ w. Changes t.iteration v w (events.Begin t.iteration ∷ [])) (sym c.in-Started.ensures.book) (begin_changes t.iteration v t)) c.last_ticket-self.ensures c.requires
+    (subst (λ w. Changes t.iteration v w (events.Begin t.iteration ∷ [])) (sym c.in-Started.ensures.book) (begin_changes t.iteration v t))
+    c.last_ticket-self.ensures c.requires

@@ -10,4 +10,5 @@ hold-requires-clause-others c =
     let v = c.args.self.now.book in
     let i = c.in-Some.token.iteration in
     held_after i v c.enter-entered.new.self (events.Enter i ∷ []) c.args.self.now.tokens.items
-    (subst (λ w. Changes i v w (events.Enter i ∷ [])) (sym c.in-Some.ensures.book) (enter_changes v i)) c.last_ticket-self.ensures c.requires
+    (subst (λ w. Changes i v w (events.Enter i ∷ [])) (sym c.in-Some.ensures.book) (enter_changes v i)) c.last_ticket-self.ensures
+    c.requires

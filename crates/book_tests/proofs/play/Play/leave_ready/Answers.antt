@@ -15,4 +15,5 @@ returns-in-Some c =
     held_all t.iteration c.leave_ready.new.self tokens
     (subst (λ i. token_of tokens i ≡ None) (sym c.in-Some.ensures.token.0) c.take.ensures.gone)
     (held_after t.iteration v c.leave_ready.new.self [] tokens
-    (subst (λ w. Changes t.iteration v w []) (sym c.leave_ready.ensures) (leave_changes v (fields_of t))) c.last_ticket-self.ensures c.take.ensures.held)
+    (subst (λ w. Changes t.iteration v w []) (sym c.leave_ready.ensures) (leave_changes v (fields_of t))) c.last_ticket-self.ensures
+    c.take.ensures.held)

@@ -27,7 +27,8 @@ returns-in-Waits c =
     held_all t.iteration c.name_next-named.new.self tokens
     (subst (λ i. token_of tokens i ≡ None) (sym c.in-Some.ensures.token.0) c.take.ensures.gone)
     (held_after t.iteration v c.name_next-named.new.self events tokens
-    (subst (λ w. Changes t.iteration v w events) (sym c.in-Waits.ensures.book) (name_changes v (fields_of t) c.args.end c.new.result named.Waits)) c.last_ticket-self.ensures c.take.ensures.held)
+    (subst (λ w. Changes t.iteration v w events) (sym c.in-Waits.ensures.book)
+    (name_changes v (fields_of t) c.args.end c.new.result named.Waits)) c.last_ticket-self.ensures c.take.ensures.held)
 
 pub returns-in-Ended : goal.returns-in-Ended
 returns-in-Ended c =
@@ -38,4 +39,5 @@ returns-in-Ended c =
     held_all t.iteration c.name_next-named.new.self tokens
     (subst (λ i. token_of tokens i ≡ None) (sym c.in-Some.ensures.token.0) c.take.ensures.gone)
     (held_after t.iteration v c.name_next-named.new.self events tokens
-    (subst (λ w. Changes t.iteration v w events) (sym c.in-Ended.ensures.book) (name_changes v (fields_of t) c.args.end c.new.result named.Ended)) c.last_ticket-self.ensures c.take.ensures.held)
+    (subst (λ w. Changes t.iteration v w events) (sym c.in-Ended.ensures.book)
+    (name_changes v (fields_of t) c.args.end c.new.result named.Ended)) c.last_ticket-self.ensures c.take.ensures.held)

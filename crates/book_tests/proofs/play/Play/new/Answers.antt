@@ -10,14 +10,17 @@ use Rattle.book_tests.proofs.ScriptBehaviours.{sources_are_planned}
 use Rattle.book_tests.proofs.play.Play.new.Goals as goal
 
 pub new-requires-clause-planned : goal.new-requires-clause-planned
-new-requires-clause-planned c = sources_are_planned c.args.source c.requires.small (tree_of c.in_ok-program.program) c.in_ok-program.ensures c.new-input.result
+new-requires-clause-planned c = sources_are_planned c.args.source c.requires.small (tree_of c.in_ok-program.program)
+    c.in_ok-program.ensures c.new-input.result
 
 pub new-requires-clause-whole : goal.new-requires-clause-whole
 new-requires-clause-whole c =
     let plan = c.new-plan.result in
     let tree = tree_of c.in_ok-program.program in
     let same = c.new-plan.ensures in
-    let whole = plan_of_source c.args.source c.requires.small tree c.in_ok-program.ensures plan (same.0, same.1 ∙ c.waits.ensures, same.2) in
+    let whole = plan_of_source c.args.source c.requires.small tree c.in_ok-program.ensures plan
+    (same.0, same.1 ∙ c.waits.ensures, same.2) in
     let belongs = subst (λ o. BelongsTo (plan_tie plan) (identities_of_orders o)) (sym c.new-orders.ensures) tt in
     let P : Plan → Type 0 = λ m. IsPlanOf tree m × BelongsTo (plan_tie m) (identities_of_orders c.new-orders.result) in
-    subst (λ ms. All P ms) (sym (c.in_ok-payloads.ensures.items_if_clones_equal (λ y e. e))) (All-replicate P c.args.throttle plan (whole, belongs))
+    subst (λ ms. All P ms) (sym (c.in_ok-payloads.ensures.items_if_clones_equal (λ y e. e)))
+    (All-replicate P c.args.throttle plan (whole, belongs))

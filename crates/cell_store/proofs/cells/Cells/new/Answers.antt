@@ -20,7 +20,8 @@ returns-clause-state c =
     let count = c.cell_count-cells.ensures.count in
     let cells : c.cell_count-cells.result ≡ length store.values = omega (arith, values_length c.args.checked.now.cells) in
     let complete = subst (λ (l : List ℤ). length l ≤ shard + shards * length values) all c.in_ok-values_of_shard.ensures.complete in
-    let taken = subst (λ (l : List ℤ). (slot : ℕ) → slot < length values → get_or values slot (pos 0) ≡ get_or l (shard + shards * slot) (pos 0)) all
+    let taken = subst (λ (l : List ℤ). (slot : ℕ) → slot < length values → get_or values slot (pos 0) ≡ get_or l (shard + shards * slot)
+    (pos 0)) all
     c.in_ok-values_of_shard.ensures.values in
     is_fresh store _ cells (c.output_limit-output_limit.ensures ∙ ap (λ (p : Program). natural p.limits.emits) program) refl
     (subst (λ n. n ≤ shard + shards * length values) (sym cells) complete) taken c.in_ok-with_capacity.ensures.items

@@ -14,7 +14,8 @@ returns-clause-value c store before was =
     to_z-of_z w64 c.index.result.now fits
     ∙ stored_value store before (the_view c.self.inside) cell c.index.result.now (subst (IsStateAfter store before) view was)
     (subst (λ (s : ShardState). cell < s.shard.cells) view c.requires.there)
-    (subst (λ (s : ShardState). IsOfShard s.shard cell) view c.requires.own) c.self.invariant.complete (rw c.slot_of.ensures at c.index.ensures)
+    (subst (λ (s : ShardState). IsOfShard s.shard cell) view c.requires.own) c.self.invariant.complete
+    (rw c.slot_of.ensures at c.index.ensures)
 
 pub returns-clause-state : goal.returns-clause-state
 returns-clause-state c store before was = leaves_state store before _ c.args.self.now (λ _. refl) was

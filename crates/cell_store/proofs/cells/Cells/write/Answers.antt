@@ -13,7 +13,8 @@ returns-then-ne-clause-state c store before was =
     let view = sym c.self.view_is in
     let cell = c.args.cell.0 in
     let own = subst (λ (s : ShardState). IsOfShard s.shard cell) view c.requires.own in
-    let there = slot_within cell _ _ _ _ (subst (λ (s : ShardState). cell < s.shard.cells) view c.requires.there) own c.self.invariant.complete in
+    let there = slot_within cell _ _ _ _ (subst (λ (s : ShardState). cell < s.shard.cells) view c.requires.there) own
+    c.self.invariant.complete in
     let after = subst (IsStateAfter store before) view was in
     let other = is_other cell (sym c.ne.ensures ∙ c.if-ne.true) in
     simp to_z-of_z (rw c.slot_of-slot.ensures (writes_other store before (the_view c.self.inside) cell c.args.value other own there after))
@@ -24,10 +25,12 @@ returns-clause-state c store before was =
     let view = sym c.self.view_is in
     let cell = c.args.cell.0 in
     let own = subst (λ (s : ShardState). IsOfShard s.shard cell) view c.requires.own in
-    let there = slot_within cell _ _ _ _ (subst (λ (s : ShardState). cell < s.shard.cells) view c.requires.there) own c.self.invariant.complete in
+    let there = slot_within cell _ _ _ _ (subst (λ (s : ShardState). cell < s.shard.cells) view c.requires.there) own
+    c.self.invariant.complete in
     let after = subst (IsStateAfter store before) view was in
     let output = c.push_within.new.output in
     let pushed = simp to_z-of_z at c.push_within.ensures.output in
     rw c.slot_of-slot.ensures (writes_found_output store before (the_view c.self.inside) output.items c.args.value cell _
     (is_output cell (sym c.ne.ensures ∙ c.if-ne.false))
-    (to_z_pos w64 c.len.result (omega (arith, output.small, output.ok.1, c.len.ensures)) ∙ ap pos (c.len.ensures ∙ output.ok.0)) own there pushed after)
+    (to_z_pos w64 c.len.result (omega (arith, output.small, output.ok.1, c.len.ensures)) ∙ ap pos (c.len.ensures ∙ output.ok.0)) own there
+    pushed after)

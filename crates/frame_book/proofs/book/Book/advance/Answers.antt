@@ -7,13 +7,22 @@ use Rattle.frame_book.proofs.Actions.LegalActions.{performs_split}
 use Rattle.frame_book.proofs.book.Book.advance.Goals as goal
 
 pub hold-requires-clause-performs : goal.hold-requires-clause-performs
-hold-requires-clause-performs g c = (performs_split (left_of c.args.self.now c.args.token.iteration) (accessed c.args.trace) (stage_end_actions c.args.end) c.requires.performs).0
+hold-requires-clause-performs g c = (performs_split (left_of c.args.self.now c.args.token.iteration) (accessed c.args.trace)
+    (stage_end_actions c.args.end) c.requires.performs).0
 
 pub go_on-requires-clause-payload : goal.go_on-requires-clause-payload
-go_on-requires-clause-payload g c = record { belongs = c.requires.belongs; ready = c.requires.ready (subst NamesNextStage (sym c.in-Wait.is) tt) }
+go_on-requires-clause-payload g c = record {
+  belongs = c.requires.belongs;
+  ready = c.requires.ready
+      (subst NamesNextStage (sym c.in-Wait.is) tt);
+}
 
 pub go_on-requires-in-Continue-clause-payload : goal.go_on-requires-in-Continue-clause-payload
-go_on-requires-in-Continue-clause-payload g c = record { belongs = c.requires.belongs; ready = c.requires.ready (subst NamesNextStage (sym c.in-Continue.is) tt) }
+go_on-requires-in-Continue-clause-payload g c = record {
+  belongs = c.requires.belongs;
+  ready =
+      c.requires.ready (subst NamesNextStage (sym c.in-Continue.is) tt);
+}
 
 pub unreachable-requires : goal.unreachable-requires
 unreachable-requires g c =

@@ -13,7 +13,8 @@ use Rattle.frame_book.specs.RowsOfFrames.{AreRows}
 use Rattle.frame_book.specs.IterationRows.{head_marks}
 use Rattle.frame_book.specs.CallEffects.{seen_whole}
 use Rattle.frame_book.specs.Tables.{book_state}
-use Rattle.frame_book.proofs.Keeping.Begin.{may, few, there, placed, room, spare_some, row_room, begin_keeps, begin_view, begin_given, was_home}
+use Rattle.frame_book.proofs.Keeping.Begin.{may, few, there, placed, room, spare_some, row_room, begin_keeps, begin_view, begin_given}
+use Rattle.frame_book.proofs.Keeping.Begin.{was_home}
 use Rattle.frame_book.proofs.Keeping.Stop.{log_room, last_below}
 use Rattle.frame_book.proofs.Iterations.AliveRows.{alive_push}
 use Rattle.frame_book.specs.TicketLog.{Ledger}
@@ -25,7 +26,8 @@ returns-then-not-last_has_ended_first-clause-returned g c =
     let s = state_of (book_state (tables_of c.self.inside)) in
     let rows = subst (AreRows (not s.stopped) s.frames) (sym c.as_slice.ensures.value) c.self.invariant.0.rows.each in
     let both = c.last_has_ended_first.ensures (not s.stopped) s.frames rows in
-    subst (λ v. ((state_of v).stopped ≡ false) × (IsClosed (state_of v).frames → ⊥) × (LastEndedFirstInstance (state_of v).frames → ⊥)) c.self.view_is (
+    subst (λ v. ((state_of v).stopped ≡ false) × (IsClosed (state_of v).frames → ⊥) × (LastEndedFirstInstance (state_of v).frames → ⊥))
+    c.self.view_is (
       sym c.self.invariant.0.stopped ∙ c.if-self.false,
       (λ q. (let e : true ≡ false = sym (c.self.invariant.0.closed.1 q) ∙ c.if-self-2.false in absurd (cc))),
       (λ q. (let e : true ≡ false = sym (both.1 q) ∙ c.if-not-last_has_ended_first.true in absurd (cc))),
@@ -36,11 +38,13 @@ returns-in_default-clause-returned g c =
     let s = state_of (book_state (tables_of c.self.inside)) in
     let rows = subst (AreRows (not s.stopped) s.frames) (sym c.as_slice.ensures.value) c.self.invariant.0.rows.each in
     let both = c.last_has_ended_first.ensures (not s.stopped) s.frames rows in
-    subst (λ (v : BookState). ((state_of v).stopped ≡ false) × (IsClosed (state_of v).frames → ⊥) × LastEndedFirstInstance (state_of v).frames × (v.limit ≤ alive (state_of v))) c.self.view_is (
+    subst (λ (v : BookState). ((state_of v).stopped ≡ false) × (IsClosed (state_of v).frames → ⊥)
+    × LastEndedFirstInstance (state_of v).frames × (v.limit ≤ alive (state_of v))) c.self.view_is (
       sym c.self.invariant.0.stopped ∙ c.if-self.false,
       (λ q. (let e : true ≡ false = sym (c.self.invariant.0.closed.1 q) ∙ c.if-self-2.false in absurd (cc))),
       both.0 c.if-not-last_has_ended_first.false,
-      (let home = c.in_default.ensures.none.0 refl in let z : length c.self.inside.pool.home ≡ 0 = ap length home in let a = c.self.invariant.0.alive in let q = c.self.invariant.0.size in omega (arith, z, a, q)),
+      (let home = c.in_default.ensures.none.0 refl in let z : length c.self.inside.pool.home ≡ 0 = ap length home in
+          let a = c.self.invariant.0.alive in let q = c.self.invariant.0.size in omega (arith, z, a, q)),
     )
 
 pub overflow_cast-iteration : goal.overflow_cast-iteration
@@ -48,7 +52,8 @@ overflow_cast-iteration g c =
     let s = state_of (book_state (tables_of c.self.inside)) in
     let rows = subst (AreRows (not s.stopped) s.frames) (sym c.as_slice.ensures.value) c.self.invariant.0.rows.each in
     let ended = (c.last_has_ended_first.ensures (not s.stopped) s.frames rows).0 c.if-not-last_has_ended_first.false in
-    let l = few g.M.Stands.whole g.M.Stands.ready_at g.M.Stands.tie (tables_of c.self.inside) c.self.invariant.0 c.if-self.false c.if-self-2.false ended c.take.new.self.home c.in-Some.payload c.in-Some.ensures.some in
+    let l = few g.M.Stands.whole g.M.Stands.ready_at g.M.Stands.tie (tables_of c.self.inside) c.self.invariant.0 c.if-self.false
+    c.if-self-2.false ended c.take.new.self.home c.in-Some.payload c.in-Some.ensures.some in
     let e : c.len-iteration.result ≡ length c.self.inside.rows.items = grind (arith, common_steps) in
     let w : c.len-iteration.result < 2 ^ 32 = omega (arith, l, e) in
     grind (arith, common_steps)
@@ -58,35 +63,43 @@ start_head-marks-requires-clause-there g c =
     let s = state_of (book_state (tables_of c.self.inside)) in
     let rows = subst (AreRows (not s.stopped) s.frames) (sym c.as_slice.ensures.value) c.self.invariant.0.rows.each in
     let ended = (c.last_has_ended_first.ensures (not s.stopped) s.frames rows).0 c.if-not-last_has_ended_first.false in
-    rw c.as_slice-2.ensures.value (there g.M.Stands.whole g.M.Stands.ready_at g.M.Stands.tie (tables_of c.self.inside) c.self.invariant.0 c.if-self.false c.if-self-2.false ended c.take.new.self.home c.in-Some.payload c.in-Some.ensures.some)
+    rw c.as_slice-2.ensures.value (there g.M.Stands.whole g.M.Stands.ready_at g.M.Stands.tie
+    (tables_of c.self.inside) c.self.invariant.0 c.if-self.false c.if-self-2.false ended c.take.new.self.home c.in-Some.payload
+    c.in-Some.ensures.some)
 
 pub start_head-marks-requires-clause-inserted : goal.start_head-marks-requires-clause-inserted
 start_head-marks-requires-clause-inserted g c =
     let s = state_of (book_state (tables_of c.self.inside)) in
     let rows = subst (AreRows (not s.stopped) s.frames) (sym c.as_slice.ensures.value) c.self.invariant.0.rows.each in
     let ended = (c.last_has_ended_first.ensures (not s.stopped) s.frames rows).0 c.if-not-last_has_ended_first.false in
-    rw c.as_slice-2.ensures.value (placed g.M.Stands.whole g.M.Stands.ready_at g.M.Stands.tie (tables_of c.self.inside) c.self.invariant.0 c.if-self.false c.if-self-2.false ended c.take.new.self.home c.in-Some.payload c.in-Some.ensures.some)
+    rw c.as_slice-2.ensures.value (placed g.M.Stands.whole g.M.Stands.ready_at g.M.Stands.tie
+    (tables_of c.self.inside) c.self.invariant.0 c.if-self.false c.if-self-2.false ended c.take.new.self.home c.in-Some.payload
+    c.in-Some.ensures.some)
 
 pub start_head-marks-requires-clause-room : goal.start_head-marks-requires-clause-room
 start_head-marks-requires-clause-room g c =
     let s = state_of (book_state (tables_of c.self.inside)) in
     let rows = subst (AreRows (not s.stopped) s.frames) (sym c.as_slice.ensures.value) c.self.invariant.0.rows.each in
     let ended = (c.last_has_ended_first.ensures (not s.stopped) s.frames rows).0 c.if-not-last_has_ended_first.false in
-    room g.M.Stands.whole g.M.Stands.ready_at g.M.Stands.tie (tables_of c.self.inside) c.self.invariant.0 c.if-self.false c.if-self-2.false ended c.take.new.self.home c.in-Some.payload c.in-Some.ensures.some
+    room g.M.Stands.whole g.M.Stands.ready_at g.M.Stands.tie (tables_of c.self.inside) c.self.invariant.0 c.if-self.false c.if-self-2.false
+    ended c.take.new.self.home c.in-Some.payload c.in-Some.ensures.some
 
 pub start_head-marks-requires-clause-belongs : goal.start_head-marks-requires-clause-belongs
 start_head-marks-requires-clause-belongs g c =
     let s = state_of (book_state (tables_of c.self.inside)) in
     let rows = subst (AreRows (not s.stopped) s.frames) (sym c.as_slice.ensures.value) c.self.invariant.0.rows.each in
     let ended = (c.last_has_ended_first.ensures (not s.stopped) s.frames rows).0 c.if-not-last_has_ended_first.false in
-    let was = was_home g.M.Stands.whole g.M.Stands.ready_at g.M.Stands.tie (tables_of c.self.inside) c.self.invariant.0 c.if-self.false c.if-self-2.false ended c.take.new.self.home c.in-Some.payload c.in-Some.ensures.some in
+    let was = was_home g.M.Stands.whole g.M.Stands.ready_at g.M.Stands.tie (tables_of c.self.inside) c.self.invariant.0 c.if-self.false
+    c.if-self-2.false ended c.take.new.self.home c.in-Some.payload c.in-Some.ensures.some in
     rw c.begin.ensures.tie was.belongs
 
 pub stamp-now-requires-clause-room : goal.stamp-now-requires-clause-room
-stamp-now-requires-clause-room g c = log_room g.M.Stands.whole g.M.Stands.ready_at g.M.Stands.tie (tables_of c.self.inside) c.self.invariant.0 c.if-self.false
+stamp-now-requires-clause-room g c = log_room g.M.Stands.whole g.M.Stands.ready_at g.M.Stands.tie
+    (tables_of c.self.inside) c.self.invariant.0 c.if-self.false
 
 pub stamp-now-requires-clause-last : goal.stamp-now-requires-clause-last
-stamp-now-requires-clause-last g c = last_below g.M.Stands.whole g.M.Stands.ready_at g.M.Stands.tie (tables_of c.self.inside) c.self.invariant.0 c.if-self.false
+stamp-now-requires-clause-last g c = last_below g.M.Stands.whole g.M.Stands.ready_at g.M.Stands.tie
+    (tables_of c.self.inside) c.self.invariant.0 c.if-self.false
 
 pub unreachable-requires : goal.unreachable-requires
 unreachable-requires g c =
@@ -95,21 +108,26 @@ unreachable-requires g c =
     let ended = (c.last_has_ended_first.ensures (not s.stopped) s.frames rows).0 c.if-not-last_has_ended_first.false in
     let z = c.in_default-pop.ensures.cases.0 in
     let q : length c.self.inside.spare.items ≡ 0 = grind (arith, common_steps) in
-    spare_some g.M.Stands.whole g.M.Stands.ready_at g.M.Stands.tie (tables_of c.self.inside) c.self.invariant.0 c.if-self.false c.if-self-2.false ended c.take.new.self.home c.in-Some.payload c.in-Some.ensures.some q
+    spare_some g.M.Stands.whole g.M.Stands.ready_at g.M.Stands.tie (tables_of c.self.inside) c.self.invariant.0 c.if-self.false
+    c.if-self-2.false ended c.take.new.self.home c.in-Some.payload c.in-Some.ensures.some q
 
 pub enter-requires-clause-numbers : goal.enter-requires-clause-numbers
 enter-requires-clause-numbers g c =
     let s = state_of (book_state (tables_of c.self.inside)) in
     let rows = subst (AreRows (not s.stopped) s.frames) (sym c.as_slice.ensures.value) c.self.invariant.0.rows.each in
     let ended = (c.last_has_ended_first.ensures (not s.stopped) s.frames rows).0 c.if-not-last_has_ended_first.false in
-    (row_room g.M.Stands.whole g.M.Stands.ready_at g.M.Stands.tie (tables_of c.self.inside) c.self.invariant.0 c.if-self.false c.if-self-2.false ended c.take.new.self.home c.in-Some.payload c.in-Some.ensures.some c.pop.new.self.items c.in-Some-pop.row c.in-Some-pop.ensures.items).0
+    (row_room g.M.Stands.whole g.M.Stands.ready_at g.M.Stands.tie (tables_of c.self.inside) c.self.invariant.0 c.if-self.false
+    c.if-self-2.false ended c.take.new.self.home c.in-Some.payload c.in-Some.ensures.some c.pop.new.self.items c.in-Some-pop.row
+    c.in-Some-pop.ensures.items).0
 
 pub enter-requires-clause-marks : goal.enter-requires-clause-marks
 enter-requires-clause-marks g c =
     let s = state_of (book_state (tables_of c.self.inside)) in
     let rows = subst (AreRows (not s.stopped) s.frames) (sym c.as_slice.ensures.value) c.self.invariant.0.rows.each in
     let ended = (c.last_has_ended_first.ensures (not s.stopped) s.frames rows).0 c.if-not-last_has_ended_first.false in
-    (row_room g.M.Stands.whole g.M.Stands.ready_at g.M.Stands.tie (tables_of c.self.inside) c.self.invariant.0 c.if-self.false c.if-self-2.false ended c.take.new.self.home c.in-Some.payload c.in-Some.ensures.some c.pop.new.self.items c.in-Some-pop.row c.in-Some-pop.ensures.items).1
+    (row_room g.M.Stands.whole g.M.Stands.ready_at g.M.Stands.tie (tables_of c.self.inside) c.self.invariant.0 c.if-self.false
+    c.if-self-2.false ended c.take.new.self.home c.in-Some.payload c.in-Some.ensures.some c.pop.new.self.items c.in-Some-pop.row
+    c.in-Some-pop.ensures.items).1
 
 pub push_reserved-requires : goal.push_reserved-requires
 push_reserved-requires g c =
@@ -117,14 +135,16 @@ push_reserved-requires g c =
     let rows = subst (AreRows (not s.stopped) s.frames) (sym c.as_slice.ensures.value) c.self.invariant.0.rows.each in
     let ended = (c.last_has_ended_first.ensures (not s.stopped) s.frames rows).0 c.if-not-last_has_ended_first.false in
     let z = c.self.invariant.0.reserve in
-    let w : length c.self.inside.spare.items ≡ length c.pop.new.self.items + 1 = ap length c.in-Some-pop.ensures.items ∙ length_push c.pop.new.self.items c.in-Some-pop.row in
+    let w : length c.self.inside.spare.items ≡ length c.pop.new.self.items + 1 = ap length c.in-Some-pop.ensures.items
+    ∙ length_push c.pop.new.self.items c.in-Some-pop.row in
     let l : length c.self.inside.rows.items < vec_capacity c.self.inside.rows = omega (arith, z, w) in
     grind (arith, common_steps)
 
 pub push_reserved-requires-2 : goal.push_reserved-requires-2
 push_reserved-requires-2 g c =
     let z = c.self.invariant.1.room in
-    let w : length c.self.inside.spare.items ≡ length c.pop.new.self.items + 1 = ap length c.in-Some-pop.ensures.items ∙ length_push c.pop.new.self.items c.in-Some-pop.row in
+    let w : length c.self.inside.spare.items ≡ length c.pop.new.self.items + 1 = ap length c.in-Some-pop.ensures.items
+    ∙ length_push c.pop.new.self.items c.in-Some-pop.row in
     let l : length c.self.inside.alive.items < vec_capacity c.self.inside.alive = omega (arith, z, w) in
     grind (arith, common_steps)
 
@@ -135,9 +155,26 @@ invariant_of-self-2 g c =
     let ended = (c.last_has_ended_first.ensures (not s.stopped) s.frames rows).0 c.if-not-last_has_ended_first.false in
     let n : c.len-iteration.result ≡ length c.self.inside.rows.items = grind (arith, common_steps) in
     let cap : vec_capacity c.push_reserved.new.self ≡ vec_capacity c.self.inside.rows = c.push_reserved.ensures.capacity in
-    let listed = subst (λ spare. HasAliveList c.self.inside.rows.items spare c.self.inside.alive.items (vec_capacity c.self.inside.alive)) c.in-Some-pop.ensures.items c.self.invariant.1 in
-    rw (c.push_reserved.ensures.items, cap, c.push_reserved-2.ensures.items, c.push_reserved-2.ensures.capacity, c.enter.ensures, c.start_head-marks.ensures.marks, c.start_head-marks.ensures.lists, c.as_slice-2.ensures.value, c.stamp-now.ensures.log, c.take.ensures.size, n)
-    (begin_keeps g.M.Stands.whole g.M.Stands.ready_at g.M.Stands.tie (tables_of c.self.inside) c.self.invariant.0 c.if-self.false c.if-self-2.false ended c.take.new.self.home c.in-Some.payload c.in-Some.ensures.some c.pop.new.self.items c.in-Some-pop.row c.in-Some-pop.ensures.items, alive_push c.self.inside.rows.items c.pop.new.self.items c.in-Some-pop.row _ _ _ listed)
+    let listed = subst (λ spare. HasAliveList c.self.inside.rows.items spare c.self.inside.alive.items (vec_capacity c.self.inside.alive))
+    c.in-Some-pop.ensures.items c.self.invariant.1 in
+    rw (
+      c.push_reserved.ensures.items,
+      cap,
+      c.push_reserved-2.ensures.items,
+      c.push_reserved-2.ensures.capacity,
+      c.enter.ensures,
+      c.start_head-marks.ensures.marks,
+      c.start_head-marks.ensures.lists,
+      c.as_slice-2.ensures.value,
+      c.stamp-now.ensures.log,
+      c.take.ensures.size,
+      n,
+    ) (
+      begin_keeps g.M.Stands.whole g.M.Stands.ready_at g.M.Stands.tie (tables_of c.self.inside) c.self.invariant.0 c.if-self.false
+          c.if-self-2.false ended c.take.new.self.home c.in-Some.payload c.in-Some.ensures.some c.pop.new.self.items c.in-Some-pop.row
+          c.in-Some-pop.ensures.items,
+      alive_push c.self.inside.rows.items c.pop.new.self.items c.in-Some-pop.row _ _ _ listed,
+    )
 
 pub returns-clause-returned : goal.returns-clause-returned
 returns-clause-returned g c =
@@ -146,7 +183,15 @@ returns-clause-returned g c =
     let ended = (c.last_has_ended_first.ensures (not s.stopped) s.frames rows).0 c.if-not-last_has_ended_first.false in
     let n : c.len-iteration.result ≡ length c.self.inside.rows.items = grind (arith, common_steps) in
     let cap : vec_capacity c.push_reserved.new.self ≡ vec_capacity c.self.inside.rows = c.push_reserved.ensures.capacity in
-    subst (λ (v : BookState). ((state_of v).stopped ≡ false) × (IsClosed (state_of v).frames → ⊥) × MayBegin v.limit (state_of v) c.len-iteration.result × ◌≡◌ {A = ℕ} 0 0) c.self.view_is (sym c.self.invariant.0.stopped ∙ c.if-self.false, (λ q. (let e : true ≡ false = sym (c.self.invariant.0.closed.1 q) ∙ c.if-self-2.false in absurd (cc))), rw n (may g.M.Stands.whole g.M.Stands.ready_at g.M.Stands.tie (tables_of c.self.inside) c.self.invariant.0 c.if-self.false c.if-self-2.false ended c.take.new.self.home c.in-Some.payload c.in-Some.ensures.some), refl)
+    subst (λ (v : BookState). ((state_of v).stopped ≡ false) × (IsClosed (state_of v).frames → ⊥)
+    × MayBegin v.limit (state_of v) c.len-iteration.result × ◌≡◌ {A = ℕ} 0 0) c.self.view_is (
+      sym c.self.invariant.0.stopped ∙ c.if-self.false,
+      (λ q. (let e : true ≡ false = sym (c.self.invariant.0.closed.1 q) ∙ c.if-self-2.false in absurd (cc))),
+      rw n
+          (may g.M.Stands.whole g.M.Stands.ready_at g.M.Stands.tie (tables_of c.self.inside) c.self.invariant.0 c.if-self.false
+          c.if-self-2.false ended c.take.new.self.home c.in-Some.payload c.in-Some.ensures.some),
+      refl,
+    )
 
 pub returns-clause-book : goal.returns-clause-book
 returns-clause-book g c =
@@ -154,7 +199,19 @@ returns-clause-book g c =
     let rows = subst (AreRows (not s.stopped) s.frames) (sym c.as_slice.ensures.value) c.self.invariant.0.rows.each in
     let ended = (c.last_has_ended_first.ensures (not s.stopped) s.frames rows).0 c.if-not-last_has_ended_first.false in
     let n : c.len-iteration.result ≡ length c.self.inside.rows.items = grind (arith, common_steps) in
-    rw (c.push_reserved.ensures.items, c.enter.ensures, c.start_head-marks.ensures.marks, c.start_head-marks.ensures.lists, c.as_slice-2.ensures.value, c.stamp-now.ensures.log, n, ← c.self.view_is) (begin_view g.M.Stands.whole g.M.Stands.ready_at g.M.Stands.tie (tables_of c.self.inside) c.self.invariant.0 c.if-self.false c.if-self-2.false ended c.take.new.self.home c.in-Some.payload c.in-Some.ensures.some c.pop.new.self.items c.in-Some-pop.row c.in-Some-pop.ensures.items)
+    rw (
+      c.push_reserved.ensures.items,
+      c.enter.ensures,
+      c.start_head-marks.ensures.marks,
+      c.start_head-marks.ensures.lists,
+      c.as_slice-2.ensures.value,
+      c.stamp-now.ensures.log,
+      n,
+      ← c.self.view_is,
+    )
+    (begin_view g.M.Stands.whole g.M.Stands.ready_at g.M.Stands.tie (tables_of c.self.inside) c.self.invariant.0 c.if-self.false
+    c.if-self-2.false ended c.take.new.self.home c.in-Some.payload c.in-Some.ensures.some c.pop.new.self.items c.in-Some-pop.row
+    c.in-Some-pop.ensures.items)
 
 pub returns-clause-token : goal.returns-clause-token
 returns-clause-token g c =
@@ -162,10 +219,27 @@ returns-clause-token g c =
     let rows = subst (AreRows (not s.stopped) s.frames) (sym c.as_slice.ensures.value) c.self.invariant.0.rows.each in
     let ended = (c.last_has_ended_first.ensures (not s.stopped) s.frames rows).0 c.if-not-last_has_ended_first.false in
     let n : c.len-iteration.result ≡ length c.self.inside.rows.items = grind (arith, common_steps) in
-    let was = was_home g.M.Stands.whole g.M.Stands.ready_at g.M.Stands.tie (tables_of c.self.inside) c.self.invariant.0 c.if-self.false c.if-self-2.false ended c.take.new.self.home c.in-Some.payload c.in-Some.ensures.some in
-    let orders_are = c.start_head-marks.ensures.lists ∙ ap (λ rs. with_start c.self.inside.orders (down_taken None (head_marks rs)) (right_taken None (head_marks rs))) c.as_slice-2.ensures.value in
-    rw (c.push_reserved.ensures.items, c.enter.ensures, c.start_head-marks.ensures.marks, c.start_head-marks.ensures.lists, c.as_slice-2.ensures.value, c.stamp-now.ensures.log, n, c.stamp-now.ensures.ticket, c.new.ensures) (begin_given g.M.Stands.whole g.M.Stands.ready_at g.M.Stands.tie (tables_of c.self.inside) c.self.invariant.0 c.if-self.false c.if-self-2.false ended c.take.new.self.home c.in-Some.payload c.in-Some.ensures.some c.pop.new.self.items c.in-Some-pop.row c.in-Some-pop.ensures.items c.start_head-marks.new.payload
-    (c.start_head-marks.ensures.ready (tree_of c.self.inside.program) c.self.inside.input (length c.self.inside.rows.items) [] (subst (λ k. g.M.Stands.ready_at (tree_of c.self.inside.program) c.self.inside.input c.begin.new.self k []) n (c.begin.ensures.ready (tree_of c.self.inside.program) c.self.inside.input was.whole)))
+    let was = was_home g.M.Stands.whole g.M.Stands.ready_at g.M.Stands.tie (tables_of c.self.inside) c.self.invariant.0 c.if-self.false
+    c.if-self-2.false ended c.take.new.self.home c.in-Some.payload c.in-Some.ensures.some in
+    let orders_are = c.start_head-marks.ensures.lists ∙ ap (λ rs. with_start c.self.inside.orders (down_taken None (head_marks rs))
+    (right_taken None (head_marks rs))) c.as_slice-2.ensures.value in
+    rw (
+      c.push_reserved.ensures.items,
+      c.enter.ensures,
+      c.start_head-marks.ensures.marks,
+      c.start_head-marks.ensures.lists,
+      c.as_slice-2.ensures.value,
+      c.stamp-now.ensures.log,
+      n,
+      c.stamp-now.ensures.ticket,
+      c.new.ensures,
+    )
+    (begin_given g.M.Stands.whole g.M.Stands.ready_at g.M.Stands.tie (tables_of c.self.inside) c.self.invariant.0 c.if-self.false
+    c.if-self-2.false ended c.take.new.self.home c.in-Some.payload c.in-Some.ensures.some c.pop.new.self.items c.in-Some-pop.row
+    c.in-Some-pop.ensures.items c.start_head-marks.new.payload
+    (c.start_head-marks.ensures.ready (tree_of c.self.inside.program) c.self.inside.input (length c.self.inside.rows.items) []
+    (subst (λ k. g.M.Stands.ready_at (tree_of c.self.inside.program) c.self.inside.input c.begin.new.self k []) n
+    (c.begin.ensures.ready (tree_of c.self.inside.program) c.self.inside.input was.whole)))
     (c.start_head-marks.ensures.tie ∙ ap₂ (λ x o. record { lists = seen_whole x.lists o; seat = x.seat }) c.begin.ensures.tie orders_are))
 
 pub returns-clause-now : goal.returns-clause-now

@@ -19,5 +19,9 @@ returns-clause-returned g c =
     let s = state_of (book_state (tables_of c.self.inside)) in
     let rows = subst (AreRows (not s.stopped) s.frames) (sym c.as_slice.ensures.value) c.self.invariant.0.rows.each in
     let may = (free_is_may s c.args.iteration).0 ((c.may_enter.ensures (not s.stopped) s.frames rows).0 c.if-not-may_enter.false) in
-    let going = subst (λ v. (state_of v).stopped ≡ false) c.self.view_is (sym c.self.invariant.0.stopped ∙ c.if-self.false) in
-    (going, subst (λ v. MayEnter (state_of v) c.args.iteration) c.self.view_is may, c.enter_named.ensures.instance.0, c.enter_named.ensures.instance.1)
+    let going = subst (λ v. (state_of v).stopped ≡ false) c.self.view_is (sym c.self.invariant.0.stopped ∙ c.if-self.false) in (
+      going,
+      subst (λ v. MayEnter (state_of v) c.args.iteration) c.self.view_is may,
+      c.enter_named.ensures.instance.0,
+      c.enter_named.ensures.instance.1,
+    )

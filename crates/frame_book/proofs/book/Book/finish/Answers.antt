@@ -18,19 +18,22 @@ use Rattle.frame_book.proofs.book.Book.finish.Goals as goal
 pub stamp-requires-clause-room : goal.stamp-requires-clause-room
 stamp-requires-clause-room g c =
     let go = subst (λ v. (state_of v).stopped ≡ false) (sym c.self.view_is) c.requires.going in
-    log_room g.M.Stands.whole g.M.Stands.ready_at g.M.Stands.tie (tables_of c.self.inside) c.self.invariant.0 (c.self.invariant.0.stopped ∙ go)
+    log_room g.M.Stands.whole g.M.Stands.ready_at g.M.Stands.tie (tables_of c.self.inside) c.self.invariant.0
+    (c.self.invariant.0.stopped ∙ go)
 
 pub stamp-requires-clause-last : goal.stamp-requires-clause-last
 stamp-requires-clause-last g c =
     let go = subst (λ v. (state_of v).stopped ≡ false) (sym c.self.view_is) c.requires.going in
-    last_below g.M.Stands.whole g.M.Stands.ready_at g.M.Stands.tie (tables_of c.self.inside) c.self.invariant.0 (c.self.invariant.0.stopped ∙ go)
+    last_below g.M.Stands.whole g.M.Stands.ready_at g.M.Stands.tie (tables_of c.self.inside) c.self.invariant.0
+    (c.self.invariant.0.stopped ∙ go)
 
 pub stamp-requires-clause-now : goal.stamp-requires-clause-now
 stamp-requires-clause-now g c =
     let go = subst (λ v. (state_of v).stopped ≡ false) (sym c.self.view_is) c.requires.going in
     let t = c.args.token in
     let out = subst (λ v. IsOutOf v (fields_of t)) (sym c.self.view_is) c.requires.out in
-    let room = log_room g.M.Stands.whole g.M.Stands.ready_at g.M.Stands.tie (tables_of c.self.inside) c.self.invariant.0 (c.self.invariant.0.stopped ∙ go) in
+    let room = log_room g.M.Stands.whole g.M.Stands.ready_at g.M.Stands.tie (tables_of c.self.inside) c.self.invariant.0
+    (c.self.invariant.0.stopped ∙ go) in
     let size = c.self.invariant.0.sized.log_room in
     let few = c.self.invariant.0.sized.few in
     let now : c.args.token.now ≤ 2 ^ 62 + length c.self.inside.ledger.log = out.now in
@@ -49,10 +52,14 @@ end-requires g c =
     let out = subst (λ v. IsOutOf v (fields_of t)) (sym c.self.view_is) c.requires.out in
     let go = subst (λ v. (state_of v).stopped ≡ false) (sym c.self.view_is) c.requires.going in
     let at = out_row_read c.self.inside.rows.items t.iteration c.index_mut-row.result.now out.out c.index_mut-row.ensures.value in
-    let per = performed g.M.Stands.whole g.M.Stands.ready_at g.M.Stands.tie (tables_of c.self.inside) t c.index_mut-row.result.now c.self.invariant.0 at out (accessed c.args.trace ++ Ended c.args.end ∷ []) (subst (λ v. Performs (left_of v t.iteration) (accessed c.args.trace ++ Ended c.args.end ∷ [])) (sym c.self.view_is) c.requires.performs) in
+    let per = performed g.M.Stands.whole g.M.Stands.ready_at g.M.Stands.tie (tables_of c.self.inside) t c.index_mut-row.result.now
+    c.self.invariant.0 at out (accessed c.args.trace ++ Ended c.args.end ∷ [])
+    (subst (λ v. Performs (left_of v t.iteration) (accessed c.args.trace ++ Ended c.args.end ∷ []))
+    (sym c.self.view_is) c.requires.performs) in
     let whole = subst (λ v. g.M.Stands.whole (tree_of v.program) t.payload) (sym c.self.view_is) c.requires.whole in
     let names = subst (λ v. BelongsTo (g.M.Stands.tie t.payload) v.lists) (sym c.self.view_is) c.requires.belongs in
-    trace_room g.M.Stands.whole g.M.Stands.ready_at g.M.Stands.tie (tables_of c.self.inside) t c.index_mut-row.result.now c.args.end c.closes-shut.result c.args.trace c.self.invariant.0 at go out per whole names c.closes-shut.ensures
+    trace_room g.M.Stands.whole g.M.Stands.ready_at g.M.Stands.tie (tables_of c.self.inside) t c.index_mut-row.result.now c.args.end
+    c.closes-shut.result c.args.trace c.self.invariant.0 at go out per whole names c.closes-shut.ensures
 
 pub give-requires : goal.give-requires
 give-requires g c =
@@ -60,10 +67,14 @@ give-requires g c =
     let out = subst (λ v. IsOutOf v (fields_of t)) (sym c.self.view_is) c.requires.out in
     let go = subst (λ v. (state_of v).stopped ≡ false) (sym c.self.view_is) c.requires.going in
     let at = out_row_read c.self.inside.rows.items t.iteration c.index_mut-row.result.now out.out c.index_mut-row.ensures.value in
-    let per = performed g.M.Stands.whole g.M.Stands.ready_at g.M.Stands.tie (tables_of c.self.inside) t c.index_mut-row.result.now c.self.invariant.0 at out (accessed c.args.trace ++ Ended c.args.end ∷ []) (subst (λ v. Performs (left_of v t.iteration) (accessed c.args.trace ++ Ended c.args.end ∷ [])) (sym c.self.view_is) c.requires.performs) in
+    let per = performed g.M.Stands.whole g.M.Stands.ready_at g.M.Stands.tie (tables_of c.self.inside) t c.index_mut-row.result.now
+    c.self.invariant.0 at out (accessed c.args.trace ++ Ended c.args.end ∷ [])
+    (subst (λ v. Performs (left_of v t.iteration) (accessed c.args.trace ++ Ended c.args.end ∷ []))
+    (sym c.self.view_is) c.requires.performs) in
     let whole = subst (λ v. g.M.Stands.whole (tree_of v.program) t.payload) (sym c.self.view_is) c.requires.whole in
     let names = subst (λ v. BelongsTo (g.M.Stands.tie t.payload) v.lists) (sym c.self.view_is) c.requires.belongs in
-    pool_room g.M.Stands.whole g.M.Stands.ready_at g.M.Stands.tie (tables_of c.self.inside) t c.index_mut-row.result.now c.args.end c.closes-shut.result c.args.trace c.self.invariant.0 at go out per whole names c.closes-shut.ensures
+    pool_room g.M.Stands.whole g.M.Stands.ready_at g.M.Stands.tie (tables_of c.self.inside) t c.index_mut-row.result.now c.args.end
+    c.closes-shut.result c.args.trace c.self.invariant.0 at go out per whole names c.closes-shut.ensures
 
 pub invariant_of-self : goal.invariant_of-self
 invariant_of-self g c =
@@ -71,10 +82,18 @@ invariant_of-self g c =
     let out = subst (λ v. IsOutOf v (fields_of t)) (sym c.self.view_is) c.requires.out in
     let go = subst (λ v. (state_of v).stopped ≡ false) (sym c.self.view_is) c.requires.going in
     let at = out_row_read c.self.inside.rows.items t.iteration c.index_mut-row.result.now out.out c.index_mut-row.ensures.value in
-    let per = performed g.M.Stands.whole g.M.Stands.ready_at g.M.Stands.tie (tables_of c.self.inside) t c.index_mut-row.result.now c.self.invariant.0 at out (accessed c.args.trace ++ Ended c.args.end ∷ []) (subst (λ v. Performs (left_of v t.iteration) (accessed c.args.trace ++ Ended c.args.end ∷ [])) (sym c.self.view_is) c.requires.performs) in
+    let per = performed g.M.Stands.whole g.M.Stands.ready_at g.M.Stands.tie (tables_of c.self.inside) t c.index_mut-row.result.now
+    c.self.invariant.0 at out (accessed c.args.trace ++ Ended c.args.end ∷ [])
+    (subst (λ v. Performs (left_of v t.iteration) (accessed c.args.trace ++ Ended c.args.end ∷ []))
+    (sym c.self.view_is) c.requires.performs) in
     let whole = subst (λ v. g.M.Stands.whole (tree_of v.program) t.payload) (sym c.self.view_is) c.requires.whole in
     let names = subst (λ v. BelongsTo (g.M.Stands.tie t.payload) v.lists) (sym c.self.view_is) c.requires.belongs in
-    rw (c.end.ensures, c.stamp.ensures.log, c.give.ensures, c.either-self-inside.ensures) (finish_keeps g.M.Stands.whole g.M.Stands.ready_at g.M.Stands.tie (tables_of c.self.inside) t c.index_mut-row.result.now c.args.end c.closes-shut.result c.args.trace c.self.invariant.0 at go out per whole names c.closes-shut.ensures, alive_out c.self.inside.rows.items _ t.iteration c.index_mut-row.result.now _ _ _ at out.out c.self.invariant.1)
+    rw (c.end.ensures, c.stamp.ensures.log, c.give.ensures, c.either-self-inside.ensures) (
+      finish_keeps g.M.Stands.whole g.M.Stands.ready_at g.M.Stands.tie (tables_of c.self.inside) t c.index_mut-row.result.now c.args.end
+          c.closes-shut.result c.args.trace c.self.invariant.0 at go out per whole names c.closes-shut.ensures,
+      alive_out
+          c.self.inside.rows.items _ t.iteration c.index_mut-row.result.now _ _ _ at out.out c.self.invariant.1,
+    )
 
 pub returns : goal.returns
 returns g c =
@@ -82,7 +101,12 @@ returns g c =
     let out = subst (λ v. IsOutOf v (fields_of t)) (sym c.self.view_is) c.requires.out in
     let go = subst (λ v. (state_of v).stopped ≡ false) (sym c.self.view_is) c.requires.going in
     let at = out_row_read c.self.inside.rows.items t.iteration c.index_mut-row.result.now out.out c.index_mut-row.ensures.value in
-    let per = performed g.M.Stands.whole g.M.Stands.ready_at g.M.Stands.tie (tables_of c.self.inside) t c.index_mut-row.result.now c.self.invariant.0 at out (accessed c.args.trace ++ Ended c.args.end ∷ []) (subst (λ v. Performs (left_of v t.iteration) (accessed c.args.trace ++ Ended c.args.end ∷ [])) (sym c.self.view_is) c.requires.performs) in
+    let per = performed g.M.Stands.whole g.M.Stands.ready_at g.M.Stands.tie (tables_of c.self.inside) t c.index_mut-row.result.now
+    c.self.invariant.0 at out (accessed c.args.trace ++ Ended c.args.end ∷ [])
+    (subst (λ v. Performs (left_of v t.iteration) (accessed c.args.trace ++ Ended c.args.end ∷ []))
+    (sym c.self.view_is) c.requires.performs) in
     let whole = subst (λ v. g.M.Stands.whole (tree_of v.program) t.payload) (sym c.self.view_is) c.requires.whole in
     let names = subst (λ v. BelongsTo (g.M.Stands.tie t.payload) v.lists) (sym c.self.view_is) c.requires.belongs in
-    rw (c.end.ensures, c.stamp.ensures.log, ← c.self.view_is) (finish_view g.M.Stands.whole g.M.Stands.ready_at g.M.Stands.tie (tables_of c.self.inside) t c.index_mut-row.result.now c.args.end c.closes-shut.result c.args.trace c.self.invariant.0 at go out per whole names c.closes-shut.ensures)
+    rw (c.end.ensures, c.stamp.ensures.log, ← c.self.view_is)
+    (finish_view g.M.Stands.whole g.M.Stands.ready_at g.M.Stands.tie (tables_of c.self.inside) t c.index_mut-row.result.now c.args.end
+    c.closes-shut.result c.args.trace c.self.invariant.0 at go out per whole names c.closes-shut.ensures)

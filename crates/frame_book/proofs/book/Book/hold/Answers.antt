@@ -17,8 +17,11 @@ end-requires g c =
     let out = subst (λ v. IsOutOf v (fields_of t)) (sym c.self.view_is) c.requires.out in
     let halted = subst (λ v. (state_of v).stopped ≡ true) (sym c.self.view_is) c.requires.stopped in
     let at = out_row_read c.self.inside.rows.items t.iteration c.index_mut-row.result.now out.out c.index_mut-row.ensures.value in
-    let per = performed g.M.Stands.whole g.M.Stands.ready_at g.M.Stands.tie (tables_of c.self.inside) t c.index_mut-row.result.now c.self.invariant.0 at out (accessed c.args.trace) (subst (λ v. Performs (left_of v t.iteration) (accessed c.args.trace)) (sym c.self.view_is) c.requires.performs) in
-    trace_room g.M.Stands.whole g.M.Stands.ready_at g.M.Stands.tie (tables_of c.self.inside) t c.index_mut-row.result.now c.args.trace c.self.invariant.0 at halted out per
+    let per = performed g.M.Stands.whole g.M.Stands.ready_at g.M.Stands.tie (tables_of c.self.inside) t c.index_mut-row.result.now
+    c.self.invariant.0 at out (accessed c.args.trace) (subst (λ v. Performs (left_of v t.iteration) (accessed c.args.trace))
+    (sym c.self.view_is) c.requires.performs) in
+    trace_room g.M.Stands.whole g.M.Stands.ready_at g.M.Stands.tie (tables_of c.self.inside) t c.index_mut-row.result.now c.args.trace
+    c.self.invariant.0 at halted out per
 
 pub invariant_of-self : goal.invariant_of-self
 invariant_of-self g c =
@@ -26,8 +29,15 @@ invariant_of-self g c =
     let out = subst (λ v. IsOutOf v (fields_of t)) (sym c.self.view_is) c.requires.out in
     let halted = subst (λ v. (state_of v).stopped ≡ true) (sym c.self.view_is) c.requires.stopped in
     let at = out_row_read c.self.inside.rows.items t.iteration c.index_mut-row.result.now out.out c.index_mut-row.ensures.value in
-    let per = performed g.M.Stands.whole g.M.Stands.ready_at g.M.Stands.tie (tables_of c.self.inside) t c.index_mut-row.result.now c.self.invariant.0 at out (accessed c.args.trace) (subst (λ v. Performs (left_of v t.iteration) (accessed c.args.trace)) (sym c.self.view_is) c.requires.performs) in
-    rw (c.keep.ensures, c.end.ensures) (hold_keeps g.M.Stands.whole g.M.Stands.ready_at g.M.Stands.tie (tables_of c.self.inside) t c.index_mut-row.result.now c.args.trace c.self.invariant.0 at halted out per, alive_out c.self.inside.rows.items _ t.iteration c.index_mut-row.result.now _ _ _ at out.out c.self.invariant.1)
+    let per = performed g.M.Stands.whole g.M.Stands.ready_at g.M.Stands.tie (tables_of c.self.inside) t c.index_mut-row.result.now
+    c.self.invariant.0 at out (accessed c.args.trace) (subst (λ v. Performs (left_of v t.iteration) (accessed c.args.trace))
+    (sym c.self.view_is) c.requires.performs) in
+    rw (c.keep.ensures, c.end.ensures) (
+      hold_keeps g.M.Stands.whole g.M.Stands.ready_at g.M.Stands.tie
+          (tables_of c.self.inside) t c.index_mut-row.result.now c.args.trace c.self.invariant.0 at halted out per,
+      alive_out
+          c.self.inside.rows.items _ t.iteration c.index_mut-row.result.now _ _ _ at out.out c.self.invariant.1,
+    )
 
 pub returns : goal.returns
 returns g c =
@@ -35,5 +45,9 @@ returns g c =
     let out = subst (λ v. IsOutOf v (fields_of t)) (sym c.self.view_is) c.requires.out in
     let halted = subst (λ v. (state_of v).stopped ≡ true) (sym c.self.view_is) c.requires.stopped in
     let at = out_row_read c.self.inside.rows.items t.iteration c.index_mut-row.result.now out.out c.index_mut-row.ensures.value in
-    let per = performed g.M.Stands.whole g.M.Stands.ready_at g.M.Stands.tie (tables_of c.self.inside) t c.index_mut-row.result.now c.self.invariant.0 at out (accessed c.args.trace) (subst (λ v. Performs (left_of v t.iteration) (accessed c.args.trace)) (sym c.self.view_is) c.requires.performs) in
-    rw (c.keep.ensures, c.end.ensures, ← c.self.view_is) (hold_view g.M.Stands.whole g.M.Stands.ready_at g.M.Stands.tie (tables_of c.self.inside) t c.index_mut-row.result.now c.args.trace c.self.invariant.0 at halted out per)
+    let per = performed g.M.Stands.whole g.M.Stands.ready_at g.M.Stands.tie (tables_of c.self.inside) t c.index_mut-row.result.now
+    c.self.invariant.0 at out (accessed c.args.trace) (subst (λ v. Performs (left_of v t.iteration) (accessed c.args.trace))
+    (sym c.self.view_is) c.requires.performs) in
+    rw (c.keep.ensures, c.end.ensures, ← c.self.view_is)
+    (hold_view g.M.Stands.whole g.M.Stands.ready_at g.M.Stands.tie (tables_of c.self.inside) t c.index_mut-row.result.now c.args.trace
+    c.self.invariant.0 at halted out per)

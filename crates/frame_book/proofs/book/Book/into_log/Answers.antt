@@ -10,10 +10,13 @@ pub returns-clause-rise : goal.returns-clause-rise
 returns-clause-rise g c = subst HasRisingTickets (sym c.into_log.ensures) c.self.invariant.0.rise
 
 pub returns-clause-control : goal.returns-clause-control
-returns-clause-control g c = subst (λ (v : BookState). ControlRun v.limit (events_of v.log) (state_of v)) c.self.view_is c.self.invariant.0.logged.run
+returns-clause-control g c = subst (λ (v : BookState). ControlRun v.limit (events_of v.log) (state_of v)) c.self.view_is
+    c.self.invariant.0.logged.run
 
 pub returns-clause-performs : goal.returns-clause-performs
-returns-clause-performs g c = subst (λ (v : BookState). (i : ℕ) → Performs ((pipeline_in v).behaviour i) (actions_at v i)) c.self.view_is c.self.invariant.0.actions.performs
+returns-clause-performs g c = subst (λ (v : BookState). (i : ℕ) → Performs ((pipeline_in v).behaviour i) (actions_at v i)) c.self.view_is
+    c.self.invariant.0.actions.performs
 
 pub returns-clause-out : goal.returns-clause-out
-returns-clause-out g c = subst (λ (v : BookState). (state_of v).stopped ≡ false → (i : ℕ) → IsOut v i → IsRunning (state_of v) i) c.self.view_is (out_tokens_run _ _ _ _ c.self.invariant.0)
+returns-clause-out g c = subst (λ (v : BookState). (state_of v).stopped ≡ false → (i : ℕ) → IsOut v i → IsRunning (state_of v) i)
+    c.self.view_is (out_tokens_run _ _ _ _ c.self.invariant.0)

@@ -12,7 +12,8 @@ returns-then-not-self g c =
     let s = state_of (book_state (tables_of c.self.inside)) in
     let h = c.self.invariant.0 in (
       (λ x. absurd (cc)),
-      (λ x. (let f = subst (λ (v : BookState). IsFinished (state_of v)) (sym c.self.view_is) x in let e : true ≡ false = sym (h.closed.1 (closed_by_finish s f).0) ∙ c.if-not-self.true in absurd (cc))),
+      (λ x. (let f = subst (λ (v : BookState). IsFinished (state_of v)) (sym c.self.view_is) x in
+          let e : true ≡ false = sym (h.closed.1 (closed_by_finish s f).0) ∙ c.if-not-self.true in absurd (cc))),
     )
 
 pub returns : goal.returns

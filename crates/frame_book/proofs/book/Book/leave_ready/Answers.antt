@@ -11,12 +11,20 @@ pub invariant_of-self : goal.invariant_of-self
 invariant_of-self g c =
     let t = c.args.token in
     let out = subst (λ v. IsOutOf v (fields_of t)) (sym c.self.view_is) c.requires.out in
-    let pay = subst (λ v. IsPayloadOf g.M.Stands.ready_at g.M.Stands.tie v t.iteration (replies_at v t.iteration) t.payload) (sym c.self.view_is) c.requires.payload in
+    let pay = subst (λ v. IsPayloadOf g.M.Stands.ready_at g.M.Stands.tie v t.iteration (replies_at v t.iteration) t.payload)
+    (sym c.self.view_is) c.requires.payload in
     let at = out_row_read c.self.inside.rows.items t.iteration c.index_mut.result.now out.out c.index_mut.ensures.value in
-    rw c.keep.ensures (ready_keeps g.M.Stands.whole g.M.Stands.ready_at g.M.Stands.tie (tables_of c.self.inside) t c.index_mut.result.now c.self.invariant.0 at out pay c.requires.knows, alive_out c.self.inside.rows.items _ t.iteration c.index_mut.result.now _ _ _ at out.out c.self.invariant.1)
+    rw c.keep.ensures (
+      ready_keeps g.M.Stands.whole g.M.Stands.ready_at g.M.Stands.tie (tables_of c.self.inside) t c.index_mut.result.now
+          c.self.invariant.0 at out pay c.requires.knows,
+      alive_out c.self.inside.rows.items _ t.iteration c.index_mut.result.now _ _ _ at
+          out.out c.self.invariant.1,
+    )
 
 pub returns : goal.returns
 returns g c =
     let t = c.args.token in
     let out = subst (λ v. IsOutOf v (fields_of t)) (sym c.self.view_is) c.requires.out in
-    rw (c.keep.ensures, ← c.self.view_is) (ready_view g.M.Stands.whole g.M.Stands.ready_at g.M.Stands.tie (tables_of c.self.inside) t c.index_mut.result.now (out_row_read c.self.inside.rows.items t.iteration c.index_mut.result.now out.out c.index_mut.ensures.value))
+    rw (c.keep.ensures, ← c.self.view_is) (ready_view g.M.Stands.whole g.M.Stands.ready_at g.M.Stands.tie
+    (tables_of c.self.inside) t c.index_mut.result.now
+    (out_row_read c.self.inside.rows.items t.iteration c.index_mut.result.now out.out c.index_mut.ensures.value))

@@ -14,7 +14,8 @@ returns-then-self g c =
     let s = state_of (book_state (tables_of c.self.inside)) in
     let h = c.self.invariant.0 in (
       (λ x. absurd (cc)),
-      (λ x. (let m = subst (λ (v : BookState). MayBegin v.limit (state_of v) (length (state_of v).frames)) (sym c.self.view_is) x in absurd ((open_by_begin c.self.inside.throttle s h.logged.sound.sound m).0 (h.closed.0 c.if-self.true)))),
+      (λ x. (let m = subst (λ (v : BookState). MayBegin v.limit (state_of v) (length (state_of v).frames)) (sym c.self.view_is) x in
+          absurd ((open_by_begin c.self.inside.throttle s h.logged.sound.sound m).0 (h.closed.0 c.if-self.true)))),
     )
 
 pub returns-then-is_empty : goal.returns-then-is_empty
@@ -24,7 +25,8 @@ returns-then-is_empty g c =
     let size_is = h.size in
     let none = c.is_empty.ensures.0 c.if-is_empty.true in (
       (λ x. absurd (cc)),
-      (λ x. (let m = subst (λ (v : BookState). MayBegin v.limit (state_of v) (length (state_of v).frames)) (sym c.self.view_is) x in let room = m.room in absurd (omega (arith, none, room, alive_is, size_is)))),
+      (λ x. (let m = subst (λ (v : BookState). MayBegin v.limit (state_of v) (length (state_of v).frames)) (sym c.self.view_is) x in
+          let room = m.room in absurd (omega (arith, none, room, alive_is, size_is)))),
     )
 
 pub returns : goal.returns
@@ -40,6 +42,8 @@ returns g c =
       | inl z ↦ absurd (let e : true ≡ false = sym (c.is_empty.ensures.1 z) ∙ c.if-is_empty.false in cc)
       | inr z ↦ omega (arith, alive_is, size_is, z)
     ] in (
-      (λ x. subst (λ (v : BookState). MayBegin v.limit (state_of v) (length (state_of v).frames)) c.self.view_is (begins_by c.self.inside.throttle s h.logged.sound.sound unclosed (both.0 x) room)),
-      (λ x. (let m = subst (λ (v : BookState). MayBegin v.limit (state_of v) (length (state_of v).frames)) (sym c.self.view_is) x in both.1 (open_by_begin c.self.inside.throttle s h.logged.sound.sound m).1)),
+      (λ x. subst (λ (v : BookState). MayBegin v.limit (state_of v) (length (state_of v).frames)) c.self.view_is
+          (begins_by c.self.inside.throttle s h.logged.sound.sound unclosed (both.0 x) room)),
+      (λ x. (let m = subst (λ (v : BookState). MayBegin v.limit (state_of v) (length (state_of v).frames)) (sym c.self.view_is) x in
+          both.1 (open_by_begin c.self.inside.throttle s h.logged.sound.sound m).1)),
     )

@@ -17,17 +17,20 @@ use Rattle.frame_book.proofs.book.Book.name.Goals as goal
 pub stamp-requires-clause-room : goal.stamp-requires-clause-room
 stamp-requires-clause-room g c =
     let go = subst (λ v. (state_of v).stopped ≡ false) (sym c.self.view_is) c.requires.going in
-    log_room g.M.Stands.whole g.M.Stands.ready_at g.M.Stands.tie (tables_of c.self.inside) c.self.invariant.0 (c.self.invariant.0.stopped ∙ go)
+    log_room g.M.Stands.whole g.M.Stands.ready_at g.M.Stands.tie (tables_of c.self.inside) c.self.invariant.0
+    (c.self.invariant.0.stopped ∙ go)
 
 pub stamp-requires-clause-last : goal.stamp-requires-clause-last
 stamp-requires-clause-last g c =
     let go = subst (λ v. (state_of v).stopped ≡ false) (sym c.self.view_is) c.requires.going in
-    last_below g.M.Stands.whole g.M.Stands.ready_at g.M.Stands.tie (tables_of c.self.inside) c.self.invariant.0 (c.self.invariant.0.stopped ∙ go)
+    last_below g.M.Stands.whole g.M.Stands.ready_at g.M.Stands.tie (tables_of c.self.inside) c.self.invariant.0
+    (c.self.invariant.0.stopped ∙ go)
 
 pub stamp-requires-clause-now : goal.stamp-requires-clause-now
 stamp-requires-clause-now g c =
     let go = subst (λ v. (state_of v).stopped ≡ false) (sym c.self.view_is) c.requires.going in
-    let room = log_room g.M.Stands.whole g.M.Stands.ready_at g.M.Stands.tie (tables_of c.self.inside) c.self.invariant.0 (c.self.invariant.0.stopped ∙ go) in
+    let room = log_room g.M.Stands.whole g.M.Stands.ready_at g.M.Stands.tie (tables_of c.self.inside) c.self.invariant.0
+    (c.self.invariant.0.stopped ∙ go) in
     let out = subst (λ v. IsOutOf v (fields_of c.args.token)) (sym c.self.view_is) c.requires.out in
     let size = c.self.invariant.0.sized.log_room in
     let few = c.self.invariant.0.sized.few in
@@ -46,9 +49,14 @@ suspend-requires g c =
     let out = subst (λ v. IsOutOf v (fields_of t)) (sym c.self.view_is) c.requires.out in
     let go = subst (λ v. (state_of v).stopped ≡ false) (sym c.self.view_is) c.requires.going in
     let at = out_row_read c.self.inside.rows.items t.iteration c.index_mut-row.result.now out.out c.index_mut-row.ensures.value in
-    let per = performed g.M.Stands.whole g.M.Stands.ready_at g.M.Stands.tie (tables_of c.self.inside) t c.index_mut-row.result.now c.self.invariant.0 at out (accessed c.args.trace ++ Staged c.args.kind c.args.number ∷ []) (subst (λ v. Performs (left_of v t.iteration) (accessed c.args.trace ++ Staged c.args.kind c.args.number ∷ [])) (sym c.self.view_is) c.requires.performs) in
-    let pay = subst (λ v. IsPayloadOf g.M.Stands.ready_at g.M.Stands.tie v t.iteration (replies_at v t.iteration ++ replies_of c.args.trace ∷ []) t.payload) (sym c.self.view_is) c.requires.payload in
-    trace_room g.M.Stands.whole g.M.Stands.ready_at g.M.Stands.tie (tables_of c.self.inside) t c.index_mut-row.result.now c.args.kind c.args.number c.args.trace c.self.invariant.0 at go out per pay
+    let per = performed g.M.Stands.whole g.M.Stands.ready_at g.M.Stands.tie (tables_of c.self.inside) t c.index_mut-row.result.now
+    c.self.invariant.0 at out (accessed c.args.trace ++ Staged c.args.kind c.args.number ∷ [])
+    (subst (λ v. Performs (left_of v t.iteration) (accessed c.args.trace ++ Staged c.args.kind c.args.number ∷ []))
+    (sym c.self.view_is) c.requires.performs) in
+    let pay = subst (λ v. IsPayloadOf g.M.Stands.ready_at g.M.Stands.tie v t.iteration
+    (replies_at v t.iteration ++ replies_of c.args.trace ∷ []) t.payload) (sym c.self.view_is) c.requires.payload in
+    trace_room g.M.Stands.whole g.M.Stands.ready_at g.M.Stands.tie (tables_of c.self.inside) t c.index_mut-row.result.now c.args.kind
+    c.args.number c.args.trace c.self.invariant.0 at go out per pay
 
 pub invariant_of-self : goal.invariant_of-self
 invariant_of-self g c =
@@ -56,9 +64,18 @@ invariant_of-self g c =
     let out = subst (λ v. IsOutOf v (fields_of t)) (sym c.self.view_is) c.requires.out in
     let go = subst (λ v. (state_of v).stopped ≡ false) (sym c.self.view_is) c.requires.going in
     let at = out_row_read c.self.inside.rows.items t.iteration c.index_mut-row.result.now out.out c.index_mut-row.ensures.value in
-    let per = performed g.M.Stands.whole g.M.Stands.ready_at g.M.Stands.tie (tables_of c.self.inside) t c.index_mut-row.result.now c.self.invariant.0 at out (accessed c.args.trace ++ Staged c.args.kind c.args.number ∷ []) (subst (λ v. Performs (left_of v t.iteration) (accessed c.args.trace ++ Staged c.args.kind c.args.number ∷ [])) (sym c.self.view_is) c.requires.performs) in
-    let pay = subst (λ v. IsPayloadOf g.M.Stands.ready_at g.M.Stands.tie v t.iteration (replies_at v t.iteration ++ replies_of c.args.trace ∷ []) t.payload) (sym c.self.view_is) c.requires.payload in
-    rw (c.suspend.ensures, c.stamp.ensures.ticket, c.stamp.ensures.log, to_z-of_z w64 c.args.number c.ranges.number) (name_keeps g.M.Stands.whole g.M.Stands.ready_at g.M.Stands.tie (tables_of c.self.inside) t c.index_mut-row.result.now c.args.kind c.args.number c.args.trace c.self.invariant.0 at go out per pay, alive_out c.self.inside.rows.items _ t.iteration c.index_mut-row.result.now _ _ _ at out.out c.self.invariant.1)
+    let per = performed g.M.Stands.whole g.M.Stands.ready_at g.M.Stands.tie (tables_of c.self.inside) t c.index_mut-row.result.now
+    c.self.invariant.0 at out (accessed c.args.trace ++ Staged c.args.kind c.args.number ∷ [])
+    (subst (λ v. Performs (left_of v t.iteration) (accessed c.args.trace ++ Staged c.args.kind c.args.number ∷ []))
+    (sym c.self.view_is) c.requires.performs) in
+    let pay = subst (λ v. IsPayloadOf g.M.Stands.ready_at g.M.Stands.tie v t.iteration
+    (replies_at v t.iteration ++ replies_of c.args.trace ∷ []) t.payload) (sym c.self.view_is) c.requires.payload in
+    rw (c.suspend.ensures, c.stamp.ensures.ticket, c.stamp.ensures.log, to_z-of_z w64 c.args.number c.ranges.number) (
+      name_keeps g.M.Stands.whole g.M.Stands.ready_at g.M.Stands.tie (tables_of c.self.inside) t c.index_mut-row.result.now c.args.kind
+          c.args.number c.args.trace c.self.invariant.0 at go out per pay,
+      alive_out c.self.inside.rows.items _ t.iteration
+          c.index_mut-row.result.now _ _ _ at out.out c.self.invariant.1,
+    )
 
 pub returns : goal.returns
 returns g c =
@@ -66,6 +83,12 @@ returns g c =
     let out = subst (λ v. IsOutOf v (fields_of t)) (sym c.self.view_is) c.requires.out in
     let go = subst (λ v. (state_of v).stopped ≡ false) (sym c.self.view_is) c.requires.going in
     let at = out_row_read c.self.inside.rows.items t.iteration c.index_mut-row.result.now out.out c.index_mut-row.ensures.value in
-    let per = performed g.M.Stands.whole g.M.Stands.ready_at g.M.Stands.tie (tables_of c.self.inside) t c.index_mut-row.result.now c.self.invariant.0 at out (accessed c.args.trace ++ Staged c.args.kind c.args.number ∷ []) (subst (λ v. Performs (left_of v t.iteration) (accessed c.args.trace ++ Staged c.args.kind c.args.number ∷ [])) (sym c.self.view_is) c.requires.performs) in
-    let pay = subst (λ v. IsPayloadOf g.M.Stands.ready_at g.M.Stands.tie v t.iteration (replies_at v t.iteration ++ replies_of c.args.trace ∷ []) t.payload) (sym c.self.view_is) c.requires.payload in
-    rw (c.suspend.ensures, c.stamp.ensures.ticket, c.stamp.ensures.log, to_z-of_z w64 c.args.number c.ranges.number, ← c.self.view_is) (name_view g.M.Stands.whole g.M.Stands.ready_at g.M.Stands.tie (tables_of c.self.inside) t c.index_mut-row.result.now c.args.kind c.args.number c.args.trace c.self.invariant.0 at go out per pay)
+    let per = performed g.M.Stands.whole g.M.Stands.ready_at g.M.Stands.tie (tables_of c.self.inside) t c.index_mut-row.result.now
+    c.self.invariant.0 at out (accessed c.args.trace ++ Staged c.args.kind c.args.number ∷ [])
+    (subst (λ v. Performs (left_of v t.iteration) (accessed c.args.trace ++ Staged c.args.kind c.args.number ∷ []))
+    (sym c.self.view_is) c.requires.performs) in
+    let pay = subst (λ v. IsPayloadOf g.M.Stands.ready_at g.M.Stands.tie v t.iteration
+    (replies_at v t.iteration ++ replies_of c.args.trace ∷ []) t.payload) (sym c.self.view_is) c.requires.payload in
+    rw (c.suspend.ensures, c.stamp.ensures.ticket, c.stamp.ensures.log, to_z-of_z w64 c.args.number c.ranges.number, ← c.self.view_is)
+    (name_view g.M.Stands.whole g.M.Stands.ready_at g.M.Stands.tie (tables_of c.self.inside) t c.index_mut-row.result.now c.args.kind
+    c.args.number c.args.trace c.self.invariant.0 at go out per pay)

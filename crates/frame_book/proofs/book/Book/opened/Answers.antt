@@ -35,7 +35,8 @@ overflow_mul-instances g c =
     let fs : SFits w64 s = search rules in
     let ni : nat_abs (to_z w64 (of_z w64 i)) ≡ natural i = ap nat_abs (to_z-of_z w64 i fi) ∙ abs_is i c.requires.planned.some_iterations in
     let ns : nat_abs (to_z w64 (of_z w64 s)) ≡ natural s = ap nat_abs (to_z-of_z w64 s fs) ∙ abs_is s c.requires.planned.some_stages in
-    (fits_small (nat_abs (to_z w64 (of_z w64 i)) * nat_abs (to_z w64 (of_z w64 s))) (natural i * natural s) (ap₂ (λ a b. a * b) ni ns) c.requires.planned.few).1
+    (fits_small (nat_abs (to_z w64 (of_z w64 i)) * nat_abs (to_z w64 (of_z w64 s))) (natural i * natural s)
+    (ap₂ (λ a b. a * b) ni ns) c.requires.planned.few).1
 
 pub overflow_add-instances : goal.overflow_add-instances
 overflow_add-instances g c =
@@ -45,7 +46,8 @@ overflow_add-instances g c =
     let fs : SFits w64 s = search rules in
     let ni : nat_abs (to_z w64 (of_z w64 i)) ≡ natural i = ap nat_abs (to_z-of_z w64 i fi) ∙ abs_is i c.requires.planned.some_iterations in
     let ns : nat_abs (to_z w64 (of_z w64 s)) ≡ natural s = ap nat_abs (to_z-of_z w64 s fs) ∙ abs_is s c.requires.planned.some_stages in
-    (fits_small (nat_abs (to_z w64 (of_z w64 i)) * nat_abs (to_z w64 (of_z w64 s))) (natural i * natural s) (ap₂ (λ a b. a * b) ni ns) c.requires.planned.few).2
+    (fits_small (nat_abs (to_z w64 (of_z w64 i)) * nat_abs (to_z w64 (of_z w64 s))) (natural i * natural s)
+    (ap₂ (λ a b. a * b) ni ns) c.requires.planned.few).2
 
 pub overflow_mul-instances-2 : goal.overflow_mul-instances-2
 overflow_mul-instances-2 g c =
@@ -55,7 +57,8 @@ overflow_mul-instances-2 g c =
     let fs : SFits w64 s = search rules in
     let ni : nat_abs (to_z w64 (of_z w64 i)) ≡ natural i = ap nat_abs (to_z-of_z w64 i fi) ∙ abs_is i c.requires.planned.some_iterations in
     let ns : nat_abs (to_z w64 (of_z w64 s)) ≡ natural s = ap nat_abs (to_z-of_z w64 s fs) ∙ abs_is s c.requires.planned.some_stages in
-    (fits_small (nat_abs (to_z w64 (of_z w64 i)) * nat_abs (to_z w64 (of_z w64 s))) (natural i * natural s) (ap₂ (λ a b. a * b) ni ns) c.requires.planned.few).3
+    (fits_small (nat_abs (to_z w64 (of_z w64 i)) * nat_abs (to_z w64 (of_z w64 s))) (natural i * natural s)
+    (ap₂ (λ a b. a * b) ni ns) c.requires.planned.few).3
 
 pub overflow_add-instances-2 : goal.overflow_add-instances-2
 overflow_add-instances-2 g c =
@@ -65,7 +68,8 @@ overflow_add-instances-2 g c =
     let fs : SFits w64 s = search rules in
     let ni : nat_abs (to_z w64 (of_z w64 i)) ≡ natural i = ap nat_abs (to_z-of_z w64 i fi) ∙ abs_is i c.requires.planned.some_iterations in
     let ns : nat_abs (to_z w64 (of_z w64 s)) ≡ natural s = ap nat_abs (to_z-of_z w64 s fs) ∙ abs_is s c.requires.planned.some_stages in
-    (fits_small (nat_abs (to_z w64 (of_z w64 i)) * nat_abs (to_z w64 (of_z w64 s))) (natural i * natural s) (ap₂ (λ a b. a * b) ni ns) c.requires.planned.few).4
+    (fits_small (nat_abs (to_z w64 (of_z w64 i)) * nat_abs (to_z w64 (of_z w64 s))) (natural i * natural s)
+    (ap₂ (λ a b. a * b) ni ns) c.requires.planned.few).4
 
 pub push_reserved-requires-in-loop : goal.push_reserved-requires-in-loop
 push_reserved-requires-in-loop g c =
@@ -84,14 +88,27 @@ invariant_of-result-2 g c =
     let fs : SFits w64 s = search rules in
     let ni : nat_abs (to_z w64 (of_z w64 i)) ≡ natural i = ap nat_abs (to_z-of_z w64 i fi) ∙ abs_is i c.requires.planned.some_iterations in
     let ns : nat_abs (to_z w64 (of_z w64 s)) ≡ natural s = ap nat_abs (to_z-of_z w64 s fs) ∙ abs_is s c.requires.planned.some_stages in
-    let end : c.loop.counter ≡ nat_abs (to_z w64 (of_z w64 i)) = (let q = c.loop-test.false in let r = c.loop.auto.counter-end in omega (arith, q, r)) in
+    let end : c.loop.counter ≡ nat_abs (to_z w64 (of_z w64 i)) =
+    (let q = c.loop-test.false in let r = c.loop.auto.counter-end in omega (arith, q, r)) in
     let spare = c.loop.invariant.0 ∙ ap₂ (λ k z. empty_row 1 ∷ replicate k (empty_row z)) (end ∙ ni) ns in
     let cap : vec_capacity c.in_ok-with_capacity.field-0 ≡ nat_abs (to_z w64 (of_z w64 i)) + 1 = c.in_ok-with_capacity.ensures.exact in
-    let room : 2 * (nat_abs (to_z w64 (of_z w64 i)) * nat_abs (to_z w64 (of_z w64 s)) + 1) + 1 ≡ 2 * most_instances (tree_of c.args.program) + 1 = ap₂ (λ a b. 2 * (a * b + 1) + 1) ni ns in
+    let room : 2 * (nat_abs (to_z w64 (of_z w64 i)) * nat_abs (to_z w64 (of_z w64 s)) + 1) + 1 ≡ 2 * most_instances
+    (tree_of c.args.program) + 1 = ap₂ (λ a b. 2 * (a * b + 1) + 1) ni ns in
     let wide : vec_capacity c.in_ok-with_capacity-2.field-0 ≡ nat_abs (to_z w64 (of_z w64 i)) + 1 = c.in_ok-with_capacity-2.ensures.exact in
     let long = length-replicate (natural i) (empty_row {M = g.row.M.Denot} (natural s)) in
-    rw (c.in_ok-with_capacity.ensures.items, c.in_ok-with_capacity-2.ensures.items, spare, c.new-2.ensures, c.in_ok-new-3.ensures, room, c.orders.view_is) (
-      new_keeps g.M.Stands.whole g.M.Stands.ready_at g.M.Stands.tie c.args.program c.input.inside.items.items c.args.throttle (subst (IsPlannedProgram (tree_of c.args.program)) (sym c.input.view_is) c.requires.planned) c.requires.throttle c.args.payloads.items c.requires.payloads
-          c.args.orders c.requires.whole c.requires.started.0 c.requires.started.1 c.requires.room.0 c.requires.room.1 (vec_capacity c.in_ok-with_capacity.field-0) (omega (arith, cap, ni)),
+    rw (
+      c.in_ok-with_capacity.ensures.items,
+      c.in_ok-with_capacity-2.ensures.items,
+      spare,
+      c.new-2.ensures,
+      c.in_ok-new-3.ensures,
+      room,
+      c.orders.view_is,
+    ) (
+      new_keeps g.M.Stands.whole g.M.Stands.ready_at g.M.Stands.tie c.args.program c.input.inside.items.items c.args.throttle
+          (subst (IsPlannedProgram (tree_of c.args.program)) (sym c.input.view_is) c.requires.planned) c.requires.throttle
+          c.args.payloads.items c.requires.payloads
+          c.args.orders c.requires.whole c.requires.started.0 c.requires.started.1 c.requires.room.0 c.requires.room.1
+          (vec_capacity c.in_ok-with_capacity.field-0) (omega (arith, cap, ni)),
       alive_none _ _ (omega (arith, wide, ni, long)),
     )

@@ -8,4 +8,8 @@ pub invariant_of-self : goal.invariant_of-self
 invariant_of-self g c =
     let least = subst (λ (v : BookState). c.args.least ≤ 2 ^ 62 + length v.log) (sym c.self.view_is) c.requires.least in
     let some = stopped_some c.self.inside.ledger.log (subst (λ v. (state_of v).stopped ≡ true) (sym c.self.view_is) c.requires.stopped) in
-    rw c.raise_last.ensures (raise_keeps g.M.Stands.whole g.M.Stands.ready_at g.M.Stands.tie (tables_of c.self.inside) c.self.invariant.0 c.args.least least some, c.self.invariant.1)
+    rw c.raise_last.ensures (
+      raise_keeps g.M.Stands.whole g.M.Stands.ready_at g.M.Stands.tie
+          (tables_of c.self.inside) c.self.invariant.0 c.args.least least some,
+      c.self.invariant.1,
+    )

@@ -19,7 +19,8 @@ resume-requires-clause-can g c =
     let h = c.self-2.invariant.0 in
     let rows = subst (AreRows (not s.stopped) s.frames) (sym c.as_slice.ensures.value) h.rows.each in
     let found = c.in-Some.ensures.some (not s.stopped) s.frames rows in
-    let here : RowGoesOn s.frames c.self-2.inside.rows.items c.in-Some.iteration = subst (λ rs. RowGoesOn s.frames rs c.in-Some.iteration) c.as_slice.ensures.value found.0 in
+    let here : RowGoesOn s.frames c.self-2.inside.rows.items c.in-Some.iteration = subst (λ rs. RowGoesOn s.frames rs c.in-Some.iteration)
+    c.as_slice.ensures.value found.0 in
     let can = (can_is (not s.stopped) (tables_of c.self-2.inside) c.in-Some.iteration h.rows.each).0 here in
     subst (λ x. CanGoOn (IsReady x) (state_of x) c.in-Some.iteration) c.self-2.view_is can
 
@@ -29,14 +30,18 @@ returns-in-Some-clause-returned g c =
     let s = state_of v in
     let h = c.self-2.invariant.0 in
     let after = c.self-2.view_is ∙ c.drop_ended.ensures in
-    let going : (state_of c.args.self.now).stopped ≡ false = subst (λ (x : BookState). (state_of x).stopped ≡ false) c.self.view_is (sym c.self.invariant.0.stopped ∙ c.if-self.false) in
+    let going : (state_of c.args.self.now).stopped ≡ false = subst (λ (x : BookState). (state_of x).stopped ≡ false) c.self.view_is
+    (sym c.self.invariant.0.stopped ∙ c.if-self.false) in
     let rows = subst (AreRows (not s.stopped) s.frames) (sym c.as_slice.ensures.value) h.rows.each in
     let found = c.in-Some.ensures.some (not s.stopped) s.frames rows in
     let each = λ (j : ℕ). can_is (not s.stopped) (tables_of c.self-2.inside) j h.rows.each in
-    let here : RowGoesOn s.frames c.self-2.inside.rows.items c.in-Some.iteration = subst (λ rs. RowGoesOn s.frames rs c.in-Some.iteration) c.as_slice.ensures.value found.0 in
+    let here : RowGoesOn s.frames c.self-2.inside.rows.items c.in-Some.iteration = subst (λ rs. RowGoesOn s.frames rs c.in-Some.iteration)
+    c.as_slice.ensures.value found.0 in
     let can = (each c.in-Some.iteration).0 here in
-    let first : (j : ℕ) → j < c.in-Some.iteration → CanGoOn (IsReady v) s j → ⊥ = λ j l x. found.1 j l (subst (λ rs. RowGoesOn s.frames rs j) (sym c.as_slice.ensures.value) ((each j).1 x)) in
-    let is : IsFirstToGoOn (IsReady v) s c.resume.result.iteration = subst (IsFirstToGoOn (IsReady v) s) (sym c.resume.ensures.iteration) (record { can = can; first = first }) in
+    let first : (j : ℕ) → j < c.in-Some.iteration → CanGoOn (IsReady v) s j → ⊥ = λ j l x. found.1 j l
+    (subst (λ rs. RowGoesOn s.frames rs j) (sym c.as_slice.ensures.value) ((each j).1 x)) in
+    let is : IsFirstToGoOn (IsReady v) s c.resume.result.iteration = subst (IsFirstToGoOn (IsReady v) s) (sym c.resume.ensures.iteration)
+    (record { can = can; first = first }) in
     (going, subst (λ x. IsFirstToGoOn (IsReady x) (state_of x) c.resume.result.iteration) after is)
 
 pub returns-then-may_begin-clause-returned : goal.returns-then-may_begin-clause-returned
@@ -47,10 +52,15 @@ returns-then-may_begin-clause-returned g c =
     let after = c.self-2.view_is ∙ c.drop_ended.ensures in
     let rows = subst (AreRows (not s.stopped) s.frames) (sym c.as_slice.ensures.value) h.rows.each in
     let found = c.in_default.ensures.none (not s.stopped) s.frames rows in
-    let none : (i : ℕ) → CanGoOn (IsReady v) s i → ⊥ = λ i x. found i (subst (λ rs. RowGoesOn s.frames rs i) (sym c.as_slice.ensures.value) ((can_is (not s.stopped) (tables_of c.self-2.inside) i h.rows.each).1 x)) in
-    let going : (state_of c.args.self.now).stopped ≡ false = subst (λ (x : BookState). (state_of x).stopped ≡ false) c.self.view_is (sym c.self.invariant.0.stopped ∙ c.if-self.false) in
-    let over : IsFinished (state_of c.args.self.now) → ⊥ = λ f. (let e : true ≡ false = sym (c.is_finished.ensures.1 f) ∙ c.if-is_finished.false in absurd (cc)) in
-    let may = subst (λ (x : BookState). MayBegin x.limit (state_of x) (length (state_of x).frames)) c.drop_ended.ensures (c.may_begin.ensures.0 c.if-may_begin.true) in
+    let none : (i : ℕ) → CanGoOn (IsReady v) s i → ⊥ =
+    λ i x. found i (subst (λ rs. RowGoesOn s.frames rs i) (sym c.as_slice.ensures.value)
+    ((can_is (not s.stopped) (tables_of c.self-2.inside) i h.rows.each).1 x)) in
+    let going : (state_of c.args.self.now).stopped ≡ false = subst (λ (x : BookState). (state_of x).stopped ≡ false) c.self.view_is
+    (sym c.self.invariant.0.stopped ∙ c.if-self.false) in
+    let over : IsFinished (state_of c.args.self.now) → ⊥ =
+    λ f. (let e : true ≡ false = sym (c.is_finished.ensures.1 f) ∙ c.if-is_finished.false in absurd (cc)) in
+    let may = subst (λ (x : BookState). MayBegin x.limit (state_of x) (length (state_of x).frames)) c.drop_ended.ensures
+    (c.may_begin.ensures.0 c.if-may_begin.true) in
     (going, subst (λ (x : BookState). (i : ℕ) → CanGoOn (IsReady x) (state_of x) i → ⊥) after none, may, over)
 
 pub returns-clause-returned : goal.returns-clause-returned
@@ -61,17 +71,23 @@ returns-clause-returned g c =
     let after = c.self-2.view_is ∙ c.drop_ended.ensures in
     let rows = subst (AreRows (not s.stopped) s.frames) (sym c.as_slice.ensures.value) h.rows.each in
     let found = c.in_default.ensures.none (not s.stopped) s.frames rows in
-    let none : (i : ℕ) → CanGoOn (IsReady v) s i → ⊥ = λ i x. found i (subst (λ rs. RowGoesOn s.frames rs i) (sym c.as_slice.ensures.value) ((can_is (not s.stopped) (tables_of c.self-2.inside) i h.rows.each).1 x)) in
-    let going : (state_of c.args.self.now).stopped ≡ false = subst (λ (x : BookState). (state_of x).stopped ≡ false) c.self.view_is (sym c.self.invariant.0.stopped ∙ c.if-self.false) in
-    let over : IsFinished (state_of c.args.self.now) → ⊥ = λ f. (let e : true ≡ false = sym (c.is_finished.ensures.1 f) ∙ c.if-is_finished.false in absurd (cc)) in
+    let none : (i : ℕ) → CanGoOn (IsReady v) s i → ⊥ =
+    λ i x. found i (subst (λ rs. RowGoesOn s.frames rs i) (sym c.as_slice.ensures.value)
+    ((can_is (not s.stopped) (tables_of c.self-2.inside) i h.rows.each).1 x)) in
+    let going : (state_of c.args.self.now).stopped ≡ false = subst (λ (x : BookState). (state_of x).stopped ≡ false) c.self.view_is
+    (sym c.self.invariant.0.stopped ∙ c.if-self.false) in
+    let over : IsFinished (state_of c.args.self.now) → ⊥ =
+    λ f. (let e : true ≡ false = sym (c.is_finished.ensures.1 f) ∙ c.if-is_finished.false in absurd (cc)) in
     let begins : MayBegin c.args.self.now.limit (state_of c.args.self.now) (length (state_of c.args.self.now).frames) → ⊥ = λ m. (
-    let e : true ≡ false = sym (c.may_begin.ensures.1 (subst (λ (x : BookState). MayBegin x.limit (state_of x) (length (state_of x).frames)) (sym c.drop_ended.ensures) m)) ∙ c.if-may_begin.false in
+    let e : true ≡ false = sym (c.may_begin.ensures.1 (subst (λ (x : BookState). MayBegin x.limit (state_of x)
+    (length (state_of x).frames)) (sym c.drop_ended.ensures) m)) ∙ c.if-may_begin.false in
     absurd (cc)) in
     (going, subst (λ (x : BookState). (i : ℕ) → CanGoOn (IsReady x) (state_of x) i → ⊥) after none, begins, over)
 
 pub returns-clause-nothing : goal.returns-clause-nothing
 returns-clause-nothing g c =
     let b = tables_of c.self.inside in
-    let returned = subst (λ (x : BookState). RescueReturns {M = g.row.M.Denot} x.limit (state_of x) (IsReady x) rescue.Nothing) (sym c.self.view_is) (returns-clause-returned g c) in
+    let returned = subst (λ (x : BookState). RescueReturns {M = g.row.M.Denot} x.limit (state_of x) (IsReady x) rescue.Nothing)
+    (sym c.self.view_is) (returns-clause-returned g c) in
     subst (λ (x : BookState). (i : ℕ) × IsOut x i) c.self.view_is
     (a_token_is_out g.M.Stands.whole g.M.Stands.ready_at g.M.Stands.tie b c.self.invariant.0 returned.0 returned.1 returned.2 returned.3)

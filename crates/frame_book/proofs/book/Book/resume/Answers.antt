@@ -12,7 +12,8 @@ use Rattle.frame_book.specs.BookTables.{tables_of}
 use Rattle.frame_book.specs.IterationRows.{IterationRow}
 use Rattle.frame_book.specs.CallEffects.{IsReady, kept_folded, with_entered, with_resumed}
 use Rattle.frame_book.specs.Tables.{book_state, token_state_of, token_state_by}
-use Rattle.frame_book.proofs.Keeping.Resume.{set_itself, can_frame, can_run, can_enter, can_not, kept_none, resumes_by_entering, kept, resume_keeps, resume_view, resume_given, resume_beside, resume_folded}
+use Rattle.frame_book.proofs.Keeping.Resume.{set_itself, can_frame, can_run, can_enter, can_not, kept_none, resumes_by_entering, kept}
+use Rattle.frame_book.proofs.Keeping.Resume.{resume_keeps, resume_view, resume_given, resume_beside, resume_folded}
 use Rattle.frame_book.proofs.Iterations.FrameRows.{rows_length, row_at_read, row_of_frame}
 use Rattle.frame_book.proofs.Iterations.ChangedRows.{map_at}
 use Rattle.frame_book.proofs.Iterations.AliveRows.{alive_set}
@@ -26,7 +27,9 @@ index_mut-row-requires g c =
     let going = subst (λ x. (state_of x).stopped ≡ false) (sym c.self.view_is) c.requires.going in
     let can = subst (λ x. CanGoOn (IsReady x) (state_of x) i) (sym c.self.view_is) c.requires.can in
     let it = can_frame v i can in
-    let inside : i < length c.self.inside.rows.items = (let a = frame_at_within s.frames i it.0 it.1 in let e = rows_length (not s.stopped) s.frames c.self.inside.rows.items c.self.invariant.0.rows.each in omega (arith, a, e)) in
+    let inside : i < length c.self.inside.rows.items =
+    (let a = frame_at_within s.frames i it.0 it.1 in let e = rows_length (not s.stopped) s.frames c.self.inside.rows.items
+    c.self.invariant.0.rows.each in omega (arith, a, e)) in
     grind (arith, common_steps)
 
 pub unreachable-requires : goal.unreachable-requires
@@ -37,7 +40,9 @@ unreachable-requires g c =
     let going = subst (λ x. (state_of x).stopped ≡ false) (sym c.self.view_is) c.requires.going in
     let can = subst (λ x. CanGoOn (IsReady x) (state_of x) i) (sym c.self.view_is) c.requires.can in
     let it = can_frame v i can in
-    let inside : i < length c.self.inside.rows.items = (let a = frame_at_within s.frames i it.0 it.1 in let e = rows_length (not s.stopped) s.frames c.self.inside.rows.items c.self.invariant.0.rows.each in omega (arith, a, e)) in
+    let inside : i < length c.self.inside.rows.items =
+    (let a = frame_at_within s.frames i it.0 it.1 in let e = rows_length (not s.stopped) s.frames c.self.inside.rows.items
+    c.self.invariant.0.rows.each in omega (arith, a, e)) in
     let r = c.index_mut-row.result.now in
     let at = row_at_read c.self.inside.rows.items i r inside c.index_mut-row.ensures.value in
     let q = row_of_frame (not s.stopped) s.frames c.self.inside.rows.items i it.0 c.self.invariant.0.rows.each it.1 in
@@ -45,7 +50,9 @@ unreachable-requires g c =
     let status : r.status ≡ it.0.status = sym (ap (λ (z : IterationRow _). z.status) same) ∙ q.matches.status in
     let runs : it.0.status ≡ Running = sym status ∙ (sym c.status.ensures ∙ c.in-Running.is) in
     let ready = can_run v i it.0 it.1 runs can in
-    let place : token_state_by r.token Running ≡ Rattle.frame_book.specs.BookStates.Kept ready.fields = ap (token_state_by r.token) (sym runs ∙ sym status) ∙ (sym (map_at token_state_of c.self.inside.rows.items i r Spent at) ∙ ready.kept) in
+    let place : token_state_by r.token Running ≡ Rattle.frame_book.specs.BookStates.Kept ready.fields =
+    ap (token_state_by r.token) (sym runs ∙ sym status)
+    ∙ (sym (map_at token_state_of c.self.inside.rows.items i r Spent at) ∙ ready.kept) in
     kept_none r.token ready.fields (sym c.take_token.ensures.token ∙ c.in-None.is) place
 
 pub invariant_of-self : goal.invariant_of-self
@@ -56,7 +63,9 @@ invariant_of-self g c =
     let going = subst (λ x. (state_of x).stopped ≡ false) (sym c.self.view_is) c.requires.going in
     let can = subst (λ x. CanGoOn (IsReady x) (state_of x) i) (sym c.self.view_is) c.requires.can in
     let it = can_frame v i can in
-    let inside : i < length c.self.inside.rows.items = (let a = frame_at_within s.frames i it.0 it.1 in let e = rows_length (not s.stopped) s.frames c.self.inside.rows.items c.self.invariant.0.rows.each in omega (arith, a, e)) in
+    let inside : i < length c.self.inside.rows.items =
+    (let a = frame_at_within s.frames i it.0 it.1 in let e = rows_length (not s.stopped) s.frames c.self.inside.rows.items
+    c.self.invariant.0.rows.each in omega (arith, a, e)) in
     let r = c.index_mut-row.result.now in
     let at = row_at_read c.self.inside.rows.items i r inside c.index_mut-row.ensures.value in
     let q = row_of_frame (not s.stopped) s.frames c.self.inside.rows.items i it.0 c.self.invariant.0.rows.each it.1 in
@@ -64,7 +73,12 @@ invariant_of-self g c =
     let status : r.status ≡ it.0.status = sym (ap (λ (z : IterationRow _). z.status) same) ∙ q.matches.status in
     let runs : it.0.status ≡ Running = sym status ∙ (sym c.status.ensures ∙ c.in-Running.is) in
     let held : r.token ≡ Some c.in-Some.token = sym c.take_token.ensures.token ∙ c.in-Some.is in
-    rw c.take_token.ensures.row (resume_keeps g.M.Stands.whole g.M.Stands.ready_at g.M.Stands.tie (tables_of c.self.inside) c.self.invariant.0 c.args.iteration going r at it.0 it.1 runs c.in-Some.token held, alive_set c.self.inside.rows.items _ i r _ _ _ at (ap is_completed (status ∙ runs)) c.self.invariant.1)
+    rw c.take_token.ensures.row (
+      resume_keeps g.M.Stands.whole g.M.Stands.ready_at g.M.Stands.tie
+          (tables_of c.self.inside) c.self.invariant.0 c.args.iteration going r at it.0 it.1 runs c.in-Some.token held,
+      alive_set
+          c.self.inside.rows.items _ i r _ _ _ at (ap is_completed (status ∙ runs)) c.self.invariant.1,
+    )
 
 pub enter_named-requires-clause-may : goal.enter_named-requires-clause-may
 enter_named-requires-clause-may g c =
@@ -74,7 +88,9 @@ enter_named-requires-clause-may g c =
     let going = subst (λ x. (state_of x).stopped ≡ false) (sym c.self.view_is) c.requires.going in
     let can = subst (λ x. CanGoOn (IsReady x) (state_of x) i) (sym c.self.view_is) c.requires.can in
     let it = can_frame v i can in
-    let inside : i < length c.self.inside.rows.items = (let a = frame_at_within s.frames i it.0 it.1 in let e = rows_length (not s.stopped) s.frames c.self.inside.rows.items c.self.invariant.0.rows.each in omega (arith, a, e)) in
+    let inside : i < length c.self.inside.rows.items =
+    (let a = frame_at_within s.frames i it.0 it.1 in let e = rows_length (not s.stopped) s.frames c.self.inside.rows.items
+    c.self.invariant.0.rows.each in omega (arith, a, e)) in
     let r = c.index_mut-row.result.now in
     let at = row_at_read c.self.inside.rows.items i r inside c.index_mut-row.ensures.value in
     let q = row_of_frame (not s.stopped) s.frames c.self.inside.rows.items i it.0 c.self.invariant.0.rows.each it.1 in
@@ -91,7 +107,9 @@ unreachable-requires-in-Completed g c =
     let going = subst (λ x. (state_of x).stopped ≡ false) (sym c.self.view_is) c.requires.going in
     let can = subst (λ x. CanGoOn (IsReady x) (state_of x) i) (sym c.self.view_is) c.requires.can in
     let it = can_frame v i can in
-    let inside : i < length c.self.inside.rows.items = (let a = frame_at_within s.frames i it.0 it.1 in let e = rows_length (not s.stopped) s.frames c.self.inside.rows.items c.self.invariant.0.rows.each in omega (arith, a, e)) in
+    let inside : i < length c.self.inside.rows.items =
+    (let a = frame_at_within s.frames i it.0 it.1 in let e = rows_length (not s.stopped) s.frames c.self.inside.rows.items
+    c.self.invariant.0.rows.each in omega (arith, a, e)) in
     let r = c.index_mut-row.result.now in
     let at = row_at_read c.self.inside.rows.items i r inside c.index_mut-row.ensures.value in
     let q = row_of_frame (not s.stopped) s.frames c.self.inside.rows.items i it.0 c.self.invariant.0.rows.each it.1 in
@@ -107,7 +125,9 @@ returns-in-Some-clause-iteration g c =
     let going = subst (λ x. (state_of x).stopped ≡ false) (sym c.self.view_is) c.requires.going in
     let can = subst (λ x. CanGoOn (IsReady x) (state_of x) i) (sym c.self.view_is) c.requires.can in
     let it = can_frame v i can in
-    let inside : i < length c.self.inside.rows.items = (let a = frame_at_within s.frames i it.0 it.1 in let e = rows_length (not s.stopped) s.frames c.self.inside.rows.items c.self.invariant.0.rows.each in omega (arith, a, e)) in
+    let inside : i < length c.self.inside.rows.items =
+    (let a = frame_at_within s.frames i it.0 it.1 in let e = rows_length (not s.stopped) s.frames c.self.inside.rows.items
+    c.self.invariant.0.rows.each in omega (arith, a, e)) in
     let r = c.index_mut-row.result.now in
     let at = row_at_read c.self.inside.rows.items i r inside c.index_mut-row.ensures.value in
     let q = row_of_frame (not s.stopped) s.frames c.self.inside.rows.items i it.0 c.self.invariant.0.rows.each it.1 in
@@ -115,7 +135,8 @@ returns-in-Some-clause-iteration g c =
     let status : r.status ≡ it.0.status = sym (ap (λ (z : IterationRow _). z.status) same) ∙ q.matches.status in
     let runs : it.0.status ≡ Running = sym status ∙ (sym c.status.ensures ∙ c.in-Running.is) in
     let held : r.token ≡ Some c.in-Some.token = sym c.take_token.ensures.token ∙ c.in-Some.is in
-    (kept g.M.Stands.whole g.M.Stands.ready_at g.M.Stands.tie (tables_of c.self.inside) c.self.invariant.0 c.args.iteration going r at it.0 it.1 runs c.in-Some.token held).iteration
+    (kept g.M.Stands.whole g.M.Stands.ready_at g.M.Stands.tie (tables_of c.self.inside) c.self.invariant.0 c.args.iteration going r at it.0
+    it.1 runs c.in-Some.token held).iteration
 
 pub returns-in-Some-clause-book : goal.returns-in-Some-clause-book
 returns-in-Some-clause-book g c =
@@ -125,7 +146,9 @@ returns-in-Some-clause-book g c =
     let going = subst (λ x. (state_of x).stopped ≡ false) (sym c.self.view_is) c.requires.going in
     let can = subst (λ x. CanGoOn (IsReady x) (state_of x) i) (sym c.self.view_is) c.requires.can in
     let it = can_frame v i can in
-    let inside : i < length c.self.inside.rows.items = (let a = frame_at_within s.frames i it.0 it.1 in let e = rows_length (not s.stopped) s.frames c.self.inside.rows.items c.self.invariant.0.rows.each in omega (arith, a, e)) in
+    let inside : i < length c.self.inside.rows.items =
+    (let a = frame_at_within s.frames i it.0 it.1 in let e = rows_length (not s.stopped) s.frames c.self.inside.rows.items
+    c.self.invariant.0.rows.each in omega (arith, a, e)) in
     let r = c.index_mut-row.result.now in
     let at = row_at_read c.self.inside.rows.items i r inside c.index_mut-row.ensures.value in
     let q = row_of_frame (not s.stopped) s.frames c.self.inside.rows.items i it.0 c.self.invariant.0.rows.each it.1 in
@@ -133,7 +156,8 @@ returns-in-Some-clause-book g c =
     let status : r.status ≡ it.0.status = sym (ap (λ (z : IterationRow _). z.status) same) ∙ q.matches.status in
     let runs : it.0.status ≡ Running = sym status ∙ (sym c.status.ensures ∙ c.in-Running.is) in
     let held : r.token ≡ Some c.in-Some.token = sym c.take_token.ensures.token ∙ c.in-Some.is in
-    rw (c.take_token.ensures.row, ← c.self.view_is) (resume_view g.M.Stands.whole g.M.Stands.ready_at g.M.Stands.tie (tables_of c.self.inside) c.self.invariant.0 c.args.iteration going r at it.0 it.1 runs c.in-Some.token held)
+    rw (c.take_token.ensures.row, ← c.self.view_is) (resume_view g.M.Stands.whole g.M.Stands.ready_at g.M.Stands.tie
+    (tables_of c.self.inside) c.self.invariant.0 c.args.iteration going r at it.0 it.1 runs c.in-Some.token held)
 
 pub returns-in-Some-clause-token : goal.returns-in-Some-clause-token
 returns-in-Some-clause-token g c =
@@ -143,7 +167,9 @@ returns-in-Some-clause-token g c =
     let going = subst (λ x. (state_of x).stopped ≡ false) (sym c.self.view_is) c.requires.going in
     let can = subst (λ x. CanGoOn (IsReady x) (state_of x) i) (sym c.self.view_is) c.requires.can in
     let it = can_frame v i can in
-    let inside : i < length c.self.inside.rows.items = (let a = frame_at_within s.frames i it.0 it.1 in let e = rows_length (not s.stopped) s.frames c.self.inside.rows.items c.self.invariant.0.rows.each in omega (arith, a, e)) in
+    let inside : i < length c.self.inside.rows.items =
+    (let a = frame_at_within s.frames i it.0 it.1 in let e = rows_length (not s.stopped) s.frames c.self.inside.rows.items
+    c.self.invariant.0.rows.each in omega (arith, a, e)) in
     let r = c.index_mut-row.result.now in
     let at = row_at_read c.self.inside.rows.items i r inside c.index_mut-row.ensures.value in
     let q = row_of_frame (not s.stopped) s.frames c.self.inside.rows.items i it.0 c.self.invariant.0.rows.each it.1 in
@@ -151,7 +177,8 @@ returns-in-Some-clause-token g c =
     let status : r.status ≡ it.0.status = sym (ap (λ (z : IterationRow _). z.status) same) ∙ q.matches.status in
     let runs : it.0.status ≡ Running = sym status ∙ (sym c.status.ensures ∙ c.in-Running.is) in
     let held : r.token ≡ Some c.in-Some.token = sym c.take_token.ensures.token ∙ c.in-Some.is in
-    rw c.take_token.ensures.row (resume_given g.M.Stands.whole g.M.Stands.ready_at g.M.Stands.tie (tables_of c.self.inside) c.self.invariant.0 c.args.iteration going r at it.0 it.1 runs c.in-Some.token held)
+    rw c.take_token.ensures.row (resume_given g.M.Stands.whole g.M.Stands.ready_at g.M.Stands.tie
+    (tables_of c.self.inside) c.self.invariant.0 c.args.iteration going r at it.0 it.1 runs c.in-Some.token held)
 
 pub returns-in-Pending-clause-book : goal.returns-in-Pending-clause-book
 returns-in-Pending-clause-book g c =
@@ -161,14 +188,18 @@ returns-in-Pending-clause-book g c =
     let going = subst (λ x. (state_of x).stopped ≡ false) (sym c.self.view_is) c.requires.going in
     let can = subst (λ x. CanGoOn (IsReady x) (state_of x) i) (sym c.self.view_is) c.requires.can in
     let it = can_frame v i can in
-    let inside : i < length c.self.inside.rows.items = (let a = frame_at_within s.frames i it.0 it.1 in let e = rows_length (not s.stopped) s.frames c.self.inside.rows.items c.self.invariant.0.rows.each in omega (arith, a, e)) in
+    let inside : i < length c.self.inside.rows.items =
+    (let a = frame_at_within s.frames i it.0 it.1 in let e = rows_length (not s.stopped) s.frames c.self.inside.rows.items
+    c.self.invariant.0.rows.each in omega (arith, a, e)) in
     let r = c.index_mut-row.result.now in
     let at = row_at_read c.self.inside.rows.items i r inside c.index_mut-row.ensures.value in
     let q = row_of_frame (not s.stopped) s.frames c.self.inside.rows.items i it.0 c.self.invariant.0.rows.each it.1 in
     let same : q.row ≡ r = (let y : Some q.row ≡ Some r = sym q.is ∙ at in cc) in
     let status : r.status ≡ it.0.status = sym (ap (λ (z : IterationRow _). z.status) same) ∙ q.matches.status in
     let st : it.0.status ≡ Pending c.in-Pending.field-0 c.in-Pending.field-1 = sym status ∙ (sym c.status.ensures ∙ c.in-Pending.is) in
-    c.enter_named.ensures.book ∙ (ap (λ rs. with_entered (book_state (record (tables_of c.self.inside) { rows = rs })) i) (set_itself c.self.inside.rows.items i r at) ∙ (resumes_by_entering v i it.0 c.in-Pending.field-0 c.in-Pending.field-1 it.1 st ∙ ap (λ x. with_resumed x i) c.self.view_is))
+    c.enter_named.ensures.book ∙ (ap (λ rs. with_entered (book_state (record (tables_of c.self.inside) { rows = rs })) i)
+    (set_itself c.self.inside.rows.items i r at) ∙ (resumes_by_entering v i it.0 c.in-Pending.field-0 c.in-Pending.field-1 it.1 st
+    ∙ ap (λ x. with_resumed x i) c.self.view_is))
 
 pub returns-in-Some-clause-now : goal.returns-in-Some-clause-now
 returns-in-Some-clause-now g c =
@@ -178,7 +209,9 @@ returns-in-Some-clause-now g c =
     let going = subst (λ x. (state_of x).stopped ≡ false) (sym c.self.view_is) c.requires.going in
     let can = subst (λ x. CanGoOn (IsReady x) (state_of x) i) (sym c.self.view_is) c.requires.can in
     let it = can_frame v i can in
-    let inside : i < length c.self.inside.rows.items = (let a = frame_at_within s.frames i it.0 it.1 in let e = rows_length (not s.stopped) s.frames c.self.inside.rows.items c.self.invariant.0.rows.each in omega (arith, a, e)) in
+    let inside : i < length c.self.inside.rows.items =
+    (let a = frame_at_within s.frames i it.0 it.1 in let e = rows_length (not s.stopped) s.frames c.self.inside.rows.items
+    c.self.invariant.0.rows.each in omega (arith, a, e)) in
     let r = c.index_mut-row.result.now in
     let at = row_at_read c.self.inside.rows.items i r inside c.index_mut-row.ensures.value in
     let q = row_of_frame (not s.stopped) s.frames c.self.inside.rows.items i it.0 c.self.invariant.0.rows.each it.1 in
@@ -186,7 +219,8 @@ returns-in-Some-clause-now g c =
     let status : r.status ≡ it.0.status = sym (ap (λ (z : IterationRow _). z.status) same) ∙ q.matches.status in
     let runs : it.0.status ≡ Running = sym status ∙ (sym c.status.ensures ∙ c.in-Running.is) in
     let held : r.token ≡ Some c.in-Some.token = sym c.take_token.ensures.token ∙ c.in-Some.is in
-    rw (c.take_token.ensures.row, ← c.self.view_is) (resume_beside g.M.Stands.whole g.M.Stands.ready_at g.M.Stands.tie (tables_of c.self.inside) c.self.invariant.0 c.args.iteration going r at it.0 it.1 runs c.in-Some.token held)
+    rw (c.take_token.ensures.row, ← c.self.view_is) (resume_beside g.M.Stands.whole g.M.Stands.ready_at g.M.Stands.tie
+    (tables_of c.self.inside) c.self.invariant.0 c.args.iteration going r at it.0 it.1 runs c.in-Some.token held)
 
 pub returns-in-Pending-clause-now : goal.returns-in-Pending-clause-now
 returns-in-Pending-clause-now g c =
@@ -196,7 +230,9 @@ returns-in-Pending-clause-now g c =
     let going = subst (λ x. (state_of x).stopped ≡ false) (sym c.self.view_is) c.requires.going in
     let can = subst (λ x. CanGoOn (IsReady x) (state_of x) i) (sym c.self.view_is) c.requires.can in
     let it = can_frame v i can in
-    let inside : i < length c.self.inside.rows.items = (let a = frame_at_within s.frames i it.0 it.1 in let e = rows_length (not s.stopped) s.frames c.self.inside.rows.items c.self.invariant.0.rows.each in omega (arith, a, e)) in
+    let inside : i < length c.self.inside.rows.items =
+    (let a = frame_at_within s.frames i it.0 it.1 in let e = rows_length (not s.stopped) s.frames c.self.inside.rows.items
+    c.self.invariant.0.rows.each in omega (arith, a, e)) in
     let r = c.index_mut-row.result.now in
     let at = row_at_read c.self.inside.rows.items i r inside c.index_mut-row.ensures.value in
     let q = row_of_frame (not s.stopped) s.frames c.self.inside.rows.items i it.0 c.self.invariant.0.rows.each it.1 in
@@ -204,8 +240,10 @@ returns-in-Pending-clause-now g c =
     let status : r.status ≡ it.0.status = sym (ap (λ (z : IterationRow _). z.status) same) ∙ q.matches.status in
     let st : it.0.status ≡ Pending c.in-Pending.field-0 c.in-Pending.field-1 = sym status ∙ (sym c.status.ensures ∙ c.in-Pending.is) in
     let one : resume_events (frame_at s.frames i) i ≡ Enter i ∷ [] = ap (λ o. resume_events o i) it.1 ∙ ap (λ w. pending_events w i) st in
-    let events : resume_events (frame_at (state_of c.args.self.now).frames i) i ≡ Enter i ∷ [] = subst (λ (x : BookState). resume_events (frame_at (state_of x).frames i) i ≡ Enter i ∷ []) c.self.view_is one in
-    subst (λ es. IsGivenBeside es c.args.self.now c.enter_named.new.self (fields_of c.enter_named.result)) (sym events) c.enter_named.ensures.now
+    let events : resume_events (frame_at (state_of c.args.self.now).frames i) i ≡ Enter i ∷ [] =
+    subst (λ (x : BookState). resume_events (frame_at (state_of x).frames i) i ≡ Enter i ∷ []) c.self.view_is one in
+    subst (λ es. IsGivenBeside es c.args.self.now c.enter_named.new.self (fields_of c.enter_named.result))
+    (sym events) c.enter_named.ensures.now
 
 pub returns-in-Some-clause-folded : goal.returns-in-Some-clause-folded
 returns-in-Some-clause-folded g c =
@@ -215,7 +253,9 @@ returns-in-Some-clause-folded g c =
     let going = subst (λ x. (state_of x).stopped ≡ false) (sym c.self.view_is) c.requires.going in
     let can = subst (λ x. CanGoOn (IsReady x) (state_of x) i) (sym c.self.view_is) c.requires.can in
     let it = can_frame v i can in
-    let inside : i < length c.self.inside.rows.items = (let a = frame_at_within s.frames i it.0 it.1 in let e = rows_length (not s.stopped) s.frames c.self.inside.rows.items c.self.invariant.0.rows.each in omega (arith, a, e)) in
+    let inside : i < length c.self.inside.rows.items =
+    (let a = frame_at_within s.frames i it.0 it.1 in let e = rows_length (not s.stopped) s.frames c.self.inside.rows.items
+    c.self.invariant.0.rows.each in omega (arith, a, e)) in
     let r = c.index_mut-row.result.now in
     let at = row_at_read c.self.inside.rows.items i r inside c.index_mut-row.ensures.value in
     let q = row_of_frame (not s.stopped) s.frames c.self.inside.rows.items i it.0 c.self.invariant.0.rows.each it.1 in
@@ -223,7 +263,8 @@ returns-in-Some-clause-folded g c =
     let status : r.status ≡ it.0.status = sym (ap (λ (z : IterationRow _). z.status) same) ∙ q.matches.status in
     let runs : it.0.status ≡ Running = sym status ∙ (sym c.status.ensures ∙ c.in-Running.is) in
     let held : r.token ≡ Some c.in-Some.token = sym c.take_token.ensures.token ∙ c.in-Some.is in
-    rw (← c.self.view_is) (resume_folded g.M.Stands.whole g.M.Stands.ready_at g.M.Stands.tie (tables_of c.self.inside) c.self.invariant.0 c.args.iteration going r at it.0 it.1 runs c.in-Some.token held)
+    rw (← c.self.view_is) (resume_folded g.M.Stands.whole g.M.Stands.ready_at g.M.Stands.tie
+    (tables_of c.self.inside) c.self.invariant.0 c.args.iteration going r at it.0 it.1 runs c.in-Some.token held)
 
 pub returns-in-Pending-clause-folded : goal.returns-in-Pending-clause-folded
 returns-in-Pending-clause-folded g c =
@@ -233,7 +274,11 @@ returns-in-Pending-clause-folded g c =
     let going = subst (λ x. (state_of x).stopped ≡ false) (sym c.self.view_is) c.requires.going in
     let can = subst (λ x. CanGoOn (IsReady x) (state_of x) i) (sym c.self.view_is) c.requires.can in
     let it = can_frame v i can in
-    let inside : i < length c.self.inside.rows.items = (let a = frame_at_within s.frames i it.0 it.1 in let e = rows_length (not s.stopped) s.frames c.self.inside.rows.items c.self.invariant.0.rows.each in omega (arith, a, e)) in
+    let inside : i < length c.self.inside.rows.items =
+    (let a = frame_at_within s.frames i it.0 it.1 in let e = rows_length (not s.stopped) s.frames c.self.inside.rows.items
+    c.self.invariant.0.rows.each in omega (arith, a, e)) in
     let r = c.index_mut-row.result.now in
     let at = row_at_read c.self.inside.rows.items i r inside c.index_mut-row.ensures.value in
-    c.enter_named.ensures.folded ∙ (ap (λ rs. kept_folded (item_or Spent (book_state (record (tables_of c.self.inside) { rows = rs })).tokens i)) (set_itself c.self.inside.rows.items i r at) ∙ ap (λ (x : BookState). kept_folded (item_or Spent x.tokens i)) c.self.view_is)
+    c.enter_named.ensures.folded ∙ (ap (λ rs. kept_folded
+    (item_or Spent (book_state (record (tables_of c.self.inside) { rows = rs })).tokens i))
+    (set_itself c.self.inside.rows.items i r at) ∙ ap (λ (x : BookState). kept_folded (item_or Spent x.tokens i)) c.self.view_is)

@@ -3,7 +3,8 @@ use Rattle.std.proofs.lemmas.Bool.{false≢true}
 use Rattle.std.proofs.lemmas.List.{take_more, take_all}
 use Rattle.op_table.proofs.BestRows.{takes, keeps, best_is_longest, best_is_none}
 use Rattle.op_table.proofs.table.OpTable.longest.Goals as goal
-use Rattle.op_table.proofs.table.OpTable.longest.Goals.{then-begins+then-outdoes, else-begins, else-begins-via-then-begins+else-outdoes, else-begins-via-else-begins}
+use Rattle.op_table.proofs.table.OpTable.longest.Goals.{then-begins+then-outdoes, else-begins, else-begins-via-then-begins+else-outdoes}
+use Rattle.op_table.proofs.table.OpTable.longest.Goals.{else-begins-via-else-begins}
 
 pub loop-row-preserved : goal.loop-row-preserved
 loop-row-preserved g c =

@@ -9,5 +9,6 @@ abbrev pub invariant-loop-cell : goal.invariant-loop-cell
 invariant-loop-cell l = record {
   table : IsCellTable l.sizes l.total (take l.cell-index l.declared);
   numbered : l.next ≡ l.cell-index;
-  faults : first_fault l.next (marks_of_cells (take l.cell-index l.declared) (drop l.cell-index l.declared)) ≡ first_fault 0 (marks_of_cells [] l.declared);
+  faults : first_fault l.next (marks_of_cells (take l.cell-index l.declared) (drop l.cell-index l.declared)) ≡ first_fault 0
+      (marks_of_cells [] l.declared);
 }

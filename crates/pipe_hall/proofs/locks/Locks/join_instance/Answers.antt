@@ -9,5 +9,12 @@ pub join_seat-requires : goal.join_seat-requires
 join_seat-requires g c =
     let w = c.args.self.now.sized.0 in
     let e = c.into_seat-other.ensures in
-    let b = instance_badge c.args.run.badge.views c.args.run.of_instance in
-    (c.requires.own.0, e.0 ∙ c.requires.own.1, e.3, omega (arith, w), joins_instance g.row.M.Denot (start_in c.args.self.now.table.shared.key) _ _ _ _ b.run c.requires.free (ap (λ vs. (badge_view vs).run) (sym e.2) ∙ (ap (λ vs. (badge_view vs).run) b.is ∙ b.run_is)))
+    let b = instance_badge c.args.run.badge.views c.args.run.of_instance in (
+      c.requires.own.0,
+      e.0 ∙ c.requires.own.1,
+      e.3,
+      omega (arith, w),
+      joins_instance g.row.M.Denot
+          (start_in c.args.self.now.table.shared.key) _ _ _ _ b.run c.requires.free
+          (ap (λ vs. (badge_view vs).run) (sym e.2) ∙ (ap (λ vs. (badge_view vs).run) b.is ∙ b.run_is)),
+    )

@@ -19,6 +19,7 @@ compare_exchange_with-requires g c =
     let m = c.args.seat.now.me in (
       c.requires.own,
       omega (arith, w),
-      subst (λ (x : Slot g.row.M.Denot). Allows (IsHall {M = g.row.M.Denot} key) n id m 0 (λ k. either (eqb k 1) 0 k) (returns_book_and_token (step n 0 1 0 (some x)) m)) (sym r.5)
+      subst (λ (x : Slot g.row.M.Denot). Allows (IsHall {M = g.row.M.Denot} key) n id m 0 (λ k. either (eqb k 1) 0 k)
+          (returns_book_and_token (step n 0 1 0 (some x)) m)) (sym r.5)
           (may_return_book_and_token g.row.M.Denot key n id m r.2 r.3 r.1 r.4 r.0 r.6 r.7 r.8 r.9),
     )

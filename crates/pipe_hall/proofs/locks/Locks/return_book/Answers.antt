@@ -11,6 +11,7 @@ store-requires g c =
     let r = c.requires.call in (
       e.0 ∙ c.requires.own,
       omega (arith, w),
-      may_return_book g.row.M.Denot (start_in c.args.self.now.table.shared.key) _ _ c.exchange.new.seat.me c.args.seat.now.me.0 r.0 c.args.book r.1
+      may_return_book g.row.M.Denot (start_in c.args.self.now.table.shared.key) _ _ c.exchange.new.seat.me c.args.seat.now.me.0 r.0
+          c.args.book r.1
           (other_value g.row.M.Denot c.args.seat.now.me c.exchange.new.seat.me 0 _ _ r.2.slots e.3) r.2.held r.2.run r.3,
     )

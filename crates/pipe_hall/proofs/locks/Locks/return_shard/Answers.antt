@@ -16,7 +16,8 @@ store-requires g c =
     let m = other_value g.row.M.Denot c.args.seat.now.me c.exchange.new.seat.me (place (1 + c.args.number)) _ _ r.1 e.3 in (
       e.0 ∙ c.requires.own,
       omega (arith, w, l),
-      may_return_shard_at g.row.M.Denot (start_in c.args.self.now.table.shared.key) _ _ (1 + c.args.number) c.args.number c.exchange.new.seat.me c.args.seat.now.me.0 r.0 c.args.shard s m r.2 r.3,
+      may_return_shard_at g.row.M.Denot (start_in c.args.self.now.table.shared.key) _ _ (1 + c.args.number) c.args.number
+          c.exchange.new.seat.me c.args.seat.now.me.0 r.0 c.args.shard s m r.2 r.3,
     )
 
 pub returns-clause-given : goal.returns-clause-given
@@ -25,4 +26,5 @@ returns-clause-given g c =
     let r = c.requires.made in
     let m = other_value g.row.M.Denot c.args.seat.now.me c.exchange.new.seat.me (place (1 + c.args.number)) _ _ r.1 e.3 in
     let v = ap (λ (k : ViewAndSlots g.row.M.Denot). k.0) m in
-    λ x held. c.store.ensures.2 (1 + c.args.number) x c.args.shard (ap (λ w. w.it.held) v ∙ held) (ap (λ (k : ViewAndSlots g.row.M.Denot). k.1) m) ∙ ap (λ w. (view_of (after_shard w.it x c.args.shard), [])) v
+    λ x held. c.store.ensures.2 (1 + c.args.number) x c.args.shard (ap (λ w. w.it.held) v ∙ held)
+    (ap (λ (k : ViewAndSlots g.row.M.Denot). k.1) m) ∙ ap (λ w. (view_of (after_shard w.it x c.args.shard), [])) v

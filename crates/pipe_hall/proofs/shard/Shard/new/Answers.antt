@@ -8,4 +8,5 @@ use Rattle.pipe_hall.proofs.shard.Shard.new.Goals as goal
 pub returns-clause-cells : goal.returns-clause-cells
 returns-clause-cells c =
     let store = store_of (tree_of c.args.checked.now) in
-    subst (λ (l : List Access). IsStateAfter store l c.replay_accesses.new.cells) c.as_slice.ensures (c.replay_accesses.ensures.state store c.in_ok-cells.ensures.state)
+    subst (λ (l : List Access). IsStateAfter store l c.replay_accesses.new.cells) c.as_slice.ensures
+    (c.replay_accesses.ensures.state store c.in_ok-cells.ensures.state)

@@ -7,7 +7,8 @@ use Rattle.pipe_worker.proofs.worker.Worker.empty.Goals as goal
 
 pub loop-preserved : goal.loop-preserved
 loop-preserved g c =
-    let taken = pop_takes g.Q.WorkTest.weight g.Q.TaskTest.tag g.met.Q.WorkTest.weighs c.loop.self.ends c.pop.new.self 0 (Some c.in-Some-Resume.field-0) c.in-Some-Resume.ensures.own c.in-Some-Resume.ensures.fronts in
+    let taken = pop_takes g.Q.WorkTest.weight g.Q.TaskTest.tag g.met.Q.WorkTest.weighs c.loop.self.ends c.pop.new.self 0
+    (Some c.in-Some-Resume.field-0) c.in-Some-Resume.ensures.own c.in-Some-Resume.ensures.fronts in
     let one : tokens_in c.in-Some-Resume.field-0 ≡ 1 = ap tokens_in c.in-Some-Resume.field-0-is in
     let invariant = c.loop.invariant.tokens in
     let left = c.leave_ready.ensures.tokens in

@@ -12,7 +12,8 @@ returns-in-Some-clause-tokens g c =
     let f = c.steal.new.self in
     let s = c.in-Some.ensures in
     then_takes g.Q.WorkTest.weight c.args.self.now.ends e f (tokens_in c.in-Some.task) c.loop-step.invariant.tokens
-    (theft_takes g.Q.WorkTest.weight g.Q.TaskTest.tag g.met.Q.WorkTest.weighs e f _ (Some c.in-Some.task) (search rules) s.own s.front s.others s.count)
+    (theft_takes g.Q.WorkTest.weight g.Q.TaskTest.tag g.met.Q.WorkTest.weighs e f _ (Some c.in-Some.task)
+    (search rules) s.own s.front s.others s.count)
 
 pub loop-step-preserved : goal.loop-step-preserved
 loop-step-preserved g c =
@@ -23,7 +24,11 @@ loop-step-preserved g c =
     let weight = g.Q.WorkTest.weight in
     record {
       fronts = search rules;
-      worker = record { number = c.loop-step.invariant.worker.number; deques = then_same c.args.self.now.ends e f c.loop-step.invariant.worker.deques s.deques };
+      worker = record {
+        number = c.loop-step.invariant.worker.number;
+        deques = then_same c.args.self.now.ends e f
+            c.loop-step.invariant.worker.deques s.deques;
+      };
       tokens = then_takes weight c.args.self.now.ends e f 0 c.loop-step.invariant.tokens
           (subst (λ n. TakesTokens weight n e f) (no_theft weight g.Q.TaskTest.tag g.met.Q.WorkTest.weighs e f 0 r c.in_default.not-Some)
           (theft_takes weight g.Q.TaskTest.tag g.met.Q.WorkTest.weighs e f _ r (search rules) s.own s.front s.others s.count));

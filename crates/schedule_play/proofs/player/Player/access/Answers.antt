@@ -57,8 +57,15 @@ access-requires-clause-instance g c =
     let within = slot_within code cells v c.requires.play i c.requires.runs.frame c.requires.runs.is in
     let slot = c.take.ensures.value ∙ c.index_mut.ensures.value ∙ ap (λ l. slice_index_or l i c.index_mut.result.now) running
     ∙ get_or_default v.running i c.index_mut.result.now None within in
-    let at = fits code cells v c.requires.play i c.requires.runs.frame c.requires.runs.is c.requires.runs.runs c.in-Some.running (sym slot ∙ c.in-Some.is) in
-    (tree_of v.book.program, (replies_at v.book i, subst (λ (l : List ℤ). IsRunningIteration code cells (tree_of v.book.program) l (replies_at v.book i) c.in-Some.running) (sym c.requires.input) at.instance))
+    let at = fits code cells v c.requires.play i c.requires.runs.frame c.requires.runs.is c.requires.runs.runs c.in-Some.running
+    (sym slot ∙ c.in-Some.is) in (
+      tree_of v.book.program,
+      (
+        replies_at v.book i,
+        subst (λ (l : List ℤ). IsRunningIteration code cells (tree_of v.book.program) l
+            (replies_at v.book i) c.in-Some.running) (sym c.requires.input) at.instance,
+      ),
+    )
 
 pub index_mut-requires-2 : goal.index_mut-requires-2
 index_mut-requires-2 g c =
@@ -77,37 +84,66 @@ returns-clause-play g c =
     let code = g.B.PlayedCode.code in
     let cells = g.B.PlayedCode.cells in
     let inside = c.self.inside in
-    let w : PlayState = record { book = inside.book; schedule = inside.schedule; running = inside.running.items; cells = inside.cells; events = inside.events; accesses = inside.accesses } in
+    let w : PlayState = record {
+      book = inside.book;
+      schedule = inside.schedule;
+      running = inside.running.items;
+      cells =
+          inside.cells;
+      events = inside.events;
+      accesses = inside.accesses;
+    } in
     let h = subst (IsPlay code cells) (sym c.self.view_is) c.requires.play in
     let i = c.args.iteration in
     let runs = subst (λ (x : PlayState). IsRunning (run_state x) i) (sym c.self.view_is) c.requires.runs in
     let within = slot_within code cells w h i runs.frame runs.is in
-    let kept = sym (get_or_default inside.running.items i c.index_mut.result.now None within) ∙ sym (c.take.ensures.value ∙ c.index_mut.ensures.value) ∙ c.in-Some.is in
+    let kept = sym (get_or_default inside.running.items i c.index_mut.result.now None within)
+    ∙ sym (c.take.ensures.value ∙ c.index_mut.ensures.value) ∙ c.in-Some.is in
     let input = c.requires.input ∙ ap (λ (x : PlayState). x.book.input) (sym c.self.view_is) in
     let ensured = c.in_ok-access.ensures in
     let ticket = c.len.ensures in
-    let made = access_made code cells w h i runs c.in-Some.running kept c.args.input.now input c.in_ok-access.access c.access.new.self c.access.new.cells
-    ensured.instance ensured.event (subst (λ n. c.access.new.self.token ≡ record c.in-Some.running.token { now = n + 1 }) ticket ensured.fields)
-    (subst (λ n. c.access.new.self.trace ≡ c.in-Some.running.trace ++ record { ticket = n + 1; access = c.in_ok-access.access } ∷ []) ticket ensured.trace) ensured.state ensured.shard in
-    rw (set-set inside.running.items i c.take.new.self (Some c.access.new.self), c.in_ok-push-2.ensures.ok, c.in_ok-push.ensures.ok, c.node-node.ensures) made.1
+    let made = access_made code cells w h i runs c.in-Some.running kept c.args.input.now input c.in_ok-access.access c.access.new.self
+    c.access.new.cells
+    ensured.instance ensured.event (subst (λ n. c.access.new.self.token ≡ record c.in-Some.running.token { now = n + 1 }) ticket
+    ensured.fields)
+    (subst (λ n. c.access.new.self.trace ≡ c.in-Some.running.trace ++ record { ticket = n + 1; access = c.in_ok-access.access } ∷ [])
+    ticket ensured.trace) ensured.state ensured.shard in
+    rw (
+      set-set inside.running.items i c.take.new.self (Some c.access.new.self),
+      c.in_ok-push-2.ensures.ok,
+      c.in_ok-push.ensures.ok,
+      c.node-node.ensures,
+    ) made.1
 
 pub returns-clause-event : goal.returns-clause-event
 returns-clause-event g c = λ e next.
     let code = g.B.PlayedCode.code in
     let cells = g.B.PlayedCode.cells in
     let inside = c.self.inside in
-    let w : PlayState = record { book = inside.book; schedule = inside.schedule; running = inside.running.items; cells = inside.cells; events = inside.events; accesses = inside.accesses } in
+    let w : PlayState = record {
+      book = inside.book;
+      schedule = inside.schedule;
+      running = inside.running.items;
+      cells =
+          inside.cells;
+      events = inside.events;
+      accesses = inside.accesses;
+    } in
     let h = subst (IsPlay code cells) (sym c.self.view_is) c.requires.play in
     let i = c.args.iteration in
     let runs = subst (λ (x : PlayState). IsRunning (run_state x) i) (sym c.self.view_is) c.requires.runs in
     let within = slot_within code cells w h i runs.frame runs.is in
-    let kept = sym (get_or_default inside.running.items i c.index_mut.result.now None within) ∙ sym (c.take.ensures.value ∙ c.index_mut.ensures.value) ∙ c.in-Some.is in
+    let kept = sym (get_or_default inside.running.items i c.index_mut.result.now None within)
+    ∙ sym (c.take.ensures.value ∙ c.index_mut.ensures.value) ∙ c.in-Some.is in
     let input = c.requires.input ∙ ap (λ (x : PlayState). x.book.input) (sym c.self.view_is) in
     let ensured = c.in_ok-access.ensures in
     let ticket = c.len.ensures in
-    let made = access_made code cells w h i runs c.in-Some.running kept c.args.input.now input c.in_ok-access.access c.access.new.self c.access.new.cells
-    ensured.instance ensured.event (subst (λ n. c.access.new.self.token ≡ record c.in-Some.running.token { now = n + 1 }) ticket ensured.fields)
-    (subst (λ n. c.access.new.self.trace ≡ c.in-Some.running.trace ++ record { ticket = n + 1; access = c.in_ok-access.access } ∷ []) ticket ensured.trace) ensured.state ensured.shard in
+    let made = access_made code cells w h i runs c.in-Some.running kept c.args.input.now input c.in_ok-access.access c.access.new.self
+    c.access.new.cells
+    ensured.instance ensured.event (subst (λ n. c.access.new.self.token ≡ record c.in-Some.running.token { now = n + 1 }) ticket
+    ensured.fields)
+    (subst (λ n. c.access.new.self.trace ≡ c.in-Some.running.trace ++ record { ticket = n + 1; access = c.in_ok-access.access } ∷ [])
+    ticket ensured.trace) ensured.state ensured.shard in
     let there = subst (λ (x : PlayState). next_event (pipeline_played x) (run_state x) i ≡ Some e) (sym c.self.view_is) next in
     let same : events.Access i c.in_ok-access.access ≡ e = (let q = sym made.0 ∙ there in cc) in
     c.in_ok-push-2.ensures.ok ∙ (ap (λ x. inside.events ++ x ∷ []) same ∙ ap (λ (x : PlayState). x.events ++ e ∷ []) c.self.view_is)

@@ -46,7 +46,8 @@ end-requires-clause-out g c =
     let within = slot_within code cells v c.requires.play i c.requires.runs.frame c.requires.runs.is in
     let slot = c.take.ensures.value ∙ c.index_mut.ensures.value ∙ ap (λ l. slice_index_or l i c.index_mut.result.now) running
     ∙ get_or_default v.running i c.index_mut.result.now None within in
-    let at = fits code cells v c.requires.play i c.requires.runs.frame c.requires.runs.is c.requires.runs.runs c.in-Some.running (sym slot ∙ c.in-Some.is) in
+    let at = fits code cells v c.requires.play i c.requires.runs.frame c.requires.runs.is c.requires.runs.runs c.in-Some.running
+    (sym slot ∙ c.in-Some.is) in
     subst (λ (x : PlayState). IsOutOf x.book c.in-Some.running.token) (sym c.self.view_is) at.out
 
 pub end-requires-clause-ends : goal.end-requires-clause-ends
@@ -71,25 +72,39 @@ end-requires-clause-instance g c =
     let within = slot_within code cells v c.requires.play i c.requires.runs.frame c.requires.runs.is in
     let slot = c.take.ensures.value ∙ c.index_mut.ensures.value ∙ ap (λ l. slice_index_or l i c.index_mut.result.now) running
     ∙ get_or_default v.running i c.index_mut.result.now None within in
-    let at = fits code cells v c.requires.play i c.requires.runs.frame c.requires.runs.is c.requires.runs.runs c.in-Some.running (sym slot ∙ c.in-Some.is) in
-    subst (λ (x : PlayState). IsRunningIteration code cells (tree_of x.book.program) x.book.input (replies_at x.book c.in-Some.running.token.iteration) c.in-Some.running) (sym c.self.view_is)
-    (subst (λ j. IsRunningIteration code cells (tree_of v.book.program) v.book.input (replies_at v.book j) c.in-Some.running) (sym at.iteration) at.instance)
+    let at = fits code cells v c.requires.play i c.requires.runs.frame c.requires.runs.is c.requires.runs.runs c.in-Some.running
+    (sym slot ∙ c.in-Some.is) in
+    subst (λ (x : PlayState). IsRunningIteration code cells (tree_of x.book.program) x.book.input
+    (replies_at x.book c.in-Some.running.token.iteration) c.in-Some.running) (sym c.self.view_is)
+    (subst (λ j. IsRunningIteration code cells (tree_of v.book.program) v.book.input (replies_at v.book j) c.in-Some.running)
+    (sym at.iteration) at.instance)
 
 pub returns-clause-play : goal.returns-clause-play
 returns-clause-play g c =
     let code = g.B.PlayedCode.code in
     let cells = g.B.PlayedCode.cells in
     let inside = c.self.inside in
-    let w : PlayState = record { book = inside.book; schedule = inside.schedule; running = inside.running.items; cells = inside.cells; events = inside.events; accesses = inside.accesses } in
+    let w : PlayState = record {
+      book = inside.book;
+      schedule = inside.schedule;
+      running = inside.running.items;
+      cells =
+          inside.cells;
+      events = inside.events;
+      accesses = inside.accesses;
+    } in
     let h = subst (IsPlay code cells) (sym c.self.view_is) c.requires.play in
     let i = c.args.iteration in
     let runs = subst (λ (x : PlayState). IsRunning (run_state x) i) (sym c.self.view_is) c.requires.runs in
     let within = slot_within code cells w h i runs.frame runs.is in
-    let kept = sym (get_or_default inside.running.items i c.index_mut.result.now None within) ∙ sym (c.take.ensures.value ∙ c.index_mut.ensures.value) ∙ c.in-Some.is in
+    let kept = sym (get_or_default inside.running.items i c.index_mut.result.now None within)
+    ∙ sym (c.take.ensures.value ∙ c.index_mut.ensures.value) ∙ c.in-Some.is in
     let at = subst (λ o. IfSome o (λ (x : RunningIterationState). x.next ≡ actions.End c.args.end)) kept
-    (subst (λ (x : PlayState). IfSome (item_or None x.running i) (λ (y : RunningIterationState). y.next ≡ actions.End c.args.end)) (sym c.self.view_is) c.requires.next) in
+    (subst (λ (x : PlayState). IfSome (item_or None x.running i) (λ (y : RunningIterationState). y.next ≡ actions.End c.args.end))
+    (sym c.self.view_is) c.requires.next) in
     let ensured = c.end_instance-event.ensures in
-    let made = end_made code cells w h i runs c.in-Some.running kept c.args.end at c.end.result c.end.ensures.returned c.end_instance-event.result ensured.event
+    let made = end_made code cells w h i runs c.in-Some.running kept c.args.end at c.end.result c.end.ensures.returned
+    c.end_instance-event.result ensured.event
     c.end_instance-event.new.self ensured.schedule ensured.limit in
     rw (c.take.ensures.after, c.end.ensures.book, c.in_ok-push.ensures.ok) made.1
 
@@ -98,16 +113,27 @@ returns-clause-event g c = λ e next.
     let code = g.B.PlayedCode.code in
     let cells = g.B.PlayedCode.cells in
     let inside = c.self.inside in
-    let w : PlayState = record { book = inside.book; schedule = inside.schedule; running = inside.running.items; cells = inside.cells; events = inside.events; accesses = inside.accesses } in
+    let w : PlayState = record {
+      book = inside.book;
+      schedule = inside.schedule;
+      running = inside.running.items;
+      cells =
+          inside.cells;
+      events = inside.events;
+      accesses = inside.accesses;
+    } in
     let h = subst (IsPlay code cells) (sym c.self.view_is) c.requires.play in
     let i = c.args.iteration in
     let runs = subst (λ (x : PlayState). IsRunning (run_state x) i) (sym c.self.view_is) c.requires.runs in
     let within = slot_within code cells w h i runs.frame runs.is in
-    let kept = sym (get_or_default inside.running.items i c.index_mut.result.now None within) ∙ sym (c.take.ensures.value ∙ c.index_mut.ensures.value) ∙ c.in-Some.is in
+    let kept = sym (get_or_default inside.running.items i c.index_mut.result.now None within)
+    ∙ sym (c.take.ensures.value ∙ c.index_mut.ensures.value) ∙ c.in-Some.is in
     let at = subst (λ o. IfSome o (λ (x : RunningIterationState). x.next ≡ actions.End c.args.end)) kept
-    (subst (λ (x : PlayState). IfSome (item_or None x.running i) (λ (y : RunningIterationState). y.next ≡ actions.End c.args.end)) (sym c.self.view_is) c.requires.next) in
+    (subst (λ (x : PlayState). IfSome (item_or None x.running i) (λ (y : RunningIterationState). y.next ≡ actions.End c.args.end))
+    (sym c.self.view_is) c.requires.next) in
     let ensured = c.end_instance-event.ensures in
-    let made = end_made code cells w h i runs c.in-Some.running kept c.args.end at c.end.result c.end.ensures.returned c.end_instance-event.result ensured.event
+    let made = end_made code cells w h i runs c.in-Some.running kept c.args.end at c.end.result c.end.ensures.returned
+    c.end_instance-event.result ensured.event
     c.end_instance-event.new.self ensured.schedule ensured.limit in
     let there = subst (λ (x : PlayState). next_event (pipeline_played x) (run_state x) i ≡ Some e) (sym c.self.view_is) next in
     let same : c.end_instance-event.result ≡ e = (let q = sym made.0 ∙ there in cc) in

@@ -14,7 +14,8 @@ pub unreachable-requires : goal.unreachable-requires
 unreachable-requires g c =
     let code = g.B.PlayedCode.code in
     let cells = g.B.PlayedCode.cells in
-    let returned = subst (λ (x : PlayState). ((state_of x.book).stopped ≡ true) ⊎ (MayEnter (state_of x.book) c.args.iteration → ⊥)) c.self.view_is c.in_default.ensures.returned in
+    let returned = subst (λ (x : PlayState). ((state_of x.book).stopped ≡ true) ⊎ (MayEnter (state_of x.book) c.args.iteration → ⊥))
+    c.self.view_is c.in_default.ensures.returned in
     enter_possible code cells c.args.self.now c.requires.play c.args.iteration c.requires.next returned
 
 pub returns-clause-play : goal.returns-clause-play
@@ -22,16 +23,28 @@ returns-clause-play g c =
     let code = g.B.PlayedCode.code in
     let cells = g.B.PlayedCode.cells in
     let inside = c.self.inside in
-    let w : PlayState = record { book = inside.book; schedule = inside.schedule; running = inside.running.items; cells = inside.cells; events = inside.events; accesses = inside.accesses } in
+    let w : PlayState = record {
+      book = inside.book;
+      schedule = inside.schedule;
+      running = inside.running.items;
+      cells =
+          inside.cells;
+      events = inside.events;
+      accesses = inside.accesses;
+    } in
     let h = subst (IsPlay code cells) (sym c.self.view_is) c.requires.play in
     let i = c.args.iteration in
-    let next = subst (λ (x : PlayState). next_event (pipeline_played x) (run_state x) i ≡ Some (events.Enter i)) (sym c.self.view_is) c.requires.next in
+    let next = subst (λ (x : PlayState). next_event (pipeline_played x) (run_state x) i ≡ Some (events.Enter i))
+    (sym c.self.view_is) c.requires.next in
     let input = c.requires.input ∙ ap (λ (x : PlayState). x.book.input) (sym c.self.view_is) in
     let token = c.in-Some.token in
-    let given = subst (λ (b : BookState). IsGivenBy (λ tree numbers x j replies. IsAtInstance code cells tree numbers x.machine j replies) (λ x. no_tie) b token) c.in-Some.ensures.book c.in-Some.ensures.token in
+    let given = subst (λ (b : BookState). IsGivenBy (λ tree numbers x j replies. IsAtInstance code cells tree numbers x.machine j replies)
+    (λ x. no_tie) b token) c.in-Some.ensures.book c.in-Some.ensures.token in
     let ensured = c.new-running.ensures in
-    let made = entered_made code cells w h i next (fields_of token) c.in-Some.ensures.returned.2 given.out token.payload.machine given.payload.ready c.new-running.result
-    ensured.fields ensured.empty c.args.input.now input ensured.instance c.enter-2.new.self c.enter-2.ensures.schedule c.enter-2.ensures.limit in
+    let made = entered_made code cells w h i next (fields_of token) c.in-Some.ensures.returned.2 given.out token.payload.machine
+    given.payload.ready c.new-running.result
+    ensured.fields ensured.empty c.args.input.now input ensured.instance c.enter-2.new.self c.enter-2.ensures.schedule
+    c.enter-2.ensures.limit in
     rw (c.in-Some.ensures.book, c.in_ok-push.ensures.ok) made
 
 pub returns-clause-event : goal.returns-clause-event

@@ -24,8 +24,11 @@ returns g c =
     let play = c.requires.play in
     let found = c.choose.result in
     let chosen_is = subst (λ (x : PlayState). (p : Pipeline) (s : State) → IsScheduleOf s x.schedule
-    → option_map (turn_event p x.schedule.limit s) found ≡ option_map Some (chosen 0 (candidates p x.schedule.limit 1 s))) c.self.view_is c.choose.ensures in
-    let here = subst (λ l. option_map (turn_event p l s) found ≡ option_map Some (chosen 0 (candidates p l 1 s))) play.limit (chosen_is p s play.schedule) in
-    let over = finished_by (turn_event p v.book.limit s) found p v.book.limit v.events s play.run play.proper c.requires.limit play.going here in
+    → option_map (turn_event p x.schedule.limit s) found ≡ option_map Some (chosen 0 (candidates p x.schedule.limit 1 s))) c.self.view_is
+    c.choose.ensures in
+    let here = subst (λ l. option_map (turn_event p l s) found ≡ option_map Some (chosen 0 (candidates p l 1 s))) play.limit
+    (chosen_is p s play.schedule) in
+    let over = finished_by (turn_event p v.book.limit s) found p v.book.limit v.events s play.run play.proper c.requires.limit play.going
+    here in
     let none = none_by found c.is_none.result c.is_none.ensures in
     ((λ x. over.0 (none.0 x)), (λ x. none.1 (over.1 x)))

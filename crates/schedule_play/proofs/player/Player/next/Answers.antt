@@ -21,12 +21,14 @@ no_slot : (o : Option RunningIterationState) → option_map (λ (h : RunningIter
 no_slot None e = refl
 no_slot (Some h) e = absurd (cc)
 
-slot : (o : Option RunningIterationState) (end : NextAction) → option_map (λ (h : RunningIterationState). h.next) o ≡ Some end → (h : RunningIterationState) × (o ≡ Some h) × (h.next ≡ end)
+slot : (o : Option RunningIterationState) (end : NextAction) → option_map (λ (h : RunningIterationState). h.next) o ≡ Some end
+    → (h : RunningIterationState) × (o ≡ Some h) × (h.next ≡ end)
 slot None end e = absurd (cc)
 slot (Some h) end e = (h, refl, cc)
 
 -- an instance that ends next was not stopped
-ends_apart : {code : FlatCode} {cells : ℕ} {input : List ℤ} {t : Behaviour} {run : RunState} {trace : List Entry} {next : NextAction} {end : StageEnd}
+ends_apart : {code : FlatCode} {cells : ℕ} {input : List ℤ} {t : Behaviour} {run : RunState} {trace : List Entry} {next : NextAction}
+    {end : StageEnd}
     → IsUnderWay code cells input t run trace next → next ≡ actions.End end → end ≢ stage_ends.Stopped
 ends_apart {code} {cells} {input} {t} {run} {trace} h is = (subst (IsUnderWay code cells input t run trace) is h).is_at.0
 
@@ -43,7 +45,8 @@ enter-requires-clause-next g c =
     let code = g.B.PlayedCode.code in
     let cells = g.B.PlayedCode.cells in
     let v = c.args.self.now in
-    enters_next code cells v c.requires.play c.args.iteration (no_slot (item_or None v.running c.args.iteration) (sym c.next_of_running.ensures ∙ c.in_default.is))
+    enters_next code cells v c.requires.play c.args.iteration
+    (no_slot (item_or None v.running c.args.iteration) (sym c.next_of_running.ensures ∙ c.in_default.is))
     c.requires.next.0 c.requires.next.1
 
 pub access-requires-clause-runs : goal.access-requires-clause-runs
@@ -51,13 +54,15 @@ access-requires-clause-runs g c =
     let code = g.B.PlayedCode.code in
     let cells = g.B.PlayedCode.cells in
     let v = c.args.self.now in
-    let k = slot (item_or None v.running c.args.iteration) actions.Access (sym c.next_of_running.ensures ∙ c.in-Some.is ∙ ap Some c.in-Access.is) in
+    let k = slot (item_or None v.running c.args.iteration) actions.Access
+    (sym c.next_of_running.ensures ∙ c.in-Some.is ∙ ap Some c.in-Access.is) in
     runs_by_slot code cells v c.requires.play c.args.iteration k.0 k.1 c.requires.next.0 c.requires.next.1
 
 pub access-requires-clause-next : goal.access-requires-clause-next
 access-requires-clause-next g c =
     let v = c.args.self.now in
-    let k = slot (item_or None v.running c.args.iteration) actions.Access (sym c.next_of_running.ensures ∙ c.in-Some.is ∙ ap Some c.in-Access.is) in
+    let k = slot (item_or None v.running c.args.iteration) actions.Access
+    (sym c.next_of_running.ensures ∙ c.in-Some.is ∙ ap Some c.in-Access.is) in
     subst (λ o. IfSome o (λ (h : RunningIterationState). h.next ≡ actions.Access)) (sym k.1) k.2
 
 pub end-requires-clause-runs : goal.end-requires-clause-runs
@@ -65,13 +70,15 @@ end-requires-clause-runs g c =
     let code = g.B.PlayedCode.code in
     let cells = g.B.PlayedCode.cells in
     let v = c.args.self.now in
-    let k = slot (item_or None v.running c.args.iteration) (actions.End c.in-End.end) (sym c.next_of_running.ensures ∙ c.in-Some.is ∙ ap Some c.in-End.is) in
+    let k = slot (item_or None v.running c.args.iteration) (actions.End c.in-End.end)
+    (sym c.next_of_running.ensures ∙ c.in-Some.is ∙ ap Some c.in-End.is) in
     runs_by_slot code cells v c.requires.play c.args.iteration k.0 k.1 c.requires.next.0 c.requires.next.1
 
 pub end-requires-clause-next : goal.end-requires-clause-next
 end-requires-clause-next g c =
     let v = c.args.self.now in
-    let k = slot (item_or None v.running c.args.iteration) (actions.End c.in-End.end) (sym c.next_of_running.ensures ∙ c.in-Some.is ∙ ap Some c.in-End.is) in
+    let k = slot (item_or None v.running c.args.iteration) (actions.End c.in-End.end)
+    (sym c.next_of_running.ensures ∙ c.in-Some.is ∙ ap Some c.in-End.is) in
     subst (λ o. IfSome o (λ (h : RunningIterationState). h.next ≡ actions.End c.in-End.end)) (sym k.1) k.2
 
 pub end-requires-clause-ends : goal.end-requires-clause-ends
@@ -79,7 +86,8 @@ end-requires-clause-ends g c =
     let code = g.B.PlayedCode.code in
     let cells = g.B.PlayedCode.cells in
     let v = c.args.self.now in
-    let k = slot (item_or None v.running c.args.iteration) (actions.End c.in-End.end) (sym c.next_of_running.ensures ∙ c.in-Some.is ∙ ap Some c.in-End.is) in
+    let k = slot (item_or None v.running c.args.iteration) (actions.End c.in-End.end)
+    (sym c.next_of_running.ensures ∙ c.in-Some.is ∙ ap Some c.in-End.is) in
     let runs = runs_by_slot code cells v c.requires.play c.args.iteration k.0 k.1 c.requires.next.0 c.requires.next.1 in
     let at = fits code cells v c.requires.play c.args.iteration runs.frame runs.is runs.runs k.0 k.1 in
     ends_apart at.instance.under_way k.2

@@ -18,7 +18,8 @@ returns-clause-goes_on c = λ t under_way.
     let a = c.make_access-rest.result.0 in
     let e = c.make_access-rest.result.1 in
     let entry : Entry = record { ticket = c.args.ticket; access = a } in
-    let ran = c.make_access-rest.ensures.ran (behaviour_after_all t (accessed trace)) (stopped_here code cells input t run trace next c.requires.pending under_way) in
+    let ran = c.make_access-rest.ensures.ran (behaviour_after_all t (accessed trace))
+    (stopped_here code cells input t run trace next c.requires.pending under_way) in
     let items = c.push_reserved.ensures.items ∙ ap (λ (l : List Entry). l ++ entry ∷ []) c.in_ok-reserve.ensures.items in
     let after = goes_on code cells input t run now trace next e a c.args.ticket under_way ran in
     subst (λ (l : List Entry). IsUnderWay code cells input t now l c.action_at-self.result) (sym items)
@@ -33,5 +34,6 @@ returns-clause-event c = λ t p before i under_way state.
     let trace = c.args.self.now.trace.items in
     let ran = c.make_access-rest.ensures.ran (behaviour_after_all t (accessed trace))
     (stopped_here code cells input t run trace c.args.self.now.next c.requires.pending under_way) in
-    access_is_next code cells input t c.make_access-rest.new.machine.run trace c.make_access-rest.result.1 c.make_access-rest.result.0 p before i ran
+    access_is_next code cells input t c.make_access-rest.new.machine.run trace c.make_access-rest.result.1 c.make_access-rest.result.0 p
+    before i ran
     (c.make_access-rest.ensures.reply p.store before state)

@@ -17,8 +17,10 @@ returns-clause-instance g c = λ tree replies instance.
     let run = c.access.new.machine.run in
     let t = after_instances ((pipeline_of tree input).behaviour old.token.iteration) replies in
     let here = subst (IsRunningIteration code cells tree input replies) (sym c.self.view_is) instance in
-    let before = subst (λ (x : FlatCode). IsUnderWay x served input t old.token.payload.machine.run old.running.trace.items old.running.next) (sym c.requires.code)
-    (subst (λ (n : ℕ). IsUnderWay code n input t old.token.payload.machine.run old.running.trace.items old.running.next) (sym c.requires.cells) here.under_way) in
+    let before = subst (λ (x : FlatCode). IsUnderWay x served input t old.token.payload.machine.run old.running.trace.items
+    old.running.next) (sym c.requires.code)
+    (subst (λ (n : ℕ). IsUnderWay code n input t old.token.payload.machine.run old.running.trace.items old.running.next)
+    (sym c.requires.cells) here.under_way) in
     let after = c.in_ok-access.ensures.goes_on t before in
     record {
       whole = record { code_of = here.whole.code_of; made = c.access.ensures.made code here.whole.made; served = here.whole.served };

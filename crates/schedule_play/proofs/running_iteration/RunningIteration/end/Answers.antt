@@ -20,7 +20,8 @@ name_next-requires-clause-performs g c =
     let inside = c.self.inside in
     let i = inside.token.iteration in
     let replies = replies_at book i in
-    let instance = subst (λ (h : RunningIterationState). IsRunningIteration g.B.PlayedCode.code g.B.PlayedCode.cells (tree_of book.program) book.input (replies_at book h.token.iteration) h) (sym c.self.view_is) c.requires.instance in
+    let instance = subst (λ (h : RunningIterationState). IsRunningIteration g.B.PlayedCode.code g.B.PlayedCode.cells
+    (tree_of book.program) book.input (replies_at book h.token.iteration) h) (sym c.self.view_is) c.requires.instance in
     let at : inside.running.next ≡ actions.End c.args.end = ap (λ (h : RunningIterationState). h.next) c.self.view_is ∙ c.requires.ends in
     let t = after_instances ((pipeline_in book).behaviour i) replies in
     let run = inside.token.payload.machine.run in
@@ -37,15 +38,18 @@ name_next-requires-clause-ready g c = λ names.
     let inside = c.self.inside in
     let i = inside.token.iteration in
     let replies = replies_at book i in
-    let instance = subst (λ (h : RunningIterationState). IsRunningIteration g.B.PlayedCode.code g.B.PlayedCode.cells (tree_of book.program) book.input (replies_at book h.token.iteration) h) (sym c.self.view_is) c.requires.instance in
+    let instance = subst (λ (h : RunningIterationState). IsRunningIteration g.B.PlayedCode.code g.B.PlayedCode.cells
+    (tree_of book.program) book.input (replies_at book h.token.iteration) h) (sym c.self.view_is) c.requires.instance in
     let at : inside.running.next ≡ actions.End c.args.end = ap (λ (h : RunningIterationState). h.next) c.self.view_is ∙ c.requires.ends in
     let machine = inside.token.payload.machine in
     let trace = inside.running.trace.items in
     let d = (pipeline_in book).behaviour i in
     let under_way = subst (IsUnderWay code cells book.input (after_instances d replies) machine.run trace) at instance.under_way in
     let ends = instance_ends code cells book.input (after_instances d replies) machine.run trace c.args.end under_way in
-    subst (λ (l : List Entry). IsAtInstance code cells (tree_of book.program) book.input machine i (replies ++ replies_of l ∷ [])) (sym c.from_vec.ensures)
+    subst (λ (l : List Entry). IsAtInstance code cells (tree_of book.program) book.input machine i (replies ++ replies_of l ∷ []))
+    (sym c.from_vec.ensures)
     (record {
       whole = instance.whole;
-      stands = subst (StandsFor code cells book.input machine.run) (sym (after_instances-push d replies (replies_of trace))) (ends.stands names);
+      stands = subst (StandsFor code cells book.input machine.run) (sym (after_instances-push d replies (replies_of trace)))
+          (ends.stands names);
     })

@@ -14,7 +14,8 @@ returns-clause-instance g c = λ tree replies at.
     let t = after_instances ((pipeline_of tree input).behaviour c.args.token.iteration) replies in
     let running = c.new-running.result in
     let run = c.new-running.new.machine.run in
-    let stands = subst (λ (x : FlatCode). StandsFor x c.args.cells.now.shard.cells input c.args.token.payload.machine.run t) (sym c.requires.code)
+    let stands = subst (λ (x : FlatCode). StandsFor x c.args.cells.now.shard.cells input c.args.token.payload.machine.run t)
+    (sym c.requires.code)
     (subst (λ (n : ℕ). StandsFor code n input c.args.token.payload.machine.run t) (sym c.requires.cells) at.stands) in
     let begun = c.new-running.ensures.begun t stands in
     let first = subst (λ (x : FlatCode). IsUnderWay x c.args.cells.now.shard.cells input t run [] running.next) c.requires.code begun in

@@ -27,7 +27,21 @@ returns-clause-schedule c = λ s h may.
     (changed ∙ ap (map (after_change (Named i n free))) c.deref_mut.ensures.value) in
     let last = c.is_last-last.ensures ∙ ap (λ (v : ScheduleState). i + 1 == v.begun) (sym c.self.view_is) in
     let continues = c.goes_on-self-inside.ensures ∙ ap (λ b. goes_on inside.continues b false) last in
-    subst (λ (b : Bool). IsScheduleOf (next_state s (events.Advance i kind n)) (record { alive = (with_items inside.alive c.change_each.new.alive).items; begun = inside.begun; continues = b; limit = inside.limit }))
+    subst (λ (b : Bool). IsScheduleOf (next_state s (events.Advance i kind n))
+    (record {
+      alive = (with_items inside.alive c.change_each.new.alive).items;
+      begun = inside.begun;
+      continues = b;
+      limit =
+          inside.limit;
+    }))
     (sym continues)
-    (subst (λ (l : List Alive). IsScheduleOf (next_state s (events.Advance i kind n)) (record { alive = l; begun = inside.begun; continues = goes_on inside.continues (i + 1 == inside.begun) false; limit = inside.limit }))
+    (subst (λ (l : List Alive). IsScheduleOf (next_state s (events.Advance i kind n))
+    (record {
+      alive = l;
+      begun = inside.begun;
+      continues = goes_on inside.continues (i + 1 == inside.begun) false;
+      limit =
+          inside.limit;
+    }))
     (sym items) (advanced s _ i kind n free (subst (IsScheduleOf s) (sym c.self.view_is) h) may enters))

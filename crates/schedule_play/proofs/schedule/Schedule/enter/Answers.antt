@@ -14,6 +14,8 @@ returns-clause-schedule c = λ s h may.
     let inside = c.self.inside in
     let i = c.args.iteration in
     let changed = c.change_each.ensures ∙ ap (map (after_change (Entered i))) c.deref_mut.ensures.value in
-    let items = rewritten (after_change (Entered i)) inside.alive.len inside.alive.items c.change_each.new.alive inside.alive.ok.0 changed in
-    subst (λ (l : List Alive). IsScheduleOf (next_state s (events.Enter i)) (record { alive = l; begun = inside.begun; continues = inside.continues; limit = inside.limit }))
+    let items = rewritten (after_change (Entered i)) inside.alive.len inside.alive.items c.change_each.new.alive inside.alive.ok.0 changed
+    in
+    subst (λ (l : List Alive). IsScheduleOf (next_state s (events.Enter i))
+    (record { alive = l; begun = inside.begun; continues = inside.continues; limit = inside.limit }))
     (sym items) (has_entered s _ i (subst (IsScheduleOf s) (sym c.self.view_is) h) may)

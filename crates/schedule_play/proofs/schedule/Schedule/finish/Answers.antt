@@ -24,8 +24,15 @@ returns-clause-schedule c = λ s h runs.
     let last = c.is_last-last.ensures ∙ ap (λ (v : ScheduleState). i + 1 == v.begun) (sym c.self.view_is) in
     let continues = c.goes_on-self-inside.ensures ∙ ap (λ b. goes_on inside.continues b c.closes.result) last
     ∙ ap (goes_on inside.continues (i + 1 == inside.begun)) c.closes.ensures in
-    subst (λ (b : Bool). IsScheduleOf (next_state s (events.Finish i e)) (record { alive = c.retain.new.self.items; begun = inside.begun; continues = b; limit = inside.limit }))
+    subst (λ (b : Bool). IsScheduleOf (next_state s (events.Finish i e))
+    (record { alive = c.retain.new.self.items; begun = inside.begun; continues = b; limit = inside.limit }))
     (sym continues)
     (subst (λ (l : List Alive). IsScheduleOf (next_state s (events.Finish i e))
-    (record { alive = l; begun = inside.begun; continues = goes_on inside.continues (i + 1 == inside.begun) (closes_at_once e); limit = inside.limit }))
+    (record {
+      alive = l;
+      begun = inside.begun;
+      continues = goes_on inside.continues (i + 1 == inside.begun) (closes_at_once e);
+      limit =
+          inside.limit;
+    }))
     (sym items) (finished s _ i e (subst (IsScheduleOf s) (sym c.self.view_is) h) runs))

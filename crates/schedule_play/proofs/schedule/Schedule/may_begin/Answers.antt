@@ -24,5 +24,6 @@ returns-else-len-self c = λ s h.
     let full = c.if-len-self.false in
     let within : inside.limit ≤ length inside.alive.items = omega (arith, long, full) in
     let less : nat_lt (length inside.alive.items) inside.limit ≡ false = grind arith in
-    ap (λ n. nat_lt n inside.limit) long ∙ less ∙ sym (ap (λ b. b && inside.continues) less) ∙ may_begin_is s _ (subst (IsScheduleOf s) (sym view) h)
+    ap (λ n. nat_lt n inside.limit) long ∙ less ∙ sym (ap (λ b. b && inside.continues) less)
+    ∙ may_begin_is s _ (subst (IsScheduleOf s) (sym view) h)
     ∙ ap (λ (v : ScheduleState). is_some (next_begin v.limit s)) view

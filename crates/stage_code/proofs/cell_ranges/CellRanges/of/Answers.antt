@@ -11,7 +11,8 @@ since_ok P (Err e) is h = cc (is)
 pub loop-cell-preserved : goal.loop-cell-preserved
 loop-cell-preserved c =
     let within : c.loop-cell.cell-index < length c.args.declared.now = omega arith in
-    half_more c.loop-cell.ranges c.insert.new.self c.loop-cell.next c.loop-cell.cell-index c.count_of-size.result c.args.declared.now c.cell-item.result
+    half_more c.loop-cell.ranges c.insert.new.self c.loop-cell.next c.loop-cell.cell-index c.count_of-size.result c.args.declared.now
+    c.cell-item.result
     c.as_bytes.result (record { first = record { 0 = c.loop-cell.next }; size = c.count_of-size.result }) c.loop-cell.invariant within
     c.cell-item.is c.as_bytes.ensures
     c.count_of-size.ensures refl (since_ok _ c.insert.result c.in_ok-map_err.ensures.variant c.insert.ensures.updates).0

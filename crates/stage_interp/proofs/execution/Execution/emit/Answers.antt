@@ -21,18 +21,21 @@ output-requires-clause-safe g c = let fits : SFits w64 c.args.v = search rules i
     (goes_to (state_of c.args.self.now) (c.args.self.now.place + 1) c.args.self.now.stack.items)
     (sym (simp to_z-of_z at c.is_full.ensures) ∙ c.if-is_full.false)
     ∙ sym (with_is (setting_for c.args.code.now (g.M.Memory.served c.args.memory.now) c.args.input.now c.args.self.now) 2 _
-    (cells_there (setting_for c.args.code.now (g.M.Memory.served c.args.memory.now) c.args.input.now c.args.self.now) 2 _ _ c.requires.safe)))
+    (cells_there (setting_for c.args.code.now (g.M.Memory.served c.args.memory.now) c.args.input.now c.args.self.now) 2 _ _
+    c.requires.safe)))
     (read_safe (setting_for c.args.code.now (g.M.Memory.served c.args.memory.now) c.args.input.now c.args.self.now) 2 1 _ _ c.in-Some.n
     c.requires.safe)))
 
 pub returns-in-None-clause-ran : goal.returns-in-None-clause-ran
 returns-in-None-clause-ran g c = let fits : SFits w64 c.args.v = search rules in
-    simp to_z-of_z (here (setting_for c.args.code.now (g.M.Memory.served c.args.memory.now) c.args.input.now c.args.self.now) _ _ _ _ _ _ _ refl
+    simp to_z-of_z (here (setting_for c.args.code.now (g.M.Memory.served c.args.memory.now) c.args.input.now c.args.self.now) _ _ _ _ _ _ _
+    refl
     refl c.in-None.ensures.none refl)
 
 pub returns-then-is_full-clause-ran : goal.returns-then-is_full-clause-ran
 returns-then-is_full-clause-ran g c = let fits2 : SFits w64 c.in-Some.n = search rules in
-    read_ran (setting_for c.args.code.now (g.M.Memory.served c.args.memory.now) c.args.input.now c.args.self.now) 2 1 _ _ c.in-Some.n _ _ _ _ _
+    read_ran (setting_for c.args.code.now (g.M.Memory.served c.args.memory.now) c.args.input.now c.args.self.now) 2 1 _ _ c.in-Some.n _ _ _
+    _ _
     c.requires.safe c.in-Some.ensures.some (here (setting_for c.args.code.now (g.M.Memory.served c.args.memory.now) c.args.input.now
     c.args.self.now) _ (Raise traps.OutputLimit) _ _ _ _ _ (emit_limit (natural c.args.code.now.limits.emits) c.in-Some.n c.args.v
     (goes_to (state_of c.args.self.now) (c.args.self.now.place + 1) c.args.self.now.stack.items)
@@ -40,12 +43,15 @@ returns-then-is_full-clause-ran g c = let fits2 : SFits w64 c.in-Some.n = search
 
 pub returns-else-is_full-clause-ran : goal.returns-else-is_full-clause-ran
 returns-else-is_full-clause-ran g c = let fits : SFits w64 c.args.v = search rules in let fits2 : SFits w64 c.in-Some.n = search rules in
-    read_ran (setting_for c.args.code.now (g.M.Memory.served c.args.memory.now) c.args.input.now c.args.self.now) 2 1 _ _ c.in-Some.n _ _ _ _ _
+    read_ran (setting_for c.args.code.now (g.M.Memory.served c.args.memory.now) c.args.input.now c.args.self.now) 2 1 _ _ c.in-Some.n _ _ _
+    _ _
     c.requires.safe c.in-Some.ensures.some (renamed (setting_for c.args.code.now (g.M.Memory.served c.args.memory.now) c.args.input.now
     c.args.self.now) _ _ _ _ _ _ _ (emit_more (natural c.args.code.now.limits.emits) c.in-Some.n c.args.v
     (goes_to (state_of c.args.self.now) (c.args.self.now.place + 1) c.args.self.now.stack.items)
     (sym (simp to_z-of_z at c.is_full.ensures) ∙ c.if-is_full.false)
     ∙ sym (with_is (setting_for c.args.code.now (g.M.Memory.served c.args.memory.now) c.args.input.now c.args.self.now) 2 _
-    (cells_there (setting_for c.args.code.now (g.M.Memory.served c.args.memory.now) c.args.input.now c.args.self.now) 2 _ _ c.requires.safe)))
-    (comes_over c.args.code.now c.args.input.now c.args.self.now _ (λ p. pending_of p (state_of c.args.self.now) (pendings.Output c.args.v)) _ _
+    (cells_there (setting_for c.args.code.now (g.M.Memory.served c.args.memory.now) c.args.input.now c.args.self.now) 2 _ _
+    c.requires.safe)))
+    (comes_over c.args.code.now c.args.input.now c.args.self.now _
+    (λ p. pending_of p (state_of c.args.self.now) (pendings.Output c.args.v)) _ _
     _ _ _ _ c.in-Some.ensures.serves (simp to_z-of_z at c.output.ensures.ran)))

@@ -12,12 +12,14 @@ push_number-requires-clause-possible g c = let fits : SFits w64 c.in-Some.v = se
     c.args.self.now) _ c.args.cell.0 _ _ c.in-Some.v c.requires.safe))
 
 pub returns-in-None-clause-ran : goal.returns-in-None-clause-ran
-returns-in-None-clause-ran g c = here (setting_for c.args.code.now (g.M.Memory.served c.args.memory.now) c.args.input.now c.args.self.now) _ _ _
+returns-in-None-clause-ran g c = here (setting_for c.args.code.now (g.M.Memory.served c.args.memory.now) c.args.input.now c.args.self.now)
+    _ _ _
     _ _ _ _ refl refl c.in-None.ensures.none refl
 
 pub returns-in-Some-clause-ran : goal.returns-in-Some-clause-ran
 returns-in-Some-clause-ran g c = let fits : SFits w64 c.in-Some.v = search rules in
-    read_ran (setting_for c.args.code.now (g.M.Memory.served c.args.memory.now) c.args.input.now c.args.self.now) _ c.args.cell.0 _ _ c.in-Some.v
+    read_ran (setting_for c.args.code.now (g.M.Memory.served c.args.memory.now) c.args.input.now c.args.self.now) _ c.args.cell.0 _ _
+    c.in-Some.v
     _ _ _ _ _ c.requires.safe c.in-Some.ensures.some (gave
     (setting_for c.args.code.now (g.M.Memory.served c.args.memory.now) c.args.input.now c.args.self.now) _ _ _ _ _ _
     (simp to_z-of_z at c.push_number.ensures.gives) c.push_number.ensures.keeps.left refl)

@@ -18,17 +18,20 @@ advance-requires-clause-safe g c = let fits : SFits w64 c.in-Some.v = search rul
     (ap (λ d. bind d (pushed (setting_for c.args.code.now (g.M.Memory.served c.args.memory.now) c.args.input.now c.args.self.now)
     (state_of c.args.self.now) c.args.self.now.stack.items)) (simp to_z-of_z at c.in-Ok.ensures)
     ∙ sym (with_is (setting_for c.args.code.now (g.M.Memory.served c.args.memory.now) c.args.input.now c.args.self.now) 2 _
-    (cells_there (setting_for c.args.code.now (g.M.Memory.served c.args.memory.now) c.args.input.now c.args.self.now) 2 _ _ c.requires.safe)))
+    (cells_there (setting_for c.args.code.now (g.M.Memory.served c.args.memory.now) c.args.input.now c.args.self.now) 2 _ _
+    c.requires.safe)))
     (read_safe (setting_for c.args.code.now (g.M.Memory.served c.args.memory.now) c.args.input.now c.args.self.now) 2 0 _ _ c.in-Some.v
     c.requires.safe)))
 
 pub returns-in-None-clause-ran : goal.returns-in-None-clause-ran
-returns-in-None-clause-ran g c = here (setting_for c.args.code.now (g.M.Memory.served c.args.memory.now) c.args.input.now c.args.self.now) _ _ _
+returns-in-None-clause-ran g c = here (setting_for c.args.code.now (g.M.Memory.served c.args.memory.now) c.args.input.now c.args.self.now)
+    _ _ _
     _ _ _ _ refl refl c.in-None.ensures.none refl
 
 pub returns-in-Err-clause-ran : goal.returns-in-Err-clause-ran
 returns-in-Err-clause-ran g c = let fv : SFits w64 c.in-Some.v = search rules in
-    read_ran (setting_for c.args.code.now (g.M.Memory.served c.args.memory.now) c.args.input.now c.args.self.now) 2 0 _ _ c.in-Some.v _ _ _ _ _
+    read_ran (setting_for c.args.code.now (g.M.Memory.served c.args.memory.now) c.args.input.now c.args.self.now) 2 0 _ _ c.in-Some.v _ _ _
+    _ _
     c.requires.safe c.in-Some.ensures.some (here (setting_for c.args.code.now (g.M.Memory.served c.args.memory.now) c.args.input.now
     c.args.self.now) _ (Raise c.in-Err.trap) _ _ _ _ _ (ap
     (λ d. bind d (pushed (setting_for c.args.code.now (g.M.Memory.served c.args.memory.now) c.args.input.now c.args.self.now)
@@ -36,12 +39,14 @@ returns-in-Err-clause-ran g c = let fv : SFits w64 c.in-Some.v = search rules in
 
 pub returns-in-Ok-clause-ran : goal.returns-in-Ok-clause-ran
 returns-in-Ok-clause-ran g c = let fv : SFits w64 c.in-Some.v = search rules in let fa : SFits w64 c.in-Ok.next = search rules in
-    let fb : SFits w64 c.in-Ok.n = search rules in read_ran (setting_for c.args.code.now (g.M.Memory.served c.args.memory.now) c.args.input.now
+    let fb : SFits w64 c.in-Ok.n = search rules in read_ran
+    (setting_for c.args.code.now (g.M.Memory.served c.args.memory.now) c.args.input.now
     c.args.self.now) 2 0 _ _ c.in-Some.v _ _ _ _ _ c.requires.safe c.in-Some.ensures.some
     (renamed (setting_for c.args.code.now (g.M.Memory.served c.args.memory.now) c.args.input.now c.args.self.now) _ _ _ _ _ _ _
     (ap (λ d. bind d (pushed (setting_for c.args.code.now (g.M.Memory.served c.args.memory.now) c.args.input.now c.args.self.now)
     (state_of c.args.self.now) c.args.self.now.stack.items)) (simp to_z-of_z at c.in-Ok.ensures)
     ∙ sym (with_is (setting_for c.args.code.now (g.M.Memory.served c.args.memory.now) c.args.input.now c.args.self.now) 2 _
-    (cells_there (setting_for c.args.code.now (g.M.Memory.served c.args.memory.now) c.args.input.now c.args.self.now) 2 _ _ c.requires.safe)))
+    (cells_there (setting_for c.args.code.now (g.M.Memory.served c.args.memory.now) c.args.input.now c.args.self.now) 2 _ _
+    c.requires.safe)))
     (comes_over c.args.code.now c.args.input.now c.args.self.now _ (λ p. pending_of p (state_of c.args.self.now)
     (pendings.Advance c.in-Ok.next c.in-Ok.n)) _ _ _ _ _ _ c.in-Some.ensures.serves (simp to_z-of_z at c.advance.ensures.ran)))

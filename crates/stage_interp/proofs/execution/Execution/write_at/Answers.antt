@@ -21,7 +21,8 @@ element-requires g c = let fi : SFits w64 c.pop-i.result = search rules in
 
 pub returns-in-Err-clause-ran : goal.returns-in-Err-clause-ran
 returns-in-Err-clause-ran g c = let fi : SFits w64 c.pop-i.result = search rules in
-    here (setting_for c.args.code.now (g.M.Memory.served c.args.memory.now) c.args.input.now c.args.self.now) _ (Raise c.in-Err.trap) _ _ _ _ _
+    here (setting_for c.args.code.now (g.M.Memory.served c.args.memory.now) c.args.input.now c.args.self.now) _
+    (Raise c.in-Err.trap) _ _ _ _ _
     (two_is c.args.self.now.stack.items c.pop-v.new.self.items c.pop-v.result c.pop-i.result c.pop-i.new.self.items
     (λ (i v : ℤ) (rest : List ℤ). bind (element_in c.args.first.0 c.args.size i)
     (write_effect (setting_for c.args.code.now (g.M.Memory.served c.args.memory.now) c.args.input.now c.args.self.now)

@@ -26,5 +26,6 @@ returns-clause-ran g c =
     let is : c.self.inside.execution ≡ Some c.in-Some.taken = (let a = c.in-Some.is in let b = c.take.ensures.value in cc (a, b)) in
     let same : run_of c.in-Some.taken ≡ c.args.self.now.run = sym (ap run_in is) ∙ ap (λ (m : MachineState). m.run) c.self.view_is in
     subst (λ r. (t : Behaviour) → StandsFor code cells input r t
-    → RanInstance code cells input t (g.M.Memory.made c.args.memory.now) (g.M.Memory.made c.run_stage-end.new.memory) run c.run_stage-end.result) same
+    → RanInstance code cells input t (g.M.Memory.made c.args.memory.now) (g.M.Memory.made c.run_stage-end.new.memory) run
+    c.run_stage-end.result) same
     (ran_stage code cells input _ _ (run_of c.in-Some.taken) run c.run_stage-end.result c.run_stage-end.ensures.ran)

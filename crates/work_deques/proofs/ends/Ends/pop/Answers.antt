@@ -19,7 +19,8 @@ pub returns-clause-deques : goal.returns-clause-deques
 returns-clause-deques g c = record {
   own = c.pop_as.ensures.same.0.0;
   fronts = refl;
-  own_parts = either_option c.pop_as.result _ _ c.pop_as.ensures.rule ((worker_view c.pop_as.new.self).parts ≡ (own_tally c.args.self.now).parts)
+  own_parts = either_option c.pop_as.result _ _ c.pop_as.ensures.rule
+      ((worker_view c.pop_as.new.self).parts ≡ (own_tally c.args.self.now).parts)
       (λ h. ap (λ (v : Tally). v.parts) h.0) (λ _ h. ap (λ (v : Tally). v.parts) h.1);
   front_parts = refl;
 }

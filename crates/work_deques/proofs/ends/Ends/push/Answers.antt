@@ -13,7 +13,8 @@ pub returns-clause-deques : goal.returns-clause-deques
 returns-clause-deques g c = record {
   own = c.push_as.ensures.same.0;
   fronts = refl;
-  own_parts = either_result c.push_as.result _ _ c.push_as.ensures.rule ((worker_view c.push_as.new.self).parts ≡ (own_tally c.args.self.now).parts)
+  own_parts = either_result c.push_as.result _ _ c.push_as.ensures.rule
+      ((worker_view c.push_as.new.self).parts ≡ (own_tally c.args.self.now).parts)
       (λ _ h. ap (λ (v : Tally). v.parts) h.0) (λ _ h. ap (λ (v : Tally). v.parts) h.1);
   front_parts = refl;
 }
