@@ -558,16 +558,28 @@ impl<M: Payload<L>, L: ListWriter + Drop> Book<M, L> {
         last_has_ended_first(self.rows.as_slice())
     }
 
-    // Drops the iterations that have ended from the list of alive ones, if the first one has, or if the
-    // list is long. So the list is not gone through for each call, and never has more than twice as many
-    // iterations as may be alive, and one.
-    fn drop_ended(&mut self)
+    // Drops the iterations that have ended from the list of alive ones.
+    fn retain_alive(&mut self)
         ensures { self.new ≡ self.old }
     {
         let rows = self.rows.as_slice();
+        self.alive.retain(|iteration| is_alive(rows, *iteration));
+    }
+
+    // Returns whether the first listed iteration has ended, or more are listed than twice as many as may be
+    // alive.
+    fn lists_ended(&self) -> bool {
         let most = 2 * self.throttle as usize;
-        if self.alive.len() > most || !begins_alive(rows, self.alive.as_slice()) {
-            self.alive.retain(|iteration| is_alive(rows, *iteration));
+        self.alive.len() > most || !begins_alive(self.rows.as_slice(), self.alive.as_slice())
+    }
+
+    // Drops the iterations that have ended from the list of alive ones, if the first has, or if the list is
+    // long. So not every call goes through the whole list.
+    fn drop_ended(&mut self)
+        ensures { self.new ≡ self.old }
+    {
+        if self.lists_ended() {
+            self.retain_alive();
         }
     }
 
