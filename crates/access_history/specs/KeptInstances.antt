@@ -6,7 +6,6 @@ use Rattle.access_history.specs.declared.history.Verdict.{Verdict}
 use Rattle.access_history.specs.declared.history.Verdict.TheVariants.{Clean, Race}
 use Rattle.access_history.specs.declared.history.Who.{Who}
 use Rattle.pipe_model.specs.declared.access.AccessKind.{AccessKind}
-use Rattle.pipe_model.specs.declared.marks.Marks.{Marks}
 use Rattle.pipe_model.specs.declared.node.NodeId.{NodeId}
 use Rattle.pipe_model.specs.Orders.AccessHistory.{AccessHistory, FoundRace}
 use Rattle.pipe_model.specs.Orders.GrowingLists.{AreIn}
@@ -37,10 +36,6 @@ pub record KeepsAmong (h : History) (x : Who) (h' : History) : Type 0 where
   pub writer : IfSome h'.writer (IsEither h.writer x)
   pub rightmost : IfSome h'.rightmost (IsEither h.rightmost x)
   pub downmost : IfSome h'.downmost (IsEither h.downmost x)
-
--- the kept instances have these marks
-abbrev pub KeptHaveMarks : (NodeId → Marks) → History → Type 0
-KeptHaveMarks marks h = AllKept (λ w. w.marks ≡ marks w.node) h
 
 -- y is before x in each order exactly if its element is before that of x in the list
 pub record AgreeOn (down_first right_first : List ℕ) (down right : NodeId → ℕ) (x y : Who) : Type 0 where

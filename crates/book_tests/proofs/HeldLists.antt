@@ -1,19 +1,14 @@
 -- Lists of tokens that are out.
-use Rattle.std.proofs.Common.{◌≡◌, ◌≢◌, ℕ, zero, suc, List, [], ◌∷◌, ◌++◌, ◌<◌, ◌≤◌, ◌⊎◌, refl, sym, subst, arith, length, Option, Some}
-use Rattle.std.proofs.Common.{None, set, inl, inr}
+use Rattle.std.proofs.Common.{◌≡◌, ◌≢◌, ℕ, zero, suc, List, [], ◌∷◌, ◌++◌, ◌⊎◌, refl, sym, subst, arith, Option, Some}
+use Rattle.std.proofs.Common.{None, inl, inr}
 use Rattle.std.proofs.lemmas.Bool.{cases_eq}
-use Rattle.std.proofs.lemmas.List.{get_or-set_same, get_or-set_other, get_or_past}
 use Rattle.pipe_model.specs.Runs.ControlRun.{ControlRun}
 use Rattle.pipe_model.specs.declared.event.Event.{Event}
 use Rattle.pipe_frame.specs.declared.token.FrameToken.{FrameToken}
 use Rattle.frame_book.specs.BookStates.{BookState, events_of, state_of}
 use Rattle.book_tests.specs.declared.plan.Plan.{Plan}
-use Rattle.book_tests.specs.HeldTokens.{AreHeld, AreHeldBut, IsGiven, IsHeldAt, token_of}
+use Rattle.book_tests.specs.HeldTokens.{AreHeld, AreHeldBut, IsHeldAt, token_of}
 use Rattle.book_tests.proofs.StayingTokens.{Changes, still_given}
-
--- no token is held
-pub none_held : (v : BookState) (tokens : List (Option (FrameToken Plan))) → ((i : ℕ) → token_of tokens i ≡ None) → AreHeld v tokens
-none_held v tokens none i = rw (none i) tt
 
 -- one entry more, without a token
 pub none_more : (tokens : List (Option (FrameToken Plan))) → ((i : ℕ) → token_of tokens i ≡ None) → (i : ℕ)
@@ -22,24 +17,6 @@ none_more [] none zero = refl
 none_more [] none (suc i) = refl
 none_more (t ∷ ts) none zero = none zero
 none_more (t ∷ ts) none (suc i) = none_more ts (λ j. none (suc j)) i
-
--- one token more
-pub held_with : (v : BookState) (tokens : List (Option (FrameToken Plan))) (t : FrameToken Plan) → t.iteration < length tokens → IsGiven v t
-    → AreHeldBut t.iteration v tokens → AreHeld v (set tokens t.iteration (Some t))
-held_with v tokens t within given others i = by_index (cases_eq i t.iteration)
-  where
-    by_index : (i ≡ t.iteration) ⊎ (i ≢ t.iteration) → IsHeldAt v i (token_of (set tokens t.iteration (Some t)) i)
-    by_index (inl same) = rw (same, get_or-set_same tokens t.iteration (Some t) None within) (refl, given)
-    by_index (inr other) = rw (get_or-set_other tokens t.iteration i (Some t) None other) (others i other)
-
--- a token that there is no room for
-pub held_past : (v : BookState) (tokens : List (Option (FrameToken Plan))) (k : ℕ) → length tokens ≤ k → AreHeldBut k v tokens
-    → AreHeld v tokens
-held_past v tokens k past others i = by_index (cases_eq i k)
-  where
-    by_index : (i ≡ k) ⊎ (i ≢ k) → IsHeldAt v i (token_of tokens i)
-    by_index (inl same) = rw (same, get_or_past tokens k None past) tt
-    by_index (inr other) = others i other
 
 -- the tokens after a change of the book
 held_one : (i j : ℕ) (v w : BookState) (events : List Event) (o : Option (FrameToken Plan)) → Changes i v w events

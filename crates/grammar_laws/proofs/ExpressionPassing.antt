@@ -1,5 +1,5 @@
 -- The machine of expressions passes each expression that is read.
-use Rattle.std.proofs.Common.{◌≡◌, ℕ, suc, ◌<◌, ◌≤◌, List, [], ◌∷◌, refl, ◌∙◌, arith, subst, true, false, ◌==◌}
+use Rattle.std.proofs.Common.{◌≡◌, ℕ, suc, ◌<◌, ◌≤◌, List, [], ◌∷◌, refl, ◌∙◌, arith, subst, true, false}
 use Rattle.pipe_model.specs.declared.symbol.Symbol.{Symbol}
 use Rattle.pipe_model.specs.declared.symbol.Symbol.TheVariants as symbols
 use Rattle.pipe_model.specs.Language.SyntaxTree.{Expression}
@@ -58,10 +58,6 @@ mutual
   passes_extension (Ends ts h) wants l = refl
   passes_extension (Joins {level} {ts = ts} {mid = mid} code h r g) wants l =
       tail_joins code ts wants (is_op code level h l) ∙ (passes_at r).chain (omega (arith, l)) wants ∙ passes_extension g wants l
-
-pub passes_operand : {ts rest : List Symbol} {e : Expression} → Reads operand_level ts e rest → (wants : List Want)
-    → ending ts (Operand ∷ wants) ≡ ending rest wants
-passes_operand r = (passes_at r).operand refl
 
 -- an expression of a level; more operators may follow
 pub passes : (level : ℕ) {ts rest : List Symbol} {e : Expression} → Reads level ts e rest → 1 ≤ level → (wants : List Want)

@@ -1,6 +1,5 @@
 -- Stage instances at their end.
 use Rattle.std.proofs.Common.{◌≡◌, ◌∙◌, ap, sym, subst, refl, ℕ, ℤ, List, [], ◌∷◌, ◌++◌, map, Bool, true, Some, append-nil}
-use Rattle.std.specs.Prelude.{◌≢◌}
 use Rattle.pipe_frame.specs.Replies.{accessed, after_instance, after_instances, replies_of}
 use Rattle.pipe_model.specs.declared.access.Access.{Access}
 use Rattle.pipe_model.specs.declared.column.ColumnEnd.{ColumnEnd}
@@ -13,9 +12,6 @@ use Rattle.pipe_model.specs.declared.ticket.Entry.{Entry}
 use Rattle.pipe_model.specs.Language.Interaction.{reply_of}
 use Rattle.pipe_model.specs.Pipelines.Behaviour.{Accessed, Staged, Ended, Behaviour, Reading, Writing, Staging, Ending, Offers, Performs}
 use Rattle.pipe_model.specs.Pipelines.Behaviour.{behaviour_after_all, read_access, write_access}
-use Rattle.pipe_model.specs.Pipelines.Pipeline.{Pipeline}
-use Rattle.pipe_model.specs.Runs.NextEvents.{event_of_behaviour}
-use Rattle.pipe_model.specs.Runs.StageEnds.{stage_end_events}
 use Rattle.run_laws.proofs.Iterations.PerformedActions.{performs_push}
 use Rattle.stage_code.specs.FlatCode.{FlatCode}
 use Rattle.stage_interp.specs.Executions.{StopsOnly}
@@ -79,17 +75,6 @@ module _ (code : FlatCode) (cells : ℕ) (input : List ℤ) (t : Behaviour) (run
     stands =
         λ names. elim names [ ];
   }
-
--- the end of an instance that was not stopped is the next event of what is left
-pub end_event : (code : FlatCode) (cells : ℕ) (input : List ℤ) (run : RunState) (d : Behaviour) (end : StageEnd) → end ≢ stage_ends.Stopped
-    → EndsAs code cells input end run d → (p : Pipeline) (before : List Access) (i : ℕ) → stage_end_events i end ≡ event_of_behaviour p
-    before i d ∷ []
-end_event code cells input run d (stage_ends.Wait n) going e p before i = ap (λ b. event_of_behaviour p before i b ∷ []) (sym e.1)
-end_event code cells input run d (stage_ends.Continue n) going e p before i = ap (λ b. event_of_behaviour p before i b ∷ []) (sym e.1)
-end_event code cells input run d stage_ends.End going e p before i = ap (λ b. event_of_behaviour p before i b ∷ []) (sym e)
-end_event code cells input run d stage_ends.Closed going e p before i = ap (λ b. event_of_behaviour p before i b ∷ []) (sym e)
-end_event code cells input run d (stage_ends.Trap w) going e p before i = ap (λ b. event_of_behaviour p before i b ∷ []) (sym e)
-end_event code cells input run d stage_ends.Stopped going e p before i = absurd (going refl)
 
 -- a run over a memory without accesses, which has the accesses of the trace afterwards
 pub has_ended : (code : FlatCode) (cells : ℕ) (input : List ℤ) (t : Behaviour) (run : RunState) (trace : List Entry) (end : StageEnd)

@@ -35,10 +35,6 @@ index_of (z ∷ zs) x h = elim (cases_eq z x) [
       (suc later.0, (let l = later.1 in omega (arith, l)), later.2))
 ]
 
-first_at : (xs : List ℕ) → 0 < length xs → first_of xs ≡ get_or xs 0 0
-first_at [] l = absurd (omega (arith, l))
-first_at (x ∷ xs) l = refl
-
 -- ---- labels that rise
 
 -- labels at equal distances, the first of which is `base`
@@ -136,12 +132,6 @@ range_element links h range s k l =
     let found = within_has (label_of links) range.low (range.low + 2 ^ range.bits) (elements links) (get_or (elements_of links range) k 0)
     (has_at (elements_of links range) k 0 (omega (arith, l, count))) in
     h.only (get_or (elements_of links range) k 0) found.there
-
-pub range_first_element : (links : Links) (range : LabelRange) → IsSparseRange links range → 0 < range.count
-    → range.first ≡ slice_index (elements_of links range) 0
-range_first_element links range s l =
-    let count = s.count in
-    s.first ∙ first_at (elements_of links range) (omega (arith, l, count))
 
 pub range_next : (links : Links) → AreLabelled links → (range : LabelRange) → IsSparseRange links range → (k : ℕ) → k + 1 < range.count
     → slice_index links.next.items (slice_index (elements_of links range) k) ≡ slice_index (elements_of links range) (k + 1)

@@ -28,10 +28,6 @@ at_row f g row e h = rw (← h.2) (at_place f g OPS.rows e h.0 row h.1)
 pub row_symbol : (row : OpRow) → Contains OPS.rows row → punctuation_symbol (text_of row) ≡ Some (symbols.Operator row.code)
 row_symbol row h = at_row (λ row. punctuation_symbol (text_of row)) (λ row. Some (symbols.Operator row.code)) row refl h
 
--- the symbol has `length` bytes
-pub row_length : (row : OpRow) → Contains OPS.rows row → length (text_of row) ≡ row.length
-row_length row h = at_row (λ row. length (text_of row)) (λ row. row.length) row refl h
-
 -- a row has this text and this code
 pub record IsOperator (text : List ℕ) (code : ℕ) : Type 0 where
   pub row : OpRow

@@ -2,7 +2,7 @@
 use Rattle.std.proofs.Common.{◌≡◌, ◌∙◌, refl, sym, ap, subst, ℕ, ℤ, zero, suc, ◌+◌, ◌<◌, ◌≤◌, List, [], ◌∷◌, ◌++◌, length, map, get_or}
 use Rattle.std.proofs.Common.{slice_index, slice_set, take, drop, true, false, Bool, arith, append-nil, append_assoc, inl, inr, Some, cond}
 use Rattle.std.proofs.lemmas.Bool.{cases_eq, cases_lt}
-use Rattle.std.proofs.lemmas.List.{length-map, length_push, length-append, take_all, take_more, take-append-drop, get_or_append_left}
+use Rattle.std.proofs.lemmas.List.{length-map, length_push, length-append, take_more, take-append-drop, get_or_append_left}
 use Rattle.std.proofs.lemmas.List.{get_or_push, get_or_past, get_or-set_same, get_or-set_other, length-set}
 use Rattle.pipe_model.specs.declared.event.Event.{Event}
 use Rattle.pipe_model.specs.declared.event.Event.TheVariants.{Begin, Advance, Enter, Finish, Stop, Access}
@@ -212,7 +212,3 @@ counted_after counts (Access i a) m few k = let f = few k in omega (arith, f)
 counted_after counts (Advance i j n) m few k = let f = few k in omega (arith, f)
 counted_after counts (Finish i e) m few k = let f = few k in omega (arith, f)
 counted_after counts Stop m few k = let f = few k in omega (arith, f)
-
--- all events
-pub all_events : (events : List Event) (n : ℕ) → length events ≤ n → events_before events n ≡ without_accesses events
-all_events events n l = ap without_accesses (take_all n events l)

@@ -65,11 +65,6 @@ pub record CanReplay (columns : List (List Node)) (starts : List NodeId) (number
 
 -- ---- parents
 
--- the instance above instance k, from the row of the column
-abbrev pub above_in : List StartedNode → ℕ → Option StartedNode
-above_in row zero = None
-above_in row (suc k) = Some (node_in row k)
-
 -- the left parent of an instance below a head, from its kind, the joined index of the instance above, and the last index of the
 -- left column whose number is at most its own
 abbrev pub parent_by : Kind → ℕ → Option ℕ → Option ℕ

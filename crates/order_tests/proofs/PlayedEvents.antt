@@ -2,7 +2,7 @@
 use Rattle.std.proofs.Common.{◌≡◌, ◌≢◌, ◌∙◌, refl, pos, sym, ap, ap₂, subst, ℕ, ℤ, zero, suc, ◌-◌, ◌<◌, ◌≤◌, ◌<ℤ◌, List, [], ◌∷◌, ◌++◌}
 use Rattle.std.proofs.Common.{length, map, get_or, set, arith, false, cond, Some}
 use Rattle.std.proofs.lemmas.List.{get_or-map, get_or_default, length-map, length_push, length-set, map-append}
-use Rattle.order_2d.specs.LogStarts.{IsOwnLog, nodes_of_columns}
+use Rattle.order_2d.specs.LogStarts.{nodes_of_columns}
 use Rattle.order_2d.proofs.EventsSoFar.{without-append}
 use Rattle.order_tests.specs.Plays.{IsPlayed, statuses_of}
 use Rattle.pipe_model.specs.declared.column.Column.{Column}
@@ -271,10 +271,3 @@ nothing_played limit events columns before none no_columns no_statuses =
       same_length =
           refl;
     })))
-
-pub is_own_log : {limit : ℕ} {events : List Event} {columns : List Column} {before : List Status} → IsPlayed limit events columns before
-    → IsOwnLog (record { columns = columns; events = events })
-is_own_log {limit} {events} h = record {
-  control = record { limit = limit; run = subst (λ es. ControlRun limit es (control_after events)) (sym h.no_accesses) h.run };
-  columns = h.columns_are;
-}

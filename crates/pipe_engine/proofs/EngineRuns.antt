@@ -1,29 +1,24 @@
 -- Finished runs of programs, from their ends.
-use Rattle.std.proofs.Common.{◌≡◌, refl, sym, ◌∙◌, subst, ℕ, ℤ, List, [], All, true, false, Ok, Err, Result}
+use Rattle.std.proofs.Common.{◌≡◌, refl, ℕ, ℤ, List, [], true, Ok, Err, Result}
 use Rattle.std.specs.Prelude.{is_some}
 use Rattle.std.specs.Result.{IfOk}
-use Rattle.std.proofs.lemmas.Bool.{false≢true}
-use Rattle.cell_store.specs.ShardState.{ShardState}
 use Rattle.pipe_engine.specs.declared.ending.LoopEnd.{LoopEnd}
 use Rattle.pipe_engine.specs.EngineRuns.{IsEngineRun}
 use Rattle.pipe_engine.specs.LoopEnds.{IsLoopEnd}
-use Rattle.pipe_model.specs.declared.event.Event.{Event}
 use Rattle.pipe_model.specs.declared.event.RunLog.{RunLog}
 use Rattle.pipe_model.specs.Language.CheckingRules.{BreaksNoRule}
 use Rattle.pipe_model.specs.Language.ProgramsOfTrees.{pipeline_after_init, whole_of}
 use Rattle.pipe_model.specs.Language.SyntaxTree.{SyntaxTree}
-use Rattle.pipe_model.specs.Pipelines.WholePrograms.{WholeProgram, init_trap, loop_after_init}
-use Rattle.pipe_model.specs.Runs.Run.{EmptyRun, Run}
+use Rattle.pipe_model.specs.Pipelines.WholePrograms.{init_trap}
+use Rattle.pipe_model.specs.Runs.Run.{EmptyRun}
 use Rattle.pipe_model.specs.Runs.RunLogs.{state_after}
-use Rattle.pipe_model.specs.Runs.State.{State, initial_state}
-use Rattle.pipe_model.specs.Runs.WholeProgramRuns.{IsFinishedProgramRun, NoLoop, OfLoop, ProgramRun, WithoutLoop}
+use Rattle.pipe_model.specs.Runs.State.{initial_state}
+use Rattle.pipe_model.specs.Runs.WholeProgramRuns.{IsFinishedProgramRun, NoLoop, WithoutLoop}
 use Rattle.program_ends.specs.declared.ends.ProgramResults.{ProgramResults}
 use Rattle.program_ends.specs.ProgramEnds.{HasResults, reaches_final}
 use Rattle.program_ends.proofs.ElidedRuns.{finished_runs_agree_with_elisions}
-use Rattle.program_laws.specs.DeclaredCells.{IsInside}
 use Rattle.race_detection.proofs.RunReports.{runs_are_detected}
 use Rattle.run_laws.proofs.RunStates.IterationCounts.{runs_keep_rules}
-use Rattle.serial_elision.specs.PartRuns.{Serves}
 
 -- what follows from what holds of an `Ok`
 pub map_ok : {T E : Type 0} {P Q : T → Type 0} → (r : Result T E) → IfOk r P → ((x : T) → P x → Q x) → IfOk r Q
@@ -63,19 +58,3 @@ ran_to_end tree input limit end r accepted h results = record {
   trap = results.trap;
   elision = finished_runs_agree_with_elisions tree input limit end.run_log end.reports r accepted h.run h.reports.right results;
 }
-
-loop_of : (w : WholeProgram) (limit : ℕ) (events : List Event) (s : State) → is_some (init_trap w) ≡ false → ProgramRun w limit events s
-    → Run (loop_after_init w) limit events s
-loop_of w limit events s none (NoLoop some) = absurd (false≢true (sym none ∙ some))
-loop_of w limit events s none (OfLoop no_trap run) = run
-
--- the run of the loop
-pub loop_run : (tree : SyntaxTree) (input : List ℤ) (limit : ℕ) (end : LoopEnd) → is_some (init_trap (whole_of tree input)) ≡ false
-    → IsLoopEnd tree input limit end → Run (pipeline_after_init tree input) limit end.run_log.events (state_after end.run_log.events)
-loop_run tree input limit end none h = loop_of (whole_of tree input) limit end.run_log.events
-    (state_after end.run_log.events) none h.run.run
-
--- the cells that serve a program have room for the accesses of the run
-pub inside_cells : (tree : SyntaxTree) (input : List ℤ) (limit : ℕ) (end : LoopEnd) (cells : ShardState) → IsLoopEnd tree input limit end
-    → Serves tree cells → All (IsInside cells.shard.cells) end.run_log.events
-inside_cells tree input limit end cells h serves = subst (λ n. All (IsInside n) end.run_log.events) (sym serves.count) h.inside

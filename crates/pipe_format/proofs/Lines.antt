@@ -1,11 +1,11 @@
 -- The text of a statement, part by part.
-use Rattle.std.proofs.Common.{◌≡◌, ◌∙◌, ap, sym, ℕ, ◌+◌, ◌<◌, List, [], ◌∷◌, ◌++◌, append_assoc, length, replicate, drop, get_or, codes}
-use Rattle.std.proofs.Common.{true, false, ◌==◌, Result, Ok, Err, OnOk, arith}
+use Rattle.std.proofs.Common.{◌≡◌, ℕ, ◌+◌, ◌<◌, List, [], ◌∷◌, ◌++◌, append_assoc, length, replicate, codes}
+use Rattle.std.proofs.Common.{true, false, Result, Ok, Err, OnOk, arith}
 use Rattle.std.proofs.lemmas.Bool.Decides.{nat_tests}
-use Rattle.std.proofs.lemmas.List.{append-nil, at_drop_more}
+use Rattle.std.proofs.lemmas.List.{append-nil}
 use Rattle.pipe_model.specs.declared.tree.Stmt.{Stmt}
 use Rattle.pipe_model.specs.Language.CanonicalText.{else_text, expression_text, line, statement_text, statements_text}
-use Rattle.pipe_model.specs.Language.SyntaxTree.{Expression, If, While, Statements, statement_of, statements_of}
+use Rattle.pipe_model.specs.Language.SyntaxTree.{Expression, If, While, Statements, statements_of}
 
 -- a consequence of a fact about the value of `Ok` holds of it too
 pub on_ok : {A E P Q : Type 0} (r : Result A E) → (P → Q) → OnOk r P → OnOk r Q
@@ -39,14 +39,6 @@ pub no_else : (n : ℕ) (other : List Stmt) (filled : List ℕ) → length other
     → filled ≡ filled ++ else_text n (statements_of other) (statements_text (n + 2) (statements_of other))
 no_else n [] filled h = simp append-nil
 no_else n (s ∷ ss) filled h = absurd (omega arith)
-
--- the text of the rest of the statements at index i is the text of statement i, and then the text of those after it
-pub statements_step : (n : ℕ) (ss : List Stmt) (i : ℕ) (s : Stmt) → i < length ss → s ≡ get_or ss i s
-    → statements_text n (statements_of (drop i ss)) ≡ statement_text n (statement_of s) ++ statements_text n
-    (statements_of (drop (i + 1) ss))
-statements_step n ss i s h e =
-    at_drop_more (λ more. statements_text n (statements_of more)) ss i s h
-    ∙ ap (λ (m : Stmt). statement_text n (statement_of m) ++ statements_text n (statements_of (drop (i + 1) ss))) (sym e)
 
 -- a list that is not found empty has an element
 pub has_some : (xs : List Stmt) (n : ℕ) → n ≡ length xs → false ≡ (n == 0) → 0 < length xs

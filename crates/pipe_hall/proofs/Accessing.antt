@@ -5,7 +5,7 @@ use Rattle.std.specs.Result.{is_err}
 use Rattle.std.proofs.lemmas.List.{length-append}
 use Rattle.pipe_model.specs.declared.access.Access.{Access}
 use Rattle.pipe_model.specs.declared.access.AccessKind.{AccessKind}
-use Rattle.pipe_model.specs.declared.access.AccessKind.TheVariants.{Read, Write}
+use Rattle.pipe_model.specs.declared.access.AccessKind.TheVariants.{Write}
 use Rattle.pipe_model.specs.declared.marks.Marks.{Marks}
 use Rattle.pipe_model.specs.Orders.GrowingLists.{AreIn, KeepsOrder}
 use Rattle.pipe_model.specs.Orders.OrderList.{IsLog, StandsBefore, list_of_log}
@@ -45,10 +45,6 @@ use Rattle.order_2d.specs.SeenOrders.{AreOfLists}
 -- a write
 pub as_write : (a : Access) → a.kind ≡ Write → a ≡ write_access a.cell.0 a.value
 as_write a e = ap (λ (k : AccessKind). let b : Access = record { cell = a.cell; kind = k; value = a.value } in b) e
-
-pub is_read : (k : AccessKind) → (k ≡ Write → ⊥) → k ≡ Read
-is_read Read h = refl
-is_read Write h = absurd (h refl)
 
 -- a part of a log
 log_part : (e : ℕ) (log more : List ℕ) → IsLog e (log ++ more) → IsLog e log

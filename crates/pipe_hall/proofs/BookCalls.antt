@@ -1,5 +1,5 @@
 -- The calls of the book that start an instance, change nothing, or stop the run.
-use Rattle.std.proofs.Common.{◌≡◌, ◌≢◌, ℕ, zero, suc, ◌+◌, ◌<◌, ◌≤◌, ◌==◌, ◌&&◌, max, List, [], ◌∷◌, ◌++◌, map, length, get_or, set, refl}
+use Rattle.std.proofs.Common.{◌≡◌, ◌≢◌, ℕ, zero, suc, ◌+◌, ◌<◌, ◌≤◌, ◌&&◌, max, List, [], ◌∷◌, ◌++◌, map, length, get_or, set, refl}
 use Rattle.std.proofs.Common.{sym, ap, ap₂, ◌∙◌, subst, arith, cond, ne_eqb, Bool, true, false, Option, Some, None, append-nil}
 use Rattle.std.proofs.lemmas.List.{length-append, map-append, same_from_push, length_push, get_or_push, length-set, length-map}
 use mathlib.Core.Logic.{dite}
@@ -328,15 +328,6 @@ timely_stays b c added i k log trace ends h =
           (q.0, subst (λ l. start_ticket_of l i k ≡ Some q.0) (sym log) (start_stays b.log added i k q.0 q.1), q.2));
       to_end = λ x end m e. h.to_end x end (subst (λ l. Among x l) same m) (ends end e);
     }
-
-started_stays : (b c : BookState) (added : List BookEntry) (i k now : ℕ) → c.log ≡ b.log ++ added → StartedBy b.log i k now
-    → StartedBy c.log i k now
-started_stays b c added i k now log h = record {
-  ticket = h.ticket;
-  is = subst (λ l. start_ticket_of l i k ≡ Some h.ticket) (sym log)
-      (start_stays b.log added i k h.ticket h.is);
-  before = h.before;
-}
 
 -- the events of a log with more
 pub events_stamped : (log : List BookEntry) (now : ℕ) (es : List Event) → events_of (with_events log now es) ≡ events_of log ++ es

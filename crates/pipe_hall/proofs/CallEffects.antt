@@ -1,5 +1,5 @@
 -- A call on the book keeps what is known of the book, of the seats and of the shards.
-use Rattle.std.proofs.Common.{◌≡◌, ◌≢◌, ℕ, zero, suc, ◌+◌, ◌*◌, ◌≤◌, ◌==◌, List, [], ◌∷◌, ◌++◌, map, length, get_or, refl, sym, ap, ◌∙◌}
+use Rattle.std.proofs.Common.{◌≡◌, ◌≢◌, ℕ, zero, suc, ◌+◌, ◌*◌, ◌≤◌, List, [], ◌∷◌, ◌++◌, map, length, get_or, refl, sym, ap, ◌∙◌}
 use Rattle.std.proofs.Common.{subst, arith, cond, Option, Some, None, IfSome}
 use Rattle.std.proofs.lemmas.List.{length-append}
 use mathlib.Core.Logic.{dite}
@@ -41,9 +41,6 @@ ticket_stays (x ∷ xs) ys (suc n) t e = ticket_stays xs ys n t e
 pub start_stays : (log added : List BookEntry) (i k t : ℕ) → start_ticket_of log i k ≡ Some t → start_ticket_of (log ++ added) i k ≡ Some t
 start_stays log added i k t e = subst (λ l. ticket_at l k ≡ Some t) (sym (start_tickets-append i log added))
     (ticket_stays (start_tickets i log) (start_tickets i added) k t e)
-
-pub started_stays : (log added : List BookEntry) (i k now : ℕ) → StartedBy log i k now → StartedBy (log ++ added) i k now
-started_stays log added i k now h = record { ticket = h.ticket; is = start_stays log added i k h.ticket h.is; before = h.before }
 
 -- ---- a history at equal marks
 

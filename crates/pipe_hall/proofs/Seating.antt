@@ -69,10 +69,6 @@ module _ (M : Type 0) where
   no_hole (TheBook c) e = cc
   no_hole (TheShard z) e = cc
 
-pub no_shard : (v : SeatView) (x : SlotValue) (y : ShardValue) → x ≡ TheShard y → IsSnapshot v 0 x → ⊥
-no_shard v (TheBook c) y e h = cc
-no_shard v (TheShard z) y e h = let q = h.slot in omega (arith, q)
-
 pub no_book : (v : SeatView) (n : ℕ) (x : SlotValue) (b : BookState) → x ≡ TheBook b → IsSnapshot v (1 + n) x → ⊥
 no_book v n (TheBook c) b e h = let q = h.slot in omega (arith, q)
 no_book v n (TheShard z) b e h = cc

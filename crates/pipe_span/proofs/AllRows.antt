@@ -1,5 +1,5 @@
 -- The rows of the columns so far.
-use Rattle.std.proofs.Common.{◌≡◌, ◌∙◌, ℕ, zero, suc, ◌+◌, ◌*◌, ◌-◌, ◌<◌, ◌≤◌, ◌⊎◌, List, [], ◌∷◌, ◌++◌, length, refl, sym, ap, subst}
+use Rattle.std.proofs.Common.{◌≡◌, ◌∙◌, ℕ, zero, suc, ◌+◌, ◌*◌, ◌-◌, ◌<◌, ◌≤◌, ◌⊎◌, List, [], ◌∷◌, ◌++◌, length, sym, ap, subst}
 use Rattle.std.proofs.Common.{arith, inl, inr, length-append}
 use Rattle.std.proofs.Math.Numerals.{add-one}
 use Rattle.std.proofs.lemmas.Bool.{cases_lt}
@@ -57,14 +57,6 @@ pub record HasRows (columns : List (List Node)) (weights : List ℕ) (rows : Lis
       (instances_before columns i)
   pub below : (i : ℕ) → i < n → IsBounded (instances_before columns i + length (nodes_at columns i)) (row_at rows i)
 
-pub no_rows : (columns : List (List Node)) (weights : List ℕ) (rows : List (List Entry)) → rows ≡ [] → HasRows columns weights rows 0
-no_rows columns weights rows e = record {
-  whole = ap length e;
-  lengths = λ i l. absurd (omega (arith, l));
-  each = λ i l. absurd (omega (arith, l));
-  below = λ i l. absurd (omega (arith, l));
-}
-
 -- the row on the left stays in longer rows
 same_left : (rows : List (List Entry)) (row : List Entry) (i : ℕ) → i ≤ length rows → left_row rows i ≡ left_row (rows ++ row ∷ []) i
 same_left rows row i l = sym (get_or_append_left ([] ∷ rows) (row ∷ []) [] i (omega (arith, l)))
@@ -103,17 +95,6 @@ one_more_row columns weights rows more row n h len entries below e =
           (λ i l. subst (IsBounded (instances_before columns i + length (nodes_at columns i))) (old i l) (h.below i l))
           (subst (IsBounded (instances_before columns n + length (nodes_at columns n))) new below);
     })
-
--- the row on the left is below the weight of all instances before the column
-pub left_below : (columns : List (List Node)) (weights : List ℕ) (rows : List (List Entry)) (n : ℕ)
-    → HasRows columns weights rows n → IsBounded (instances_before columns n) (left_row rows n)
-left_below columns weights rows zero h = record { each = λ k. omega arith }
-left_below columns weights rows (suc i) h = h.below i (omega arith)
-
-pub left_whole : (columns : List (List Node)) (weights : List ℕ) (rows : List (List Entry)) (n : ℕ)
-    → HasRows columns weights rows n → length (left_row rows n) ≡ length (left_nodes columns n)
-left_whole columns weights rows zero h = refl
-left_whole columns weights rows (suc i) h = h.lengths i (omega arith)
 
 pub all_rows : (columns : List (List Node)) (weights : List ℕ) (rows : List (List Entry)) (n : ℕ) → n ≡ length columns
     → instances_before columns (length columns) ≤ most_entries → HasRows columns weights rows n → AreRows columns weights rows

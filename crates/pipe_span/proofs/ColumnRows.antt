@@ -1,5 +1,5 @@
 -- Rows of the heaviest paths to the instances of a column.
-use Rattle.std.proofs.Common.{◌≡◌, ℕ, ◌+◌, ◌*◌, ◌<◌, ◌≤◌, List, [], ◌∷◌, ◌++◌, Option, Some, None, length, get_or, refl, sym, ap, subst}
+use Rattle.std.proofs.Common.{◌≡◌, ℕ, ◌+◌, ◌*◌, ◌<◌, ◌≤◌, List, [], ◌∷◌, ◌++◌, Option, Some, None, length, get_or, sym, ap, subst}
 use Rattle.std.proofs.Common.{arith, inl, inr, length-append, ◌∙◌, ◌⊎◌}
 use Rattle.std.proofs.lemmas.Bool.{cases_lt, cases_order}
 use Rattle.std.proofs.lemmas.List.{get_or_append_left, get_or_past, get_or_push}
@@ -77,14 +77,6 @@ pub record HasEntries (left right : List Node) (left_row row : List Entry) (weig
   pub whole : length row ≡ k
   pub entries : AreEntries left right left_row row weights first
   pub below : IsBounded (first + k) row
-
-pub no_entries : (left right : List Node) (left_row row : List Entry) (weights : List ℕ) (first : ℕ) → row ≡ []
-    → HasEntries left right left_row row weights first 0
-no_entries left right left_row row weights first e = subst (λ r. HasEntries left right left_row r weights first 0) (sym e) (record {
-  whole = refl;
-  entries = record { each = λ k l. absurd (omega (arith, l)) };
-  below = record { each = λ k. omega arith };
-})
 
 pub one_more_entry : (left right : List Node) (left_row row more : List Entry) (b : Entry) (weights : List ℕ) (first k : ℕ) (j : Option ℕ)
     → HasEntries left right left_row row weights first k → IsLeft left right k j

@@ -1,5 +1,5 @@
 -- Left parents: by the count of the instances up to a number.
-use Rattle.std.proofs.Common.{◌≡◌, Option, ℕ, ℤ, ◌+◌, ◌-◌, ◌<◌, ◌<ℤ◌, ◌≤ℤ◌, List, Some, None, length, refl, sym, ap, subst, arith, inl, inr}
+use Rattle.std.proofs.Common.{◌≡◌, Option, ℕ, ℤ, ◌+◌, ◌-◌, ◌<◌, ◌<ℤ◌, ◌≤ℤ◌, List, Some, length, refl, sym, ap, subst, arith, inl, inr}
 use Rattle.std.proofs.lemmas.Bool.{cases_order}
 use Rattle.std.proofs.lemmas.Int.{ints}
 use Rattle.pipe_model.specs.declared.node.Kind.{Kind}
@@ -26,12 +26,6 @@ head_left left right k e w filled zero_kind = record {
       let z : 0 ≡ i = grind (arith, s) in
       subst (λ n. CrossEdge left right i n) (sym e) (subst (λ n. CrossEdge left right n 0) z (HeadCross filled (omega (arith, w, e)))));
   only = λ i c. ap Some (head_edge c e zero_kind).0;
-}
-
-pub head_none : (left right : List Node) (k : ℕ) → k ≡ 0 → length left ≡ 0 → (node_at right 0).kind ≡ Zero → IsLeft left right k None
-head_none left right k e none zero_kind = record {
-  edge = λ i s. grind (arith, s);
-  only = λ i c. absurd (let h = (head_edge c e zero_kind).1 in omega (arith, h, none));
 }
 
 -- the edges into a later instance come from the last up to its number
@@ -74,19 +68,6 @@ wait_left left right k count l w filled kind h = record {
   only = λ i c. (
       let e = count_of_last left (node_at right k).number count i h (later_edge c l).1 in
       ap Some (omega (arith, e)));
-}
-
-pub wait_none : (left right : List Node) (k count : ℕ) → 0 < k → count ≡ 0
-    → IsCountUpTo left (node_at right k).number count → IsLeft left right k None
-wait_none left right k count l e h = record {
-  edge = λ i s. grind (arith, s);
-  only = λ i c. absurd (let f = count_of_last left (node_at right k).number count i h (later_edge c l).1 in omega (arith, e, f));
-}
-
-pub no_wait : (left right : List Node) (k : ℕ) → 0 < k → ((node_at right k).kind ≡ Wait → ⊥) → IsLeft left right k None
-no_wait left right k l not = record {
-  edge = λ i s. grind (arith, s);
-  only = λ i c. absurd (not (later_edge c l).0);
 }
 
 -- counting stops at the first instance with a greater number

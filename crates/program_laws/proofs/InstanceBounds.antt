@@ -31,9 +31,6 @@ use Rattle.program_laws.proofs.BoundedWork.{further, further_bounded, further_wi
 
 -- ---- counting the starts
 
-columns_in : List Frame → List (List Node)
-columns_in fs = map (λ f. f.nodes) fs
-
 instances_in-push : (cs : List (List Node)) (c : List Node) → instances_in (cs ++ c ∷ []) ≡ instances_in cs + length c
 instances_in-push [] c = omega arith
 instances_in-push (x ∷ cs) c = let h = instances_in-push cs c in omega (arith, h)

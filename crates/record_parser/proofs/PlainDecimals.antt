@@ -1,7 +1,7 @@
 -- Digits without a leading zero are what `decimal` writes of their value.
 use Rattle.std.proofs.Common.{◌≡◌, ◌∙◌, ap, sym, subst, refl, arith, rules, ℕ, zero, suc, ◌+◌, ◌-◌, ◌*◌, ◌<◌, ◌^◌, List, [], ◌∷◌, Bool}
 use Rattle.std.proofs.Common.{true, false, length, get_or, fold}
-use Rattle.std.specs.Prelude.{◌==◌, ◌&&◌, ◌||◌, not}
+use Rattle.std.specs.Prelude.{◌&&◌, ◌||◌, not}
 use Rattle.std.specs.Fmt.{decimal}
 use Rattle.std.specs.List.{list_all}
 use Rattle.std.proofs.lemmas.Fmt.{decimal_nonempty, digits_decimal, digits_value-decimal, decimal-digits_value, first_decimal}
@@ -12,9 +12,6 @@ use Rattle.record_parser.specs.PlainDecimals.{is_plain_decimal}
 
 abbrev read_on : ℕ → List ℕ → ℕ
 read_on n ds = fold (λ n d. 10 * n + (d - 48)) n ds
-
-all_are : List ℕ → Type 0
-all_are ds = list_all is_digit ds ≡ true
 
 digits_test : IsDigitsTest (λ ds. list_all is_digit ds ≡ true)
 digits_test = search rules

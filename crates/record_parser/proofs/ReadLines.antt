@@ -58,22 +58,6 @@ pub record HasRead (cells : List Declaration) (text rest : List ℕ) (number : �
   pub record_done : IsRecord cells done events
   pub bound : number + length rest ≤ length text
 
-pub nothing_read : (cells : List Declaration) (text : List ℕ) (events : List Event) → events ≡ [] → HasRead cells text text 0 events
-nothing_read cells text events e = record {
-  done = [];
-  lines = refl;
-  count = refl;
-  record_done = subst (IsRecord cells []) (sym e) (record {
-    passed = [];
-    log = [];
-    parts = refl;
-    outcome =
-        λ k d l. absurd (omega (arith, l));
-    read = tt;
-  });
-  bound = omega arith;
-}
-
 pub one_more : (cells : List Declaration) (text rest line following : List ℕ) (number : ℕ) (old new : List Event)
     → HasRead cells text rest number old
     → lines_of rest ≡ line ∷ lines_of following → length following < length rest
@@ -108,12 +92,6 @@ bad_line cells text rest line following number events h e bad =
       record_before = subst (λ ls. IsRecord cells ls events) (sym front) h.record_done;
       bad = subst (CannotFollow cells events) (sym here) bad;
     }
-
-pub all_read : (cells : List Declaration) (text rest : List ℕ) (number : ℕ) (events : List Event) → HasRead cells text rest number events
-    → rest ≡ []
-    → IsRecord cells (lines_of text) events
-all_read cells text rest number events h e =
-    subst (λ ls. IsRecord cells ls events) (sym (h.lines ∙ ap (λ r. h.done ++ lines_of r) e ∙ append-nil h.done)) h.record_done
 
 -- there are at most as many events as bytes
 pub events_are_few : (cells : List Declaration) (text rest : List ℕ) (number : ℕ) (events : List Event)

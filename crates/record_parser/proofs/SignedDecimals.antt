@@ -28,9 +28,3 @@ negative_is (negsuc n) bs fits e = (
     ),
   ),
 )
-
--- without a `-` it is below 2^63
-pub positive_is : (z : ℤ) (bs : List ℕ) → FitsSigned w64 z → (get_or bs 0 0 ≡ 45 → ⊥) → bs ≡ signed_decimal z
-    → (n : ℕ) × ((n ≤ 9223372036854775807) × (bs ≡ decimal n))
-positive_is (pos n) bs fits none e = (n, ((let small = fits.sfits in omega (arith, small)), e))
-positive_is (negsuc n) bs fits none e = absurd (none (ap (λ ds. get_or ds 0 0) e))

@@ -1,6 +1,6 @@
 -- The table of declared cells.
-use Rattle.std.proofs.Common.{◌≡◌, ◌∙◌, ℕ, zero, suc, ℤ, pos, negsuc, ◌+◌, ◌<◌, ◌≤◌, Bool, true, false, cond, if◌then◌else◌, List, [], ◌∷◌}
-use Rattle.std.proofs.Common.{◌++◌, length, take, drop, get_or, refl, sym, ap, subst, arith, le→leb, All, Bor, Option, Some, None, is_some}
+use Rattle.std.proofs.Common.{◌≡◌, ◌∙◌, ℕ, zero, suc, ℤ, ◌+◌, ◌<◌, ◌≤◌, Bool, true, false, cond, if◌then◌else◌, List, [], ◌∷◌}
+use Rattle.std.proofs.Common.{◌++◌, length, take, drop, get_or, refl, sym, ap, subst, arith, Bor, Option, Some, is_some}
 use Rattle.std.proofs.lemmas.List.{at_drop_more}
 use Rattle.std.proofs.lemmas.Map.Text.{is_eq-slice_cmp}
 use Rattle.std.proofs.lemmas.Slice.Eq.{bytes_eq-Decides}
@@ -9,14 +9,12 @@ use Rattle.std.specs.Cmp.Lexicographic.{slice_cmp}
 use Rattle.std.specs.Ordering.{is_eq, nat_cmp}
 use Rattle.std.specs.Str.{bytes_eq}
 use Rattle.pipe_check.proofs.CellTables.{total_more, take_next}
-use Rattle.pipe_model.specs.declared.bounds.TheConstants.{MOST_CELLS}
 use Rattle.pipe_model.specs.declared.tree.Declaration.{Declaration}
 use Rattle.pipe_model.specs.Language.CheckingRules.{size_in, is_cell, cell_total}
 use Rattle.pipe_model.specs.Language.Evaluation.{CellRange}
 use Rattle.pipe_model.specs.Language.Programs.{declared_size, range_of}
-use Rattle.pipe_model.specs.Language.SpellablePrograms.{HasNoNegativeSize}
 use Rattle.stage_code.specs.declared.cell_ranges.DeclaredRange.{DeclaredRange}
-use Rattle.stage_code.specs.CellRanges.{range_in, HasRanges, AreNew, HasSize}
+use Rattle.stage_code.specs.CellRanges.{range_in, HasRanges, AreNew}
 
 -- another name is found as before
 found_before : (n : ℕ) (ds : List Declaration) (d : Declaration) (x : List ℕ) → bytes_eq d.name x ≡ false
@@ -112,21 +110,8 @@ half_more ranges grown next i size cells d key range half h e named sized is upd
       new = fresh.1;
     }
 
--- a size is not negative, and at most all of them together
-has_size : (size : Option ℤ) → HasNoNegativeSize size → declared_size size ≤ MOST_CELLS → HasSize size
-has_size None h few = tt
-has_size (Some (pos n)) h few = (record { le = le→leb 0 n (omega arith) }, record { le = le→leb n MOST_CELLS few })
-has_size (Some (negsuc n)) h few = absurd (omega (arith, h))
-
 one_total : (cells : List Declaration) (i : ℕ) (d : Declaration) → i < length cells → d ≡ get_or cells i d
     → declared_size d.size ≤ cell_total cells
 one_total [] i d h e = absurd (omega (arith, h))
 one_total (x ∷ cells) zero d h e = let same = ap (λ (y : Declaration). declared_size y.size) e in omega (arith, same)
 one_total (x ∷ cells) (suc i) d h e = let others = one_total cells i d (omega (arith, h)) e in omega (arith, others)
-
-pub size_fits : (cells : List Declaration) (i : ℕ) (d : Declaration) → i < length cells → d ≡ get_or cells i d
-    → All (λ (c : Declaration). HasNoNegativeSize c.size) cells
-    → cell_total cells ≤ MOST_CELLS → HasSize d.size
-size_fits cells i d h e sizes few =
-    let one = one_total cells i d h e in
-    has_size d.size (subst (λ (c : Declaration). HasNoNegativeSize c.size) (sym e) (sizes i d h)) (omega (arith, one, few))

@@ -1,22 +1,16 @@
 -- How high the stack grows.
 use Rattle.std.proofs.Common.{◌≡◌, ◌∙◌, ℕ, ◌+◌, ◌<◌, ◌≤◌, List, length, drop, get_or, sym, ap, arith}
-use Rattle.std.proofs.lemmas.List.{drop_all, at_drop_more}
+use Rattle.std.proofs.lemmas.List.{at_drop_more}
 use Rattle.pipe_model.specs.declared.tree.Stmt.{Stmt}
 use Rattle.pipe_model.specs.Language.SyntaxTree.{Expression, Statement, If, While, Statements, statement_of, statements_of}
 use Rattle.stage_code.specs.declared.code_bounds.TheConstants.{HIGHEST_STACK}
 use Rattle.stage_code.specs.Heights.{greater, height_of, height_of_statement, height_of_statements}
-
-pub greater-assoc : (a b c : ℕ) → greater (greater a b) c ≡ greater a (greater b c)
-greater-assoc a b c = grind arith
 
 pub greater_first : (a b : ℕ) → a ≤ greater a b
 greater_first a b = grind arith
 
 pub greater_second : (a b : ℕ) → b ≤ greater a b
 greater_second a b = grind arith
-
-pub greater-zero : (a : ℕ) → greater a 0 ≡ a
-greater-zero a = grind arith
 
 -- the statement at an index of a list, and those after it
 pub height_from : (ss : List Stmt) (i : ℕ) (s : Stmt) → i < length ss → s ≡ get_or ss i s
@@ -36,16 +30,6 @@ statement_low ss i most all s h e is few =
     let from : greater most (greater (height_of_statement (statement_of s)) rest) ≡ all = ap (greater most) (sym (height_from ss i s h e))
     ∙ is in
     omega (arith, one, two, from, few)
-
-pub statement_passed : (ss : List Stmt) (i most : ℕ) (s : Stmt) → i < length ss → s ≡ get_or ss i s
-    → greater (greater most (height_of_statement (statement_of s))) (height_of_statements (statements_of (drop (i + 1) ss)))
-    ≡ greater most (height_of_statements (statements_of (drop i ss)))
-statement_passed ss i most s h e =
-    greater-assoc most (height_of_statement (statement_of s)) (height_of_statements (statements_of (drop (i + 1) ss)))
-    ∙ ap (greater most) (sym (height_from ss i s h e))
-
-pub none_higher : (ss : List Stmt) (i most : ℕ) → length ss ≤ i → greater most (height_of_statements (statements_of (drop i ss))) ≡ most
-none_higher ss i most h = ap (λ l. greater most (height_of_statements (statements_of l))) (drop_all i ss h) ∙ greater-zero most
 
 pub if_low : (e : Expression) (a b : Statements) (whole : Statement) → whole ≡ If e a b → height_of_statement whole ≤ HIGHEST_STACK
     → (height_of_statements a ≤ HIGHEST_STACK) × (height_of_statements b ≤ HIGHEST_STACK)

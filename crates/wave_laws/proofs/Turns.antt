@@ -1,12 +1,12 @@
 -- The turns of the lowered loop.
-use Rattle.std.proofs.Common.{◌≡◌, ap, refl, ℕ, suc, pos, negsuc, true, false, [], ◌∷◌, ◌<◌, ◌≤◌, ◌+◌, ◌^◌, arith}
-use Rattle.std.specs.Prelude.{int_lt, ◌+ℤ◌}
+use Rattle.std.proofs.Common.{◌≡◌, ap, refl, ℕ, suc, pos, true, false, [], ◌∷◌, ◌<◌, ◌≤◌, ◌+◌, ◌^◌, arith}
+use Rattle.std.specs.Prelude.{int_lt}
 use Rattle.std.proofs.lemmas.Bool.{lt-ltb, le-ltb}
 use Rattle.pipe_model.specs.declared.operator_codes.TheConstants as operator_codes
 use Rattle.pipe_model.specs.declared.node.Kind.TheVariants.{Wait}
-use Rattle.pipe_model.specs.Language.Evaluation.{Setting, Environment, evaluate, execute, execute_all, first_environment, is_i64}
+use Rattle.pipe_model.specs.Language.Evaluation.{Setting, Environment, evaluate, execute, execute_all, is_i64}
 use Rattle.pipe_model.specs.Language.Evaluation.{leave_block, loop_turns}
-use Rattle.pipe_model.specs.Language.Interaction.{Interaction, Return, Raise, Step, Get, Set, bind}
+use Rattle.pipe_model.specs.Language.Interaction.{Interaction, Return, bind}
 use Rattle.pipe_model.specs.Language.Interaction as interactions
 use Rattle.pipe_model.specs.Language.SyntaxTree.{Expression, Number, Name, Binary, Statement, Assign, Statements}
 use Rattle.wave_laws.specs.Waves.LoweredLoops.{lowered_turn}
@@ -29,9 +29,6 @@ le_pos a b h = le-ltb a b h
 
 fits : (r : ℕ) → r + 1 < 2 ^ 63 → is_i64 (pos (r + 1)) ≡ true
 fits r h = lt-ltb (r + 1) (2 ^ 63) h
-
-plus_one : (r : ℕ) → pos r +ℤ pos 1 ≡ pos (r + 1)
-plus_one r = refl
 
 -- the local that is the row counts
 abbrev count_row : Statement
@@ -59,9 +56,3 @@ next_turn setting rest k n r l room small =
 pub last_turn : (setting : Setting) (rest : Statements) (k n : ℕ)
     → turns_from setting rest k (suc n) (at_row k) ≡ steps 4 (Return (at_row k))
 last_turn setting rest k n = rw (le_pos k k (omega arith)) refl
-
--- the beginning of the lowered body
-pub first_turn : (setting : Setting) (rest : Statements) (k n : ℕ)
-    → turns_from setting rest k (suc n) (record { locals = record { name = row; value = negsuc 0 } ∷ []; stage = first_environment.stage })
-    ≡ steps 12 (bind (execute_all setting rest (at_row 0)) (λ after. turns_from setting rest k n (leave_block (at_row 0) after)))
-first_turn setting rest k n = refl

@@ -1,5 +1,5 @@
 -- Searches, part by part: if the first marks are passed over, what follows decides.
-use Rattle.std.proofs.Common.{◌≡◌, ◌∙◌, ℕ, zero, suc, Bool, true, false, List, [], ◌∷◌, ◌++◌, ◌+◌, ◌<◌, ◌≤◌, length, drop, get_or, refl}
+use Rattle.std.proofs.Common.{◌≡◌, ◌∙◌, ℕ, zero, suc, Bool, true, false, List, [], ◌∷◌, ◌++◌, ◌+◌, ◌<◌, ◌≤◌, length, drop, get_or}
 use Rattle.std.proofs.Common.{sym, ap, subst, arith, Result, Ok, Err, Some, None, length-append}
 use Rattle.std.proofs.lemmas.List.{drop_all, at_drop_more}
 use Rattle.pipe_model.specs.declared.tree.Stmt.{Stmt}
@@ -59,10 +59,6 @@ pub record IsLeft (stage target : Bool) (ss : List Stmt) (i n start : ℕ) : Typ
       ≡ first_true start (flags_of_statements stage target (statements_of ss))
   pub numbers : n + length (flags_of_statements stage target (statements_of (drop i ss)))
       ≡ start + length (flags_of_statements stage target (statements_of ss))
-
-pub at_first : (stage target : Bool) (ss : List Stmt) (n : ℕ) → IsLeft stage target ss 0 n n
-at_first stage target [] n = record { found = refl; numbers = refl }
-at_first stage target (s ∷ ss) n = record { found = refl; numbers = refl }
 
 pub block_found : (stage target : Bool) (ss all : List Stmt) (i n start k : ℕ) (s : Stmt) → ss ≡ all → i < length ss → s ≡ get_or ss i s
     → IsLeft stage target ss i n start

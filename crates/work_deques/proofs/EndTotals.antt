@@ -1,7 +1,7 @@
 -- Numbers of all tallies, added up over all ends of all workers, do not change while fronts are given back.
 use Rattle.std.proofs.Common.{◌≡◌, ◌∙◌, ◌<◌, ◌+◌, ◌++◌, ◌∷◌, [], ℕ, List, get_or, length, map, set, sum_by, ap, arith}
 use Rattle.std.proofs.lemmas.List.{map-append}
-use Rattle.std.proofs.lemmas.List.Sums.{sum_by-append, sum_by-set, sum_by_push}
+use Rattle.std.proofs.lemmas.List.Sums.{sum_by-set, sum_by_push}
 use Rattle.crossbeam_deque.specs.Handles.{worker_view}
 use Rattle.work_deques.specs.FrontsSoFar.{IsWhole}
 use Rattle.work_deques.specs.Tallies.{IsAdditive, joined}
@@ -9,12 +9,6 @@ use Rattle.work_deques.specs.WorkerEnds.{front_tallies, over_ends, own_tally, ta
 use Rattle.work_deques.specs.declared.ends.Ends.{Ends}
 use Rattle.work_deques.specs.declared.front.Front.{Front}
 use Rattle.work_deques.specs.declared.tally.Tally.{Tally}
-
-pub put_additive : (h : ℕ → ℕ) → IsAdditive (λ v. sum_by h v.put)
-put_additive h v w = sum_by-append h v.put w.put
-
-pub taken_additive : (h : ℕ → ℕ) → IsAdditive (λ v. sum_by h v.taken)
-taken_additive h v w = sum_by-append h v.taken w.taken
 
 module _ {T Q : Type 0} (f : Tally → ℕ) where
   abbrev of_worker : Ends T Q → ℕ

@@ -1,5 +1,5 @@
 -- Whether a named stage may be entered at once, by the kept counter.
-use Rattle.std.proofs.Common.{◌≡◌, ◌≢◌, ℕ, ℤ, zero, suc, ◌+◌, ◌<◌, ◌≤◌, List, [], ◌∷◌, ◌++◌, length, max, refl, ap, ap₂, sym, ◌∙◌, arith}
+use Rattle.std.proofs.Common.{◌≡◌, ◌≢◌, ℕ, ℤ, zero, suc, ◌+◌, ◌≤◌, List, [], ◌∷◌, ◌++◌, length, max, refl, ap, ap₂, sym, ◌∙◌, arith}
 use Rattle.std.proofs.Common.{subst, Bool, true, false, not, cond, Option, Some, None, append_assoc}
 use Rattle.std.proofs.lemmas.Int.{ints}
 use Rattle.dep_fold.specs.Folding.{FoldedPasses, folded_passes}
@@ -92,11 +92,6 @@ module _ {M : Type 0} (going : Bool) (fs : List Frame) (rs : List (IterationRow 
             by_not : (t : Bool) → not t ≡ false → t ≡ true
             by_not true e = refl
             by_not false e = absurd (let q : true ≡ false = e in cc)
-
--- an iteration that is not to read has nothing to its left, or does not wait, or has read
-pub reads_within : (i : ℕ) (folded : Option Counter) (kind : Kind) (n : ℤ) → must_read_left i folded (stage_end kind n) ≡ true → 0 < i
-reads_within zero folded kind n e = absurd (let q : false ≡ true = e in cc)
-reads_within (suc j) folded kind n e = omega arith
 
 -- the same for the end of the instance
 pub goes_by : (s : State) (i : ℕ) (kind : Kind) (n : ℤ) → (kind ≡ Wait → LeftHasPassed s.frames i n) → EntersAtOnce s i (stage_end kind n)

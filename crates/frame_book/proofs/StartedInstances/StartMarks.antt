@@ -2,7 +2,7 @@
 use Rattle.std.proofs.Common.{◌≡◌, ℕ, zero, suc, ◌*◌, ◌<◌, List, [], ◌∷◌, ◌++◌, length, refl, ap, ap₂, ◌∙◌}
 use Rattle.std.specs.declared.option.Option.{Option}
 use Rattle.std.specs.declared.option.Option.TheVariants.{Some, None}
-use Rattle.order_2d.specs.OrderPairs.{marks_after, down_taken, right_taken}
+use Rattle.order_2d.specs.OrderPairs.{marks_after, right_taken}
 use Rattle.pipe_model.specs.declared.marks.Marks.{Marks}
 use Rattle.pipe_model.specs.declared.node.Node.{Node}
 use Rattle.pipe_model.specs.declared.node.NodeId.{NodeId}
@@ -20,11 +20,6 @@ parent_marks columns starts i None = None
 parent_marks columns starts zero (Some j) = None
 parent_marks columns starts (suc i) (Some j) = Some (instance_marks columns starts i j)
 
--- an instance below another takes what its parents' marks say, in down-first
-pub takes_down_below : (columns : List (List Node)) (starts : List NodeId) (i k : ℕ) (left : Option Marks)
-    → down_taken (Some (instance_marks columns starts i k)) left ≡ down_first_taken (start_number starts) i (suc k)
-takes_down_below columns starts i k left = refl
-
 -- and in right-first, by its left parent
 pub takes_right_below : (columns : List (List Node)) (starts : List NodeId) (i k : ℕ) (found : Option ℕ) → (i ≡ 0 → found ≡ None)
     → right_taken (Some (instance_marks columns starts i k)) (parent_marks columns starts i found) ≡ right_taken_from
@@ -33,12 +28,6 @@ takes_right_below columns starts zero k None z = refl
 takes_right_below columns starts zero k (Some j) z = absurd (let q : Some j ≡ None = z refl in cc)
 takes_right_below columns starts (suc i) k None z = refl
 takes_right_below columns starts (suc i) k (Some j) z = refl
-
--- a head takes what the marks of the head to its left say
-pub takes_head : (columns : List (List Node)) (starts : List NodeId) (i : ℕ)
-    → (down_taken None (Some (instance_marks columns starts i 0)) ≡ down_first_taken (start_number starts) (suc i) 0)
-    × (right_taken None (Some (instance_marks columns starts i 0)) ≡ right_first_taken columns (start_number starts) (suc i) 0)
-takes_head columns starts i = (refl, refl)
 
 -- the marks of a start by its number
 pub marks_by_number : (n m down right : ℕ) → n ≡ 2 * m → marks_after n down right ≡ start_marks m down right
