@@ -24,9 +24,10 @@ use Rattle.cilkp_program.proofs.OneContent.{one_input, one_source, refused_no_in
 use Rattle.cilkp_program.specs.PrintedResults.{IsCallResult, OfRow, SourceFault, InputFault, RecordFault, IsPrinted}
 use Rattle.cilkp_program.specs.Headline.{AgreesWithElision, IsToRun, MeetsHeadline}
 use Rattle.cilkp_program.specs.CommandFiles.{asks_record, asks_wave, program_by}
+use Rattle.cilkp_program.specs.declared.command_result.CommandResult.{CommandResult}
 use Rattle.cilkp_program.specs.declared.program_run.FinishedRun.{FinishedRun}
 use Rattle.cilkp_program.specs.RecordedRuns.{IsRecordedRun, ReturnsRun, recorded}
-use Rattle.cilkp_program.specs.RunResults.{HasRun, IsFinishedRunOf}
+use Rattle.cilkp_program.specs.RunResults.{HasRun, IsFinishedRunOf, IsPrintedRun}
 use Rattle.cilkp_program.specs.ProgramFiles.{FileContents}
 use Rattle.cilkp_program.specs.ResultTable.{ResultRow, NoCommand, SourceRefused, Formats, Benches, WaveRefused, InputRefused, Runs}
 use Rattle.cilkp_program.specs.ResultTable.{RunsSerially, ChecksRecord, Weighs}
@@ -91,21 +92,19 @@ run_meets tree numbers limit log output trap reports form run throttled right o 
     }
 
 -- the result of a call that makes a finished run of the program and prints it
-pub run_returned : (tree : SyntaxTree) (input : List ℤ) (throttle : ℕ) (recording : Bool) (run : FinishedRun) (status : ℕ)
-    (printed text : List ℕ)
-    → BreaksNoRule tree → IsFinishedRunOf tree input throttle run
-    → IsPrintedAs tree.cells run.output run.trap run.reports status printed → text ≡ recorded recording tree.cells run.run_log printed
-    → HasRun tree input throttle recording run.run_log
-    (record { status = status; text = text; run_log = Some run.run_log; reports = run.reports })
-run_returned tree input throttle recording run status printed text accepted h as_printed is = record {
-  logged = refl;
+pub run_returned : (tree : SyntaxTree) (input : List ℤ) (throttle : ℕ) (recording : Bool) (run : FinishedRun) (a : CommandResult)
+    → BreaksNoRule tree → IsFinishedRunOf tree input throttle run → IsPrintedRun tree.cells recording run a
+    → HasRun tree input throttle recording run.run_log a
+run_returned tree input throttle recording run a accepted h r = record {
+  logged = r.logged;
   meets = record {
-    outcome = printed;
-    text_is = is;
-    meets = run_meets tree input throttle run.run_log run.output run.trap run.reports accepted h.run h.throttled h.right h.output h.trap
-        as_printed;
+    outcome = r.outcome;
+    text_is = r.text;
+    meets = subst (λ found. MeetsHeadline tree input throttle run.run_log found a.status r.outcome) (sym r.reports)
+        (run_meets tree input throttle run.run_log run.output run.trap run.reports accepted h.run h.throttled h.right h.output h.trap
+        r.printed);
   };
-  found = h.found;
+  found = r.reports ∙ h.found;
 }
 
 -- the result describes a run of the program

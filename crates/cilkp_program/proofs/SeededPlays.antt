@@ -59,16 +59,10 @@ seeded_play tree input workers throttle seed choices turns p chosen counted even
 
 -- its result
 pub play_returned : (tree : SyntaxTree) (input : List ℤ) (workers throttle seed : ℕ) (recording : Bool) (run : FinishedRun)
-    (status : ℕ) (printed text : List ℕ) → BreaksNoRule tree → IsSeededPlay tree input workers throttle seed run
-    → IsPrintedAs tree.cells run.output run.trap run.reports status printed → text ≡ recorded recording tree.cells run.run_log printed
-    → IsPlayResult tree input workers throttle seed recording
-    (record { status = status; text = text; run_log = Some run.run_log; reports = run.reports })
-play_returned tree input workers throttle seed recording run status printed text accepted h as_printed is =
-    record {
-      log = run.run_log;
-      run = run_returned tree input throttle recording run status printed text accepted h.run as_printed is;
-      events = h.events;
-    }
+    (a : CommandResult) → BreaksNoRule tree → IsSeededPlay tree input workers throttle seed run → IsPrintedRun tree.cells recording run a
+    → IsPlayResult tree input workers throttle seed recording a
+play_returned tree input workers throttle seed recording run a accepted h r =
+    record { log = run.run_log; run = run_returned tree input throttle recording run a accepted h.run r; events = h.events }
 
 -- ---- the events of a `play` call
 

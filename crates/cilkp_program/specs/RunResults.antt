@@ -1,6 +1,7 @@
 -- The results of the commands that make a run.
 use Rattle.std.specs.Prelude.{◌≡◌, [], ℕ, ℤ, List, Bool, Some}
 use Rattle.pipe_model.specs.declared.event.RunLog.{RunLog}
+use Rattle.pipe_model.specs.declared.tree.Declaration.{Declaration}
 use Rattle.pipe_model.specs.Language.ProgramsOfTrees.{whole_of}
 use Rattle.pipe_model.specs.Language.SyntaxTree.{SyntaxTree}
 use Rattle.pipe_model.specs.Races.Reports.{AreRight}
@@ -9,8 +10,9 @@ use Rattle.pipe_model.specs.Runs.Throttling.{IsThrottled}
 use Rattle.pipe_model.specs.Runs.WholeProgramRuns.{IsFinishedProgramRun}
 use Rattle.cilkp_program.specs.declared.command_result.CommandResult.{CommandResult}
 use Rattle.cilkp_program.specs.declared.program_run.FinishedRun.{FinishedRun}
-use Rattle.cilkp_program.specs.RecordedRuns.{IsRecordedRun, seeded_events}
+use Rattle.cilkp_program.specs.RecordedRuns.{IsRecordedRun, recorded, seeded_events}
 use Rattle.cilkp_program.specs.RunReports.{run_reports}
+use Rattle.cilkp_program.specs.RunTexts.{IsPrintedAs}
 use Rattle.cilkp_program.specs.SerialResults.{elision_output, elision_trap}
 
 -- a finished run of the program under the throttling limit; its reports are those that its histories find, and right; without a report it
@@ -28,6 +30,14 @@ pub record IsFinishedRunOf (tree : SyntaxTree) (input : List ℤ) (throttle : �
 pub record IsSeededPlay (tree : SyntaxTree) (input : List ℤ) (workers throttle seed : ℕ) (r : FinishedRun) : Type 0 where
   pub events : r.run_log.events ≡ seeded_events tree input workers throttle seed
   pub run : IsFinishedRunOf tree input throttle r
+
+-- the result of a command that prints a finished run: its text, with the lines of its log if they are asked for, its log and its reports
+pub record IsPrintedRun (cells : List Declaration) (recording : Bool) (run : FinishedRun) (a : CommandResult) : Type 0 where
+  pub outcome : List ℕ
+  pub printed : IsPrintedAs cells run.output run.trap run.reports a.status outcome
+  pub text : a.text ≡ recorded recording cells run.run_log outcome
+  pub logged : a.run_log ≡ Some run.run_log
+  pub reports : a.reports ≡ run.reports
 
 -- the result has this log, which is that of a run that meets the headline, and reports what the run's histories find
 pub record HasRun (tree : SyntaxTree) (input : List ℤ) (throttle : ℕ) (recording : Bool) (log : RunLog) (a : CommandResult) : Type 0 where

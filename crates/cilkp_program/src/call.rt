@@ -10,7 +10,7 @@ ghost use Rattle.pipe_io.specs.Faults.{CountGrew, CountRose};
 ghost use Rattle.cilkp_program.specs.Formatting.{ReturnsText, IsToFormat};
 ghost use Rattle.cilkp_program.specs.Headline.{IsToRun};
 ghost use Rattle.cilkp_program.specs.RecordedRuns.{HasSeededEvents, IsFinishedLog, IsToPlay, ReturnsRun};
-ghost use Rattle.cilkp_program.specs.RunResults.{IsPlayResult, IsRunResult};
+ghost use Rattle.cilkp_program.specs.RunResults.{IsPlayResult, IsPrintedRun, IsRunResult};
 ghost use Rattle.cilkp_program.specs.CommandFiles.{KeepsLog, asks_record};
 ghost use Rattle.cilkp_program.specs.BenchCalls.{IsToBench, ReturnsSummary};
 ghost use Rattle.cilkp_program.specs.SerialResults.{ElisionResult};
@@ -30,7 +30,7 @@ use crate::command_result::{CommandResult, read_fault, refused};
 use crate::load::{Source, load_source};
 use crate::prepare::{Prepared, prepare};
 use crate::program_play::play_program;
-use crate::program_run::{printed_run, recorded, run_elision, run_program};
+use crate::program_run::{FinishedRun, printed_run, recorded, run_elision, run_program};
 use crate::saved_run::check_saved;
 use crate::text::line;
 use crate::work_and_span::weighed_result;
@@ -73,6 +73,24 @@ pub struct Ended {
     pub written: u64,
 }
 
+// The status, text, log and reports of a finished run, or of a play.
+fn finished_result(
+    alloc: Global,
+    checked: &Checked,
+    run: FinishedRun,
+    with_log: bool,
+) -> Result<CommandResult, NoMemory>
+    ensures { IfOk result (IsPrintedRun checked.now.cells with_log run) }
+{
+    let (status, text) = printed_run(alloc, checked, &run)?;
+    Ok(CommandResult {
+        status,
+        text: recorded(alloc, checked, with_log, &run.run_log, text)?,
+        run_log: Some(run.run_log),
+        reports: run.reports,
+    })
+}
+
 // The status, text, log and reports of the program's run.
 fn run_result<R: Threads + Wait + Sync, G: Gate + Sync>(
     rt: &R,
@@ -90,13 +108,7 @@ fn run_result<R: Threads + Wait + Sync, G: Gate + Sync>(
     ensures { IfOk result (IsRunResult (tree_of checked.now) input.now throttle with_log) }
 {
     let run = run_program(rt, alloc, checked, input, workers, throttle, gate)?;
-    let (status, text) = printed_run(alloc, checked, &run)?;
-    Ok(CommandResult {
-        status,
-        text: recorded(alloc, checked, with_log, &run.run_log, text)?,
-        run_log: Some(run.run_log),
-        reports: run.reports,
-    })
+    finished_result(alloc, checked, run, with_log)
 }
 
 // The status, text, log and reports of a play of the program.
@@ -116,13 +128,7 @@ fn play_result(
     ensures { IfOk result (IsPlayResult (tree_of checked.now) input.now workers throttle seed with_log) }
 {
     let run = play_program(alloc, checked, input, workers, throttle, seed)?;
-    let (status, text) = printed_run(alloc, checked, &run)?;
-    Ok(CommandResult {
-        status,
-        text: recorded(alloc, checked, with_log, &run.run_log, text)?,
-        run_log: Some(run.run_log),
-        reports: run.reports,
-    })
+    finished_result(alloc, checked, run, with_log)
 }
 
 // The status, text and reports of the program's serial elision.

@@ -1,12 +1,12 @@
 use Rattle.pipe_model.specs.Language.SyntaxTree.{tree_of}
+use Rattle.program_ends.proofs.ElidedRuns.{map_ok}
 use Rattle.cilkp_program.proofs.HeadlineLaws.{run_returned}
 use Rattle.cilkp_program.proofs.call.run_result.Goals as goal
 
 pub returns : goal.returns
 returns g c =
-    let accepted = c.requires.accepted in (
+    map_ok c.finished_result.result c.finished_result.ensures (λ a printed. (
       c.in_ok-run.run'.run_log,
-      run_returned (tree_of c.args.checked.now) c.args.input.now c.args.throttle c.args.with_log c.in_ok-run.run'
-          c.in_ok-status.status c.in_ok-status.text c.in_ok-recorded.field-0 accepted c.in_ok-run.ensures.run c.in_ok-status.ensures
-          c.in_ok-recorded.ensures,
-    )
+      run_returned (tree_of c.args.checked.now) c.args.input.now c.args.throttle c.args.with_log c.in_ok-run.run' a c.requires.accepted
+          c.in_ok-run.ensures.run printed,
+    ))
