@@ -1,6 +1,6 @@
 -- Texts that are one token each, with the bytes that may follow them.
 use Rattle.std.proofs.Common.{◌≡◌, ◌≢◌, ◌∙◌, ap, sym, refl, ℕ, zero, suc, ◌+◌, ◌-◌, ◌*◌, ◌/◌, ◌%◌, ◌<◌, ◌≤◌, ◌^◌, pos, Bool, true, false}
-use Rattle.std.proofs.Common.{List, [], ◌∷◌, ◌++◌, length, ◌==◌, ◌&&◌, Some, None, arith, codes, cond, position, length-append}
+use Rattle.std.proofs.Common.{List, [], ◌∷◌, ◌++◌, length, ◌&&◌, Some, None, arith, codes, cond, position, length-append}
 use Rattle.std.specs.Fmt.{decimal}
 use Rattle.std.specs.List.{list_all}
 use Rattle.std.proofs.lemmas.Bool.{and_parts, false≢true}
@@ -95,16 +95,16 @@ name_opens x rest h = by_letter x (name_begins x h.symbol)
 abbrev AreDigitsOf : ℕ → List ℕ → Type 0
 AreDigitsOf n ds = (list_all is_digit ds ≡ true) × (number_of ds ≡ n) × (0 < length ds)
 
-last_digit : (m : ℕ) → is_digit (48 + m % 10) ≡ true
+pub last_digit : (m : ℕ) → is_digit (48 + m % 10) ≡ true
 last_digit m = grind (arith, nat_tests)
 
-digit_below : (m : ℕ) → m < 10 → is_digit (48 + m) ≡ true
+pub digit_below : (m : ℕ) → m < 10 → is_digit (48 + m) ≡ true
 digit_below m l = grind (arith, nat_tests)
 
-one_digit : (m : ℕ) → m < 10 → AreDigitsOf m ((48 + m) ∷ [])
+pub one_digit : (m : ℕ) → m < 10 → AreDigitsOf m ((48 + m) ∷ [])
 one_digit m l = (rw (digit_below m l) refl, omega arith, omega arith)
 
-more_digits : (m : ℕ) (ds : List ℕ) → 10 ≤ m → AreDigitsOf (m / 10) ds → AreDigitsOf m (ds ++ (48 + m % 10) ∷ [])
+pub more_digits : (m : ℕ) (ds : List ℕ) → 10 ≤ m → AreDigitsOf (m / 10) ds → AreDigitsOf m (ds ++ (48 + m % 10) ∷ [])
 more_digits m ds l h = (
   list_all-append is_digit ds ((48 + m % 10) ∷ []) ∙ rw (h.0, last_digit m) refl,
   fold-append (λ n d. 10 * n + (d - 48)) 0 ds ((48 + m % 10) ∷ []) ∙ (let e = h.1 in rw e (omega arith)),

@@ -6,28 +6,15 @@ use Rattle.pipe_model.specs.declared.ticket.BookEntry.{BookEntry}
 use Rattle.pipe_model.specs.declared.ticket.ShardEntry.{ShardEntry}
 use Rattle.pipe_model.specs.Pipelines.Behaviour.{Accessed}
 use Rattle.pipe_model.specs.Races.DeterminacyRaces.{Among, Here, Later}
-use Rattle.pipe_model.specs.Runs.TicketLogs.{ClosedLogs, InOrder, LogEntry, OfBook, OfShard, TicketsRise, TimedAction, rank_of, ticket_of}
-use Rattle.pipe_model.proofs.Members.{among_either, among_right, none_among, only_one}
+use Rattle.pipe_model.specs.Runs.TicketLogs.{ClosedLogs, InOrder, LogEntry, OfBook, OfShard, TimedAction, rank_of, ticket_of}
+use Rattle.pipe_model.proofs.Members.{among_right}
 use Rattle.frame_book.specs.BookStates.{BookState, made, state_of}
 use Rattle.run_laws.proofs.LogMerge.Entries.{timed}
 use Rattle.run_laws.proofs.LogMerge.MergeSplits.{among_shard, order_after}
 use Rattle.run_record.specs.MergedLogs.{shard_at}
+use Rattle.run_laws.proofs.LogMerge.RisingTraces.{same_ticket}
 use Rattle.hall_laws.specs.HallRuns.{AccessesIt, EndsIt, EqualTicketsAreApart, IsOfInstance, StartsIt, pipeline_after}
 use Rattle.hall_laws.proofs.HallLogs.{closed_logs}
-
--- in a rising list equal tickets belong to one action
-same_ticket : (xs : List TimedAction) (x y : TimedAction) → TicketsRise xs → Among x xs → Among y xs → x.ticket ≡ y.ticket → x ≡ y
-same_ticket [] x y r m n e = absurd (none_among x m)
-same_ticket (z ∷ xs) x y r m n e = elim (among_either x (z ∷ []) xs m) [
-  | inl a ↦ elim (among_either y (z ∷ []) xs n) [
-    | inl b ↦ only_one x z a ∙ sym (only_one y z b)
-    | inr b ↦ (let up = r.0 y b in let q = ap (λ (w : TimedAction). w.ticket) (only_one x z a) in absurd (omega (arith, up, q, e)))
-  ]
-  | inr a ↦ elim (among_either y (z ∷ []) xs n) [
-    | inl b ↦ (let up = r.0 x a in let q = ap (λ (w : TimedAction). w.ticket) (only_one y z b) in absurd (omega (arith, up, q, e)))
-    | inr b ↦ same_ticket xs x y r.1 a b e
-  ]
-]
 
 same_some : (o : Option ℕ) (s t : ℕ) → o ≡ Some s → o ≡ Some t → s ≡ t
 same_some None s t p q = absurd (cc)

@@ -1,5 +1,5 @@
 -- What the histories of a closed hall have found are the first races of the run.
-use Rattle.std.proofs.Common.{◌≡◌, ◌∙◌, refl, sym, ap, subst, ℕ, zero, suc, ◌<◌, ◌≤◌, List, [], ◌∷◌, length, map, get_or, false, ◌==◌}
+use Rattle.std.proofs.Common.{◌≡◌, ◌∙◌, refl, sym, ap, subst, ℕ, zero, suc, ◌<◌, ◌≤◌, List, [], ◌∷◌, length, map, get_or, false}
 use Rattle.std.proofs.Common.{Contains, Option, Some, None, arith, inl, inr, if◌then◌else◌}
 use Rattle.std.proofs.lemmas.Bool.{cases_lt, ne_eqb}
 use Rattle.std.proofs.lemmas.List.{get_or-map, length-map}
@@ -38,10 +38,10 @@ use Rattle.race_detection.specs.FoundReports.{cell_bound, found_reports}
 use Rattle.race_report.specs.RaceReports.{IsFoundIn, report_found}
 use Rattle.run_laws.proofs.RaceHistories.RunHistories.{histories_find_the_first_race}
 use Rattle.run_laws.proofs.RunStates.IterationCounts.{runs_keep_rules}
+use Rattle.race_detection.proofs.FoundRaces.{one_list}
 use Rattle.hall_laws.specs.HallReports.{AreFound, FindsRacesOf, HaveNotedEntries, HistoriesFindRaces, cell_of, columns_of_book}
 use Rattle.hall_laws.specs.HallReports.{starts_of_book}
 use Rattle.hall_laws.specs.HallRuns.{IsRunOfHall, entries_to, pipeline_after}
-use Rattle.hall_laws.proofs.RisingReports.{one_list}
 
 -- ---- cells without accesses
 

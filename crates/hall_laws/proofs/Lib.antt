@@ -9,7 +9,6 @@ pub mod ShardStates
 pub mod JoinedLists
 pub mod ShardRaces
 pub mod SlotRaces
-pub mod RisingReports
 pub mod FoundRaces
 pub mod HallOrders
 pub mod HallPrograms

@@ -2,6 +2,7 @@
 use Rattle.std.proofs.Common.{◌≡◌, ◌∙◌, refl, sym, ap, ap₂, subst, ℕ, zero, suc, ◌+◌, ◌*◌, ◌<◌, ◌≤◌, ◌↔◌, List, [], ◌∷◌, ◌++◌, length, take}
 use Rattle.std.proofs.Common.{arith}
 use Rattle.std.proofs.lemmas.List.{length-take-le, map-append, take_more}
+use Rattle.run_laws.proofs.ListOrders.LogGrowth.{log_entries-push}
 use Rattle.order_2d.specs.OrderPairs.{HasRoom, OrderPair, marks_after, with_start}
 use Rattle.order_2d.specs.ReplayedOrders.{IsBeforeInLists, OrdersArePrecedes, marks_at, marks_of_starts}
 use Rattle.order_2d.specs.StartedNodes.{HasLists}
@@ -16,17 +17,6 @@ use Rattle.pipe_model.specs.Orders.TwoOrders.{right_first_log, right_first_taken
 use Rattle.pipe_model.specs.Races.Columns.{AreColumns, at}
 use Rattle.pipe_model.specs.Races.Dag.{Precedes}
 use Rattle.run_laws.proofs.ListOrders.BothOrders.{both_is_precedes}
-
--- one more start adds its entries at the end
-log_entries-push : (taken : ℕ → ℕ → ℕ) (m : ℕ) (xs : List NodeId) (x : NodeId)
-    → log_entries taken m (xs ++ x ∷ []) ≡ log_entries taken m xs ++ taken x.iteration x.index ∷ first_placeholder (m + length xs) ∷ []
-log_entries-push taken m [] x =
-    let e : m ≡ m + 0 = omega arith in
-    ap (λ k. taken x.iteration x.index ∷ first_placeholder k ∷ []) e
-log_entries-push taken m (y ∷ xs) x =
-    let e : m + 1 + length xs ≡ m + suc (length xs) = omega arith in
-    ap (λ es. taken y.iteration y.index ∷ first_placeholder m ∷ es) (log_entries-push taken (m + 1) xs x
-    ∙ ap (λ k. log_entries taken (m + 1) xs ++ taken x.iteration x.index ∷ first_placeholder k ∷ []) e)
 
 pub length-log_entries : (taken : ℕ → ℕ → ℕ) (m : ℕ) (xs : List NodeId) → length (log_entries taken m xs) ≡ 2 * length xs
 length-log_entries taken m [] = refl

@@ -19,10 +19,10 @@ all_more {X} P x xs p ps = λ k d within. at_place k d within
     at_place (suc k) d within = ps k d (omega (arith, within))
 
 -- the first item, and the others
-first_of : {X : Type 0} (P : X → Type 0) (x : X) (xs : List X) → All P (x ∷ xs) → P x
+pub first_of : {X : Type 0} (P : X → Type 0) (x : X) (xs : List X) → All P (x ∷ xs) → P x
 first_of P x xs h = h 0 x (omega arith)
 
-others_of : {X : Type 0} (P : X → Type 0) (x : X) (xs : List X) → All P (x ∷ xs) → All P xs
+pub others_of : {X : Type 0} (P : X → Type 0) (x : X) (xs : List X) → All P (x ∷ xs) → All P xs
 others_of P x xs h = λ k d within. h (suc k) d (omega (arith, within))
 
 -- ---- one mark

@@ -14,7 +14,7 @@ use Rattle.pipe_model.specs.Language.SpellablePrograms.{statement_count, stateme
 use Rattle.pipe_model.specs.Language.SyntaxTree.{Expression, If, While, Statement, Statements, Empty, Then, statement_of, statements_of}
 
 -- the rest of the list at index i is one statement, and then the others
-statements_from : (ss : List Stmt) (i : ℕ) (s : Stmt) → i < length ss → s ≡ get_or ss i s
+pub statements_from : (ss : List Stmt) (i : ℕ) (s : Stmt) → i < length ss → s ≡ get_or ss i s
     → statements_of (drop i ss) ≡ Then (statement_of s) (statements_of (drop (i + 1) ss))
 statements_from ss i s h e = at_drop_more statements_of ss i s h ∙ ap (λ x. Then (statement_of x) (statements_of (drop (i + 1) ss))) (sym e)
 

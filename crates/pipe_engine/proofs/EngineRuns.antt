@@ -1,7 +1,6 @@
 -- Finished runs of programs, from their ends.
-use Rattle.std.proofs.Common.{◌≡◌, refl, ℕ, ℤ, List, [], true, Ok, Err, Result}
+use Rattle.std.proofs.Common.{◌≡◌, refl, ℕ, ℤ, List, [], true}
 use Rattle.std.specs.Prelude.{is_some}
-use Rattle.std.specs.Result.{IfOk}
 use Rattle.pipe_engine.specs.declared.ending.LoopEnd.{LoopEnd}
 use Rattle.pipe_engine.specs.EngineRuns.{IsEngineRun}
 use Rattle.pipe_engine.specs.LoopEnds.{IsLoopEnd}
@@ -19,11 +18,6 @@ use Rattle.program_ends.specs.ProgramEnds.{HasResults, reaches_final}
 use Rattle.program_ends.proofs.ElidedRuns.{finished_runs_agree_with_elisions}
 use Rattle.race_detection.proofs.RunReports.{runs_are_detected}
 use Rattle.run_laws.proofs.RunStates.IterationCounts.{runs_keep_rules}
-
--- what follows from what holds of an `Ok`
-pub map_ok : {T E : Type 0} {P Q : T → Type 0} → (r : Result T E) → IfOk r P → ((x : T) → P x → Q x) → IfOk r Q
-map_ok (Ok x) h f = f x h
-map_ok (Err e) h f = tt
 
 abbrev no_log : RunLog
 no_log = record { columns = []; events = [] }

@@ -23,6 +23,7 @@ use Rattle.run_laws.proofs.ListOrders.LongerLogs.{longer_logs_keep_the_order}
 use Rattle.access_history.specs.declared.history.History.{History}
 use Rattle.access_history.specs.declared.history.Who.{Who}
 use Rattle.access_history.specs.KeptInstances.{KeptAreIn}
+use Rattle.om_shared.proofs.SeenLogs.{log_prefix}
 use Rattle.pipe_hall.specs.SeatViews.{HallConstants, InstanceData, SeatView, ShardValue, constants_of}
 use Rattle.pipe_hall.specs.Logs.{entry_of}
 use Rattle.pipe_hall.specs.Steps.{ShardSnapshot, after_entries, after_log}
@@ -46,15 +47,10 @@ use Rattle.order_2d.specs.SeenOrders.{AreOfLists}
 pub as_write : (a : Access) → a.kind ≡ Write → a ≡ write_access a.cell.0 a.value
 as_write a e = ap (λ (k : AccessKind). let b : Access = record { cell = a.cell; kind = k; value = a.value } in b) e
 
--- a part of a log
-log_part : (e : ℕ) (log more : List ℕ) → IsLog e (log ++ more) → IsLog e log
-log_part e [] more h = tt
-log_part e (x ∷ log) more h = (h.0, log_part (e + 1) log more h.1)
-
 -- a longer log keeps the order
 pub log_keeps : (old new : List ℕ) → BeginsWith new old → IsLog 1 new → KeepsOrder (list_of_log old) (list_of_log new)
 log_keeps old new b valid = record {
-  elements = λ x h. (let q = (list_has_below old (log_part 1 old b.0 (subst (IsLog 1) b.1 valid))).only x h in
+  elements = λ x h. (let q = (list_has_below old (log_prefix 1 old b.0 (subst (IsLog 1) b.1 valid))).only x h in
       let n = length-append old b.0 in let e = ap length b.1 in (list_has_below new valid).each x (omega (arith, q, n, e)));
   order = λ x y hx hy. subst (λ l. StandsBefore (list_of_log l) x y ↔ StandsBefore (list_of_log old) x y) (sym b.1)
       (longer_logs_keep_the_order old b.0 x y (subst (IsLog 1) b.1 valid) hx hy);

@@ -1,5 +1,5 @@
 -- The columns of a serial elision, and the steps of their instances.
-use Rattle.std.proofs.Common.{◌≡◌, ◌∙◌, refl, sym, ap, subst, ℕ, ℤ, zero, suc, pos, negsuc, ◌<◌, ◌≤◌, ◌≤ℤ◌, ◌+◌, ◌*◌, List, [], ◌∷◌, ◌++◌}
+use Rattle.std.proofs.Common.{◌≡◌, ◌∙◌, refl, sym, ap, subst, ℕ, ℤ, zero, suc, pos, ◌<◌, ◌≤◌, ◌≤ℤ◌, ◌+◌, ◌*◌, List, [], ◌∷◌, ◌++◌}
 use Rattle.std.proofs.Common.{Bool, true, false, length, map, get_or, length-append, le_trans, arith}
 use Rattle.std.proofs.lemmas.Int.{ints}
 use Rattle.std.proofs.Math.ListN.{get_or-map}
@@ -41,6 +41,7 @@ use Rattle.stage_code.specs.LimitRanges.{HasRangesOfLimits}
 use Rattle.stage_interp.specs.Standing.{IsCodeOf}
 use Rattle.stage_interp.specs.TreeRuns.{interaction_in}
 use Rattle.serial_elision.specs.ElisionSteps.{iteration_steps, program_steps, step_counts, steps_from}
+use Rattle.serial_elision.proofs.PartRuns.{natural_most}
 use Rattle.pipe_span.specs.Entries.{most_entries, most_weight}
 use Rattle.pipe_span.specs.HeaviestPaths.{instances_before}
 use Rattle.pipe_span.specs.SpanLaws.{InstancesHaveSteps}
@@ -230,10 +231,6 @@ pub record CanBeWeighed (columns : List Column) (steps : List ℤ) : Type 0 wher
   pub whole : length steps ≡ instances_before (node_columns columns) (length columns)
   pub few : length steps ≤ most_entries
   pub each : AreSteps steps
-
-natural_most : (z : ℤ) (n : ℕ) → z ≤ℤ pos n → natural z ≤ n
-natural_most (pos m) n h = grind (arith, h)
-natural_most (negsuc m) n h = omega arith
 
 few_instances : (tree : SyntaxTree) → HasRangesOfLimits tree.limits → most_instances tree ≤ most_entries
 few_instances tree ranges =

@@ -9,6 +9,7 @@ use Rattle.pipe_model.specs.declared.node.Node.{Node}
 use Rattle.pipe_model.specs.declared.node.NodeId.{NodeId}
 use Rattle.pipe_model.specs.Races.Columns.{IsNodeOf, at, nodes_at}
 use Rattle.pipe_model.specs.Races.Dag.{AcrossEdge, CrossEdge, DownEdge, Edge, HeadCross, WaitCross}
+use Rattle.run_laws.proofs.ListOrders.GrownStarts.{cross_source_within}
 use Rattle.pipe_span.specs.declared.entry.Entry.{Entry}
 use Rattle.pipe_span.specs.declared.entry.Predecessor.{Predecessor}
 use Rattle.pipe_span.specs.declared.entry.Predecessor.TheVariants.{Absent, Above, Left}
@@ -25,17 +26,13 @@ within_columns columns i k l = elim (cases_lt i (length columns)) [
   | inr past ↦ absurd (let a = ap length (get_or_past columns i [] past) in omega (arith, a, l))
 ]
 
-cross_begins : {left right : List Node} {j k : ℕ} → CrossEdge left right j k → j < length left
-cross_begins (HeadCross h w) = h
-cross_begins (WaitCross j k w kind h) = h.within
-
 cross_ends : {left right : List Node} {j k : ℕ} → CrossEdge left right j k → k < length right
 cross_ends (HeadCross h w) = w
 cross_ends (WaitCross j k w kind h) = w
 
 pub edge_begins : {columns : List (List Node)} {x y : NodeId} → Edge columns x y → IsNodeOf columns x
 edge_begins {columns} (DownEdge i k h) = (within_columns columns i (k + 1) h, omega (arith, h))
-edge_begins {columns} (AcrossEdge i j k c) = (within_columns columns i j (cross_begins c), cross_begins c)
+edge_begins {columns} (AcrossEdge i j k c) = (within_columns columns i j (cross_source_within c), cross_source_within c)
 
 pub edge_ends : {columns : List (List Node)} {x y : NodeId} → Edge columns x y → IsNodeOf columns y
 edge_ends {columns} (DownEdge i k h) = (within_columns columns i (k + 1) h, h)
@@ -137,7 +134,7 @@ no_left_of_first : (columns : List (List Node)) (weights : List ℕ) (rows : Lis
     → IsNodeOf columns y → (entry_to rows y).predecessor ≡ Left j → y.iteration ≡ 0 → ⊥
 no_left_of_first columns weights rows y j h w s e =
     let r = (entry_here columns weights rows y h w).from_left j s in
-    let b = cross_begins (subst (λ i. CrossEdge (left_nodes columns i) (nodes_at columns y.iteration) j y.index) e r.0) in
+    let b = cross_source_within (subst (λ i. CrossEdge (left_nodes columns i) (nodes_at columns y.iteration) j y.index) e r.0) in
     omega (arith, b)
 
 positive : (columns : List (List Node)) (weights : List ℕ) (rows : List (List Entry)) (y : NodeId) (j : ℕ) → AreRows columns weights rows

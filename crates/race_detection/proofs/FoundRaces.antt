@@ -126,14 +126,14 @@ reports_rise columns (f ∷ fs) rise i j d l w =
 -- ---- sorted reports
 
 -- the first of rising reports is below all others
-first_below : (x : Report) (xs : List Report) (r : Report) → RiseByCell (x ∷ xs) → Contains xs r → x.cell.0 < r.cell.0
+pub first_below : (x : Report) (xs : List Report) (r : Report) → RiseByCell (x ∷ xs) → Contains xs r → x.cell.0 < r.cell.0
 first_below x xs r rise c =
     let less = rise 0 (suc c.0) r (omega arith) (let w = c.1 in omega (arith, w)) in
     let same = ap (λ (y : Report). y.cell.0) c.2 in
     omega (arith, less, same)
 
 -- the others rise too
-others_rise : (x : Report) (xs : List Report) → RiseByCell (x ∷ xs) → RiseByCell xs
+pub others_rise : (x : Report) (xs : List Report) → RiseByCell (x ∷ xs) → RiseByCell xs
 others_rise x xs rise i j d l w = rise (suc i) (suc j) d (omega (arith, l)) (omega (arith, w))
 
 -- an element is the first or one of the others
@@ -142,13 +142,13 @@ first_or_other x xs r (zero, w, e) = inl e
 first_or_other x xs r (suc k, w, e) = inr (k, omega (arith, w), e)
 
 -- an element that is greater than the first is one of the others
-among_others : (x : Report) (xs : List Report) (r : Report) → x.cell.0 < r.cell.0 → Contains (x ∷ xs) r → Contains xs r
+pub among_others : (x : Report) (xs : List Report) (r : Report) → x.cell.0 < r.cell.0 → Contains (x ∷ xs) r → Contains xs r
 among_others x xs r less c = elim (first_or_other x xs r c) [
   | inl same ↦ (let e = ap (λ (y : Report). y.cell.0) same in absurd (omega (arith, e, less)))
   | inr other ↦ other
 ]
 
-one_first : (x y : Report) (xs ys : List Report) → RiseByCell (x ∷ xs) → RiseByCell (y ∷ ys) → Contains (y ∷ ys) x → Contains (x ∷ xs) y
+pub one_first : (x y : Report) (xs ys : List Report) → RiseByCell (x ∷ xs) → RiseByCell (y ∷ ys) → Contains (y ∷ ys) x → Contains (x ∷ xs) y
     → x ≡ y
 one_first x y xs ys p q a b = elim (first_or_other y ys x a) [
   | inl same ↦ sym same
@@ -159,7 +159,7 @@ one_first x y xs ys p q a b = elim (first_or_other y ys x a) [
 ]
 
 -- two rising lists with the same elements are equal
-one_list : (xs ys : List Report) → RiseByCell xs → RiseByCell ys → ((r : Report) → Contains xs r → Contains ys r)
+pub one_list : (xs ys : List Report) → RiseByCell xs → RiseByCell ys → ((r : Report) → Contains xs r → Contains ys r)
     → ((r : Report) → Contains ys r → Contains xs r) → xs ≡ ys
 one_list [] [] p q f g = refl
 one_list [] (y ∷ ys) p q f g = let w = (g y (0, omega arith, refl)).1 in absurd (omega (arith, w))

@@ -1,8 +1,6 @@
 -- The names of declared cells, declaration after declaration.
-use Rattle.std.proofs.Common.{◌≡◌, ◌∙◌, ap, sym, refl, arith, inl, inr, ℕ, ◌+◌, ◌-◌, ◌<◌, List, ◌∷◌, true, false, nat_lt, drop, length}
-use Rattle.std.proofs.Common.{get_or}
+use Rattle.std.proofs.Common.{◌≡◌, ◌∙◌, ap, refl, arith, inl, inr, ℕ, ◌+◌, ◌-◌, ◌<◌, List, ◌∷◌, true, false, nat_lt}
 use Rattle.std.proofs.lemmas.Bool.{cases_lt}
-use Rattle.std.proofs.lemmas.List.{drop_more}
 use Rattle.pipe_model.specs.declared.tree.Declaration.{Declaration}
 use Rattle.pipe_model.specs.Language.CheckingRules.{cell_total}
 use Rattle.pipe_model.specs.Language.Programs.{declared_size}
@@ -20,10 +18,6 @@ later_name d rest k =
     let t : nat_lt (declared_size d.size + k) (declared_size d.size) ≡ false = grind arith in
     let m : declared_size d.size + k - declared_size d.size ≡ k = omega arith in
     rw t (ap (declared_name rest) m)
-
-pub split_declared : (cells : List Declaration) (i : ℕ) (d : Declaration) → i < length cells → d ≡ get_or cells i d
-    → drop i cells ≡ d ∷ drop (i + 1) cells
-split_declared cells i d l e = drop_more cells i d l ∙ ap (λ (x : Declaration). x ∷ drop (i + 1) cells) (sym e)
 
 pub total_after : (cells rest all : List Declaration) (d : Declaration) (before size : ℕ) → rest ≡ d ∷ all → size ≡ declared_size d.size
     → before + cell_total rest ≡ cell_total cells → before + size + cell_total all ≡ cell_total cells

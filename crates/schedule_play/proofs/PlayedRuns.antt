@@ -2,8 +2,6 @@
 use Rattle.std.proofs.Common.{◌≡◌, ◌∙◌, inl, inr, ap, ap₂, sym, subst, refl, arith, ℕ, zero, suc, ℤ, ◌<◌, ◌≤◌, ◌++◌, All, List, [], ◌∷◌}
 use Rattle.std.proofs.Common.{false, Option, Some, None, length, map, get_or}
 use Rattle.std.specs.Prelude.{◌↔◌, option_map}
-use Rattle.std.proofs.Common.{Ok, Err, Result}
-use Rattle.std.specs.Result.{IfOk}
 use Rattle.std.specs.Prelude.{IsTrue}
 use Rattle.std.proofs.lemmas.Bool.{cases_lt}
 use Rattle.cell_store.specs.ShardState.{IsStateAfter}
@@ -147,11 +145,6 @@ schedule_is_run p limit workers choices turns events well some busy are =
         }
 
 -- ---- results
-
--- what follows from what holds of an `Ok`
-pub map_ok : {T E : Type 0} {P Q : T → Type 0} → (r : Result T E) → IfOk r P → ((x : T) → P x → Q x) → IfOk r Q
-map_ok (Ok x) h f = f x h
-map_ok (Err e) h f = tt
 
 -- a play of the loop is what its player has at the end
 pub loop_play : (tree : SyntaxTree) (input : List ℤ) (limits : PlayLimits) (choices : List ℕ) (v : PlayState) (code : FlatCode) (cells : ℕ)

@@ -5,3 +5,4 @@ pub mod StepCounts
 pub mod Elided
 pub mod Elisions
 pub mod RunTraps
+pub mod Results

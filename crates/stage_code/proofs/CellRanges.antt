@@ -63,7 +63,7 @@ placed_more ranges grown ds d key range table named new is updates = λ x.
     ∙ found_by ds d x.now range (get (λ a b. slice_cmp nat_cmp a.now b.now) ranges x) (bytes_eq d.name x.now) refl new is (table x)
 
 -- what is left to declare
-left_from : (cells : List Declaration) (i : ℕ) (d : Declaration) → i < length cells → d ≡ get_or cells i d
+pub left_from : (cells : List Declaration) (i : ℕ) (d : Declaration) → i < length cells → d ≡ get_or cells i d
     → drop i cells ≡ d ∷ drop (i + 1) cells
 left_from cells i d h e = at_drop_more (λ ds. ds) cells i d h ∙ ap (λ x. x ∷ drop (i + 1) cells) (sym e)
 

@@ -5,7 +5,7 @@ use Rattle.std.specs.Prelude.{nat_le}
 use Rattle.std.specs.Str.{bytes_eq}
 use Rattle.pipe_model.specs.declared.bounds.TheConstants.{MOST_LOCALS}
 use Rattle.pipe_check.specs.RuleLaws.{ObeysThese}
-use Rattle.pipe_check.proofs.FirstFaults.{breaks_none}
+use Rattle.pipe_check.proofs.FirstFaults.{breaks_none, first_of, others_of}
 use Rattle.pipe_model.specs.declared.region.Region.{Region}
 use Rattle.pipe_model.specs.declared.region.Region.TheVariants as regions
 use Rattle.pipe_model.specs.declared.tree.Declaration.{Declaration}
@@ -24,7 +24,7 @@ use Rattle.stage_code.proofs.TreesInBounds.{IsKnown, HasCells, StaysInBounds, St
 use Rattle.stage_code.specs.Heights.{greater, height_of, height_of_statement, height_of_statements, greatest_height}
 use Rattle.stage_code.specs.Slots.{slot_of, one_later, locals_after, HasSlots, HaveSlots}
 use Rattle.stage_code.proofs.Heights.{greater_first, greater_second}
-use Rattle.stage_code.proofs.Lists.{all_first, all_rest, all_front, all_back}
+use Rattle.stage_code.proofs.Lists.{all_front, all_back}
 
 -- the mark breaks no rule
 abbrev pub Obeys : Mark → Type 0
@@ -149,13 +149,13 @@ expression_in_bounds : (cells : List Declaration) (bounds : Bounds) (scope : Sco
     → Obey (marks_of_expression scope e) → h + height_of e ≤ bounds.depth → StaysInBounds bounds (range_of 2 cells) scope.visible h e
 expression_in_bounds cells bounds scope s (Number n) h o low = omega (arith, low)
 expression_in_bounds cells bounds scope s (Name x) h o low =
-    (omega (arith, low), known cells bounds scope x s (all_first Obeys (mark_at scope (Plain x)) [] o))
+    (omega (arith, low), known cells bounds scope x s (first_of Obeys (mark_at scope (Plain x)) [] o))
 expression_in_bounds cells bounds scope s (Element x i) h o low =
-    let inner = expression_in_bounds cells bounds scope s i h (all_rest Obeys (mark_at scope (Indexed x)) (marks_of_expression scope i) o)
+    let inner = expression_in_bounds cells bounds scope s i h (others_of Obeys (mark_at scope (Indexed x)) (marks_of_expression scope i) o)
     low in (
       omega (arith, some_high i, low),
       has_cells cells bounds scope x s
-          (all_first Obeys (mark_at scope (Indexed x)) (marks_of_expression scope i) o),
+          (first_of Obeys (mark_at scope (Indexed x)) (marks_of_expression scope i) o),
       inner,
     )
 expression_in_bounds cells bounds scope s (And a b) h o low =
@@ -233,7 +233,7 @@ mutual
       → Obey (marks_of_statement scope s)
       → Continues cells bounds scope (after_statement scope s)
   continues cells bounds (Let x e) scope s o =
-      let room = let_room cells bounds scope x s (all_first Obeys (mark_at scope (DeclaredLocal x)) (marks_of_expression scope e) o) in
+      let room = let_room cells bounds scope x s (first_of Obeys (mark_at scope (DeclaredLocal x)) (marks_of_expression scope e) o) in
       let names = length-append scope.visible (x ∷ []) in
       let lets = length-append scope.lets (x ∷ []) in
       record {
@@ -293,26 +293,26 @@ mutual
       → height_of_statement t ≤ bounds.depth → StatementStaysInBounds bounds (range_of 2 cells) scope.visible t
   statement_in_bounds cells bounds (Let x e) scope s o low =
       let es = marks_of_expression scope e in
-      let room = let_room cells bounds scope x s (all_first Obeys (mark_at scope (DeclaredLocal x)) es o) in (
-        expression_in_bounds cells bounds scope s e 0 (all_rest Obeys (mark_at scope (DeclaredLocal x)) es o) (omega (arith, low)),
+      let room = let_room cells bounds scope x s (first_of Obeys (mark_at scope (DeclaredLocal x)) es o) in (
+        expression_in_bounds cells bounds scope s e 0 (others_of Obeys (mark_at scope (DeclaredLocal x)) es o) (omega (arith, low)),
         omega
             (arith, room, s.covered),
       )
   statement_in_bounds cells bounds (Assign x e) scope s o low =
       let es = marks_of_expression scope e in (
-        expression_in_bounds cells bounds scope s e 0 (all_rest Obeys (mark_at scope (Plain x)) es o) (omega (arith, low)),
+        expression_in_bounds cells bounds scope s e 0 (others_of Obeys (mark_at scope (Plain x)) es o) (omega (arith, low)),
         known cells bounds
-            scope x s (all_first Obeys (mark_at scope (Plain x)) es o),
+            scope x s (first_of Obeys (mark_at scope (Plain x)) es o),
       )
   statement_in_bounds cells bounds (AssignElement x i e) scope s o low =
       let is = marks_of_expression scope i in
       let es = marks_of_expression scope e in
-      let rest = all_rest Obeys (mark_at scope (Indexed x)) (is ++ es) o in
+      let rest = others_of Obeys (mark_at scope (Indexed x)) (is ++ es) o in
       let first = greater_first (height_of i) (suc (height_of e)) in
       let second = greater_second (height_of i) (suc (height_of e)) in (
         expression_in_bounds cells bounds scope s i 0 (all_front Obeys is es rest) (omega (arith, first, low)),
         expression_in_bounds cells bounds scope s e 1 (all_back Obeys is es rest) (omega (arith, second, low)),
-        has_cells cells bounds scope x s (all_first Obeys (mark_at scope (Indexed x)) (is ++ es) o),
+        has_cells cells bounds scope x s (first_of Obeys (mark_at scope (Indexed x)) (is ++ es) o),
       )
   statement_in_bounds cells bounds (Emit e) scope s o low =
       (expression_in_bounds cells bounds scope s e 0 o (omega (arith, low)), omega (arith, s.served))
@@ -342,7 +342,7 @@ mutual
         statements_in_bounds cells bounds a scope s (all_back Obeys es ma o) (omega (arith, second, low)),
       )
   statement_in_bounds cells bounds (Stage kind e) scope s o low =
-      expression_in_bounds cells bounds scope s e 0 (all_rest Obeys (mark_at scope StageWord) (marks_of_expression scope e) o)
+      expression_in_bounds cells bounds scope s e 0 (others_of Obeys (mark_at scope StageWord) (marks_of_expression scope e) o)
       (omega (arith, low))
   statement_in_bounds cells bounds (NextStage kind) scope s o low = tt
 

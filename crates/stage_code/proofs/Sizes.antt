@@ -9,13 +9,14 @@ use Rattle.pipe_model.specs.Language.SpellablePrograms.{expressions_of_statement
 use Rattle.pipe_model.specs.Language.SyntaxTree.{Expression, Number, Name, Element, And, Or, Binary, Unary, More, Take, Iter, Statement}
 use Rattle.pipe_model.specs.Language.SyntaxTree.{Let, Assign, AssignElement, Emit, If, While, Stage, NextStage, Statements, Empty, Then}
 use Rattle.pipe_model.specs.Language.SyntaxTree.{SyntaxTree}
+use Rattle.pipe_check.proofs.FirstFaults.{first_of, others_of}
 use Rattle.stage_code.specs.declared.code_bounds.TheConstants.{HIGHEST_STACK}
 use Rattle.stage_code.specs.CodeOfTrees.{expression_code, statement_code, statements_code, part_code, iteration_code, element_code}
 use Rattle.stage_code.specs.CodeOfTrees.{assign_code, assign_element_code, stage_code}
 use Rattle.stage_code.specs.Heights.{greater, height_of, height_of_statement, height_of_statements, greatest_height}
 use Rattle.stage_code.specs.Slots.{slot_of, locals_after}
 use Rattle.stage_code.specs.declared.instr.Instr.TheVariants as instrs
-use Rattle.stage_code.proofs.Lists.{all_first, all_rest, all_front, all_back}
+use Rattle.stage_code.proofs.Lists.{all_front, all_back}
 
 pub expression_short : (cells : List ℕ → Option CellRange) (scope : List (List ℕ)) (at : ℕ) (e : Expression)
     → length (expression_code cells scope at e) ≤ 2 * node_count e
@@ -247,25 +248,25 @@ low e h = omega (arith, half_high e, h)
 
 mutual
   statement_low : (s : Statement) → All IsShort (expressions_of_statement s) → height_of_statement s ≤ HIGHEST_STACK
-  statement_low (Let x e) h = omega (arith, low e (all_first IsShort e [] h))
-  statement_low (Assign x e) h = omega (arith, low e (all_first IsShort e [] h))
+  statement_low (Let x e) h = omega (arith, low e (first_of IsShort e [] h))
+  statement_low (Assign x e) h = omega (arith, low e (first_of IsShort e [] h))
   statement_low (AssignElement x i e) h =
-      greater_least (height_of i) (suc (height_of e)) HIGHEST_STACK (omega (arith, low i (all_first IsShort i (e ∷ []) h)))
-      (omega (arith, low e (all_first IsShort e [] (all_rest IsShort i (e ∷ []) h))))
-  statement_low (Emit e) h = omega (arith, low e (all_first IsShort e [] h))
+      greater_least (height_of i) (suc (height_of e)) HIGHEST_STACK (omega (arith, low i (first_of IsShort i (e ∷ []) h)))
+      (omega (arith, low e (first_of IsShort e [] (others_of IsShort i (e ∷ []) h))))
+  statement_low (Emit e) h = omega (arith, low e (first_of IsShort e [] h))
   statement_low (If e a b) h =
       let xs = expressions_of_statements a in
       let ys = expressions_of_statements b in
-      let rest = all_rest IsShort e (xs ++ ys) h in
+      let rest = others_of IsShort e (xs ++ ys) h in
       greater_least (height_of e) (greater (height_of_statements a) (height_of_statements b)) HIGHEST_STACK
-      (omega (arith, low e (all_first IsShort e (xs ++ ys) h)))
+      (omega (arith, low e (first_of IsShort e (xs ++ ys) h)))
       (greater_least (height_of_statements a) (height_of_statements b) HIGHEST_STACK (statements_low a (all_front IsShort xs ys rest))
       (statements_low b (all_back IsShort xs ys rest)))
   statement_low (While e a) h =
       let xs = expressions_of_statements a in
-      greater_least (height_of e) (height_of_statements a) HIGHEST_STACK (omega (arith, low e (all_first IsShort e xs h)))
-      (statements_low a (all_rest IsShort e xs h))
-  statement_low (Stage kind e) h = omega (arith, low e (all_first IsShort e [] h))
+      greater_least (height_of e) (height_of_statements a) HIGHEST_STACK (omega (arith, low e (first_of IsShort e xs h)))
+      (statements_low a (others_of IsShort e xs h))
+  statement_low (Stage kind e) h = omega (arith, low e (first_of IsShort e [] h))
   statement_low (NextStage kind) h = omega arith
 
   statements_low : (ss : Statements) → All IsShort (expressions_of_statements ss) → height_of_statements ss ≤ HIGHEST_STACK
@@ -284,9 +285,9 @@ program_low tree h =
     let bs = expressions_of_statements tree.body in
     let ls = expressions_of_statements tree.last in
     let after_it = all_back IsShort is (tree.test ∷ (bs ++ ls)) h in
-    let loops = all_rest IsShort tree.test (bs ++ ls) after_it in
+    let loops = others_of IsShort tree.test (bs ++ ls) after_it in
     greater_least (height_of_statements tree.init) _ HIGHEST_STACK
     (statements_low tree.init (all_front IsShort is (tree.test ∷ (bs ++ ls)) h))
-    (greater_least (height_of tree.test) _ HIGHEST_STACK (omega (arith, low tree.test (all_first IsShort tree.test (bs ++ ls) after_it)))
+    (greater_least (height_of tree.test) _ HIGHEST_STACK (omega (arith, low tree.test (first_of IsShort tree.test (bs ++ ls) after_it)))
     (greater_least (height_of_statements tree.body) (height_of_statements tree.last) HIGHEST_STACK
     (statements_low tree.body (all_front IsShort bs ls loops)) (statements_low tree.last (all_back IsShort bs ls loops))))

@@ -3,22 +3,18 @@ use Rattle.std.proofs.Common.{◌≡◌, ◌∙◌, ℕ, ◌+◌, ◌<◌, ◌�
 use Rattle.std.proofs.Common.{Option, length-append, append_assoc, append-nil, length-set}
 use Rattle.std.specs.Prelude.{slice_set}
 use Rattle.std.proofs.Math.Seq.{take-append_seam}
-use Rattle.std.proofs.lemmas.List.{drop_all, at_drop_more}
+use Rattle.std.proofs.lemmas.List.{drop_all}
 use Rattle.pipe_model.specs.declared.tree.Stmt.{Stmt}
 use Rattle.pipe_model.specs.Language.Evaluation.{CellRange}
 use Rattle.pipe_model.specs.Language.SyntaxTree.{Expression, Statement, Let, Assign, AssignElement, Emit, If, While, Stage, NextStage}
 use Rattle.pipe_model.specs.Language.SyntaxTree.{Statements, Empty, Then, statement_of, statements_of}
+use Rattle.pipe_check.proofs.Statements.{statements_from}
 use Rattle.stage_code.specs.declared.code_bounds.TheConstants.{LONGEST_CODE}
 use Rattle.stage_code.specs.CodeOfTrees.{expression_code, statement_code, statements_code}
 use Rattle.stage_code.specs.Fitting.{CodeFits}
 use Rattle.stage_code.specs.Slots.{HasSlots, HaveSlots, locals_after, locals_at_end}
 use Rattle.stage_code.specs.declared.instr.Instr.{Instr}
 use Rattle.stage_code.specs.declared.instr.Instr.TheVariants as instrs
-
--- the rest of the list at an index: one statement, and those after it
-statements_from : (ss : List Stmt) (i : ℕ) (s : Stmt) → i < length ss → s ≡ get_or ss i s
-    → statements_of (drop i ss) ≡ Then (statement_of s) (statements_of (drop (i + 1) ss))
-statements_from ss i s h e = at_drop_more statements_of ss i s h ∙ ap (λ x. Then (statement_of x) (statements_of (drop (i + 1) ss))) (sym e)
 
 pub statement_fits : (cells : List ℕ → Option CellRange) (scope first_scope : List (List ℕ)) (ss : List Stmt) (i : ℕ) (now old : List Instr)
     (all : Statements) (s : Stmt) → i < length ss → s ≡ get_or ss i s

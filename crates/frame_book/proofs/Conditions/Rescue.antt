@@ -4,13 +4,14 @@ use Rattle.std.proofs.Common.{Option, Some, None, inl, inr, IsSome}
 use Rattle.std.proofs.lemmas.Bool.{cases_lt}
 use Rattle.pipe_model.specs.Runs.Allowed.{MayBegin, IsClosed, LastEndedFirstInstance}
 use Rattle.pipe_model.specs.Runs.Run.{IsFinished}
-use Rattle.pipe_model.specs.Runs.State.{State, Frame, frame_at, alive, alive_in, alive_one, is_completed}
-use Rattle.pipe_model.specs.declared.status.Status.{Status}
-use Rattle.pipe_model.specs.declared.status.Status.TheVariants.{Running, Pending, Completed}
+use Rattle.pipe_model.specs.Runs.State.{State, Frame, frame_at, alive, alive_in, is_completed}
+use Rattle.pipe_model.specs.declared.status.Status.TheVariants.{Running}
 use Rattle.pipe_frame.specs.CallResults.{CanGoOn}
 use Rattle.pipe_frame.specs.TokenFields.{fields_of}
 use Rattle.run_laws.proofs.RunStates.FrameMoves.{IsSound}
 use Rattle.run_laws.proofs.RunStates.Frames.{frame_at_within}
+use Rattle.run_laws.proofs.RunStates.Completed.{completed_not_alive}
+use Rattle.run_laws.proofs.RunStates.LoopEnds.{completed_by, goes_on_by, ended_by_going}
 use Rattle.frame_book.specs.BookStates.{Kept, Spent, state_of}
 use Rattle.frame_book.specs.RowsOfFrames.{AreRows, RowGoesOn}
 use Rattle.frame_book.specs.CallEffects.{IsReady}
@@ -19,7 +20,6 @@ use Rattle.frame_book.proofs.Conditions.MayEnter.{free_is_may}
 use Rattle.frame_book.proofs.Keeping.Resume.{kept_token}
 use Rattle.frame_book.proofs.Iterations.FrameRows.{frame_of_row, row_of_frame}
 use Rattle.frame_book.proofs.Iterations.ChangedRows.{map_at}
-use Rattle.frame_book.proofs.Iterations.SpareRows.{goes_on_by, ended_by_going}
 
 -- a token that is there
 some_token : {X : Type 0} → (o : Option X) → IsSome o → (x : X) × (o ≡ Some x)
@@ -57,16 +57,6 @@ can_is {M} going b i h = (
   ]),
 )
 
-completed_by : (w : Status) → alive_one w ≡ 0 → is_completed w ≡ true
-completed_by Running e = absurd (omega (arith, e))
-completed_by (Pending k n) e = absurd (omega (arith, e))
-completed_by (Completed x) e = refl
-
-dead_by : (w : Status) → is_completed w ≡ true → alive_one w ≡ 0
-dead_by Running e = absurd (let q : false ≡ true = e in cc)
-dead_by (Pending k n) e = absurd (let q : false ≡ true = e in cc)
-dead_by (Completed x) e = refl
-
 -- if none is alive, all have ended
 all_completed : (fs : List Frame) → alive_in fs ≡ 0 → (i : ℕ) (f : Frame) → frame_at fs i ≡ Some f → is_completed f.status ≡ true
 all_completed [] a i f e = absurd (let q : None ≡ Some f = e in cc)
@@ -76,7 +66,7 @@ all_completed (x ∷ fs) a (suc i) f e = all_completed fs (omega (arith, a)) i f
 
 pub none_alive : (fs : List Frame) → ((i : ℕ) (f : Frame) → frame_at fs i ≡ Some f → is_completed f.status ≡ true) → alive_in fs ≡ 0
 none_alive [] h = refl
-none_alive (x ∷ fs) h = let a = dead_by x.status (h 0 x refl) in let r = none_alive fs (λ i f e. h (suc i) f e) in omega (arith, a, r)
+none_alive (x ∷ fs) h = let a = completed_not_alive x.status (h 0 x refl) in let r = none_alive fs (λ i f e. h (suc i) f e) in omega (arith, a, r)
 
 -- closed, and none alive: finished
 pub finished_by : (s : State) → s.stopped ≡ false → IsClosed s.frames → alive s ≡ 0 → IsFinished s

@@ -5,7 +5,7 @@ use Rattle.pipe_model.specs.declared.node.Node.{Node}
 use Rattle.pipe_model.specs.declared.status.Status.{Status}
 use Rattle.pipe_model.specs.declared.status.Status.TheVariants.{Running, Pending, Completed}
 use Rattle.pipe_model.specs.Language.SyntaxTree.{SyntaxTree}
-use Rattle.pipe_model.specs.Runs.Allowed.{EndedFirstInstance, HasPassed, IsClosed, IsRunning, LeftHasPassed, MayBegin, MayEnter}
+use Rattle.pipe_model.specs.Runs.Allowed.{EndedFirstInstance, IsClosed, IsRunning, LeftHasPassed, MayBegin, MayEnter}
 use Rattle.pipe_model.specs.Runs.Run.{IsFinished}
 use Rattle.pipe_model.specs.Runs.State.{Frame, State, alive, frame_at, is_completed}
 use Rattle.run_laws.proofs.RunStates.FrameMoves.{IsSound}
@@ -13,6 +13,7 @@ use Rattle.pipe_frame.specs.CallResults.{CanGoOn}
 use Rattle.pipe_frame.specs.Ties.{Tie}
 use Rattle.pipe_frame.specs.TokenFields.{fields_of}
 use Rattle.pipe_frame.specs.declared.token.FrameToken.{FrameToken}
+use Rattle.run_laws.proofs.RunStates.Completed.{completed_passes}
 use Rattle.frame_book.specs.BookStates.{IsOut, Spent, item_or, state_of}
 use Rattle.frame_book.specs.CallEffects.{IsReady}
 use Rattle.frame_book.specs.Invariant.{IsBook}
@@ -54,11 +55,6 @@ first_alive (x ∷ fs) = by_status (is_completed x.status) refl (first_alive fs)
     })
     by_status true e (inr all) = inr (λ i f is. ended e i f (λ k q. all k f) is)
 
-passed_by_end : (w : Status) (nodes : List Node) (n : ℤ) → is_completed w ≡ true → HasPassed w nodes n
-passed_by_end Running nodes n e = absurd (let q : false ≡ true = e in cc)
-passed_by_end (Pending k m) nodes n e = absurd (let q : false ≡ true = e in cc)
-passed_by_end (Completed x) nodes n e = tt
-
 ended_first_by_end : (w : Status) (nodes : List Node) → is_completed w ≡ true → EndedFirstInstance w nodes
 ended_first_by_end Running nodes e = absurd (let q : false ≡ true = e in cc)
 ended_first_by_end (Pending k m) nodes e = tt
@@ -67,7 +63,7 @@ ended_first_by_end (Completed x) nodes e = tt
 left_passed : (fs : List Frame) (i : ℕ) (n : ℤ) → ((j : ℕ) (f : Frame) → j < i → frame_at fs j ≡ Some f → is_completed f.status ≡ true)
     → LeftHasPassed fs i n
 left_passed fs zero n before = tt
-left_passed fs (suc j) n before = λ f is. passed_by_end f.status f.nodes n (before j f (omega arith) is)
+left_passed fs (suc j) n before = λ f is. completed_passes f.status f.nodes n (before j f (omega arith) is)
 
 -- if nothing can be done and the run is not over, an instance runs
 pub one_runs : (limit : ℕ) (s : State) (closed : Bool) → IsTrue closed ↔ IsClosed s.frames → IsSound s.frames → 0 < limit

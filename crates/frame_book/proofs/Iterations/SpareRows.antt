@@ -1,14 +1,12 @@
 -- Rows that no iteration has used yet.
 use Rattle.std.proofs.Common.{◌≡◌, ℕ, suc, pos, ◌+◌, ◌<◌, ◌≤◌, List, [], ◌∷◌, ◌++◌, length, length-append, map, get_or, refl, ap, ap₂, sym}
-use Rattle.std.proofs.Common.{◌∙◌, arith, subst, true, Some, None, inl, inr, reverse, append_assoc, All}
-use Rattle.std.proofs.lemmas.Bool.{cases_eq}
+use Rattle.std.proofs.Common.{◌∙◌, arith, subst, true, Some, None, reverse, append_assoc, All}
 use Rattle.std.proofs.lemmas.List.{length-map, length-reverse, map-append, reverse-append, get_or-append-add}
 use Rattle.std.proofs.Math.Seq.{get_or-append_seam}
 use Rattle.std.proofs.lemmas.List.Elements.{All-pop}
 use Rattle.pipe_model.specs.declared.column.ColumnEnd.{ColumnEnd}
 use Rattle.pipe_model.specs.declared.node.Kind.TheVariants.{Zero}
-use Rattle.pipe_model.specs.declared.node.Node.{Node}
-use Rattle.pipe_model.specs.Runs.Allowed.{ClosesLoop, ContinuesLoop, EndedFirstInstance}
+use Rattle.pipe_model.specs.Runs.Allowed.{ContinuesLoop}
 use Rattle.pipe_model.specs.Pipelines.Behaviour.{Action, Accessed, Staged, Ended, Behaviour, node_of, Reading, Writing, Staging, Ending}
 use Rattle.pipe_model.specs.Pipelines.Behaviour.{Performs, nodes_in, column_of, trace_end, closes_at_once}
 use Rattle.pipe_model.specs.Pipelines.Pipeline.{Pipeline, AlwaysClosesLoop}
@@ -58,22 +56,6 @@ closes_alone (Ending f) (Ended e ∷ xs) l p = (
   (λ x q. (let z : Ended e ≡ Ended f = p.0 in let s : e ≡ f = cc in let w : e ≡ x = (let y : Some e ≡ Some x = q in cc) in
       ap closes_at_once (sym w ∙ s) ∙ l)),
 )
-
--- instance 0 has ended and did not close the loop: the loop goes on
-pub goes_on_by : (w : Status) (nodes : List Node) → 0 < length nodes → EndedFirstInstance w nodes → (ClosesLoop w nodes → ⊥)
-    → ContinuesLoop w nodes
-goes_on_by Running nodes l e n = e
-goes_on_by (Pending k m) nodes l e n = tt
-goes_on_by (Completed x) nodes l e n = λ c. elim (cases_eq (length nodes) 1) [
-  | inl s ↦ absurd (n (c, s))
-  | inr m ↦ omega (arith, l, m)
-]
-
--- and the other way round
-pub ended_by_going : (w : Status) (nodes : List Node) → ContinuesLoop w nodes → EndedFirstInstance w nodes × (ClosesLoop w nodes → ⊥)
-ended_by_going Running nodes c = (c, (λ x. x))
-ended_by_going (Pending k m) nodes c = (tt, (λ x. x))
-ended_by_going (Completed x) nodes c = (tt, (λ y. (let l = c y.0 in let e = y.1 in omega (arith, l, e))))
 
 -- an iteration that always closes the loop does not go on
 pub last_goes_not : (f : Frame) (d : Behaviour) (xs : List Action) → AlwaysClosesLoop d → Performs d xs → MatchesFrame f xs

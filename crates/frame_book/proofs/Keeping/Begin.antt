@@ -35,9 +35,11 @@ use Rattle.run_laws.proofs.RunStates.FrameMoves.{frame_at_begun}
 use Rattle.run_laws.proofs.RunStates.Frames.{frame_at_push, frame_at_last, frame_at_within, frame_at_exists, nodes_at_frame, nodes_at_past}
 use Rattle.run_laws.proofs.RunStates.GrowingColumns.{nodes_at_begun}
 use Rattle.run_laws.proofs.RunStates.LaterEdges.{columns_of_frames}
-use Rattle.frame_book.specs.BookStates.{BookState, events_of, last_ticket, with_events, replies_at, timed_access, made, Out, state_of}
+use Rattle.run_laws.proofs.RunStates.LoopEnds.{goes_on_by}
+use Rattle.order_2d.proofs.ListsSoFar.{length-log_entries}
+use Rattle.frame_book.specs.BookStates.{events_of, last_ticket, with_events, timed_access, made, Out}
 use Rattle.pipe_frame.specs.Replies.{replies_of}
-use Rattle.frame_book.specs.Rooms.{IsPlanned, rooms_of, IsFresh, total, room_in}
+use Rattle.frame_book.specs.Rooms.{IsPlanned, rooms_of, IsFresh, room_in}
 use Rattle.frame_book.specs.Invariant.{IsBook, HasActions, MatchesFrame, actions_in}
 use Rattle.frame_book.specs.RowsOfFrames.{IsRowOf, AreRows, token_at, no_marks}
 use Rattle.frame_book.specs.KeptTokens.{IsKeptToken, IsAtHome}
@@ -51,12 +53,12 @@ use Rattle.frame_book.proofs.BookLogs.AtEvents.{after_event}
 use Rattle.frame_book.proofs.Iterations.Totals.{rows_fit}
 use Rattle.frame_book.proofs.BookLogs.LogEntries.{last_ticket_with, length_with, entry_of, end_actions-push, rise_with, events_of_with}
 use Rattle.frame_book.proofs.BookLogs.LogEntries.{starts_of-push, state_after-push}
-use Rattle.frame_book.proofs.Iterations.FrameRows.{row_of_frame, rows_length, row_at_within}
+use Rattle.frame_book.proofs.Iterations.FrameRows.{row_of_frame, rows_length}
 use Rattle.frame_book.proofs.Iterations.ChangedRows.{map_at}
-use Rattle.frame_book.proofs.Iterations.SpareRows.{sized_pop, fresh_pop, room_of_spare, few_rows, spare_room, spare_left, goes_on_by}
+use Rattle.frame_book.proofs.Iterations.SpareRows.{sized_pop, fresh_pop, room_of_spare, few_rows, spare_room, spare_left}
 use Rattle.frame_book.proofs.Iterations.SpareRows.{total_append}
 use Rattle.frame_book.proofs.StartedInstances.GrownMarks.{down_grows, right_grows, marks_grow, marks_same, kept_grows, names_seen}
-use Rattle.frame_book.proofs.StartedInstances.GrownMarks.{knows_new, length_entries}
+use Rattle.frame_book.proofs.StartedInstances.GrownMarks.{knows_new}
 use Rattle.frame_book.proofs.BookLogs.TokensOfStates.{token_at_events}
 use Rattle.frame_book.proofs.StartedInstances.StartRows.{head_marks_is, head_marks_none}
 
@@ -194,10 +196,10 @@ module _ {M : Type 0} (Whole : SyntaxTree → M → Type 0) (ReadyAt : SyntaxTre
 
   -- the number of entries of the lists
   down_length : length b.orders.down.log ≡ 2 * length starts
-  down_length = ap length h.down ∙ length_entries (down_first_taken (start_number starts)) 0 starts
+  down_length = ap length h.down ∙ length-log_entries (down_first_taken (start_number starts)) 0 starts
 
   right_length : length b.orders.right.log ≡ 2 * length starts
-  right_length = ap length h.right ∙ length_entries (right_first_taken (own_columns c) (start_number starts)) 0 starts
+  right_length = ap length h.right ∙ length-log_entries (right_first_taken (own_columns c) (start_number starts)) 0 starts
 
   -- the head of the last row has marks
   pub there : (r : IterationRow M) → row_at b.rows (length b.rows - 1) ≡ Some r → 0 < length r.marks

@@ -38,6 +38,7 @@ use Rattle.run_laws.proofs.RunStates.FrameMoves.{IsMove, moves_entered, entered_
 use Rattle.run_laws.proofs.RunStates.Frames.{frame_at_updated, frame_at_exists, nodes_at_frame}
 use Rattle.run_laws.proofs.RunStates.GrowingColumns.{nodes_at_other, nodes_at_moved}
 use Rattle.run_laws.proofs.RunStates.LaterEdges.{columns_of_frames}
+use Rattle.order_2d.proofs.ListsSoFar.{length-log_entries}
 use Rattle.frame_book.specs.BookStates.{BookState, events_of, last_ticket, with_events, replies_at, Out, Spent, Kept}
 use Rattle.pipe_frame.specs.Replies.{replies_of}
 use Rattle.frame_book.specs.Invariant.{IsBook, HasActions, MatchesFrame, actions_in, pending_nodes}
@@ -62,7 +63,7 @@ use Rattle.frame_book.proofs.Iterations.FrameRows.{row_of_frame, rows_length, ro
 use Rattle.frame_book.proofs.Iterations.ChangedRows.{rows_set, token_at_set, token_at_other, map_set_same, map_at, traces_of_row}
 use Rattle.frame_book.proofs.StartedInstances.StartMarks.{parent_marks, takes_right_below}
 use Rattle.frame_book.proofs.StartedInstances.GrownMarks.{down_grows, right_grows, marks_grow, marks_same, kept_grows, names_seen}
-use Rattle.frame_book.proofs.StartedInstances.GrownMarks.{knows_new, length_entries}
+use Rattle.frame_book.proofs.StartedInstances.GrownMarks.{knows_new}
 use Rattle.frame_book.proofs.BookLogs.TokensOfStates.{token_at_events}
 
 module _ {M : Type 0} (Whole : SyntaxTree → M → Type 0) (ReadyAt : SyntaxTree → List ℤ → M → ℕ → List (List ℤ) → Type 0) (tie : M → Tie)
@@ -175,10 +176,10 @@ module _ {M : Type 0} (Whole : SyntaxTree → M → Type 0) (ReadyAt : SyntaxTre
 
   -- the number of entries of the lists
   down_length : length b.orders.down.log ≡ 2 * length starts
-  down_length = ap length h.down ∙ length_entries (down_first_taken (start_number starts)) 0 starts
+  down_length = ap length h.down ∙ length-log_entries (down_first_taken (start_number starts)) 0 starts
 
   right_length : length b.orders.right.log ≡ 2 * length starts
-  right_length = ap length h.right ∙ length_entries (right_first_taken (own_columns c) (start_number starts)) 0 starts
+  right_length = ap length h.right ∙ length-log_entries (right_first_taken (own_columns c) (start_number starts)) 0 starts
 
   -- the lists have room
   pub room : HasRoom b.orders

@@ -8,7 +8,7 @@ use Rattle.pipe_model.specs.Runs.Allowed.{LeftHasPassed}
 use Rattle.pipe_model.specs.Races.Columns.{nodes_at}
 use Rattle.pipe_model.specs.Orders.OrderMarks.{instance_marks, start_marks}
 use Rattle.pipe_model.specs.Runs.State.{Frame, State, frame_at, own_columns}
-use Rattle.pipe_model.specs.Orders.TwoOrders.{log_entries, down_first_log, right_first_log, down_first_taken, right_first_taken}
+use Rattle.pipe_model.specs.Orders.TwoOrders.{down_first_log, right_first_log, down_first_taken, right_first_taken}
 use Rattle.pipe_model.specs.Orders.TwoOrders.{first_placeholder}
 use Rattle.pipe_model.specs.Orders.Starts.{start_number}
 use Rattle.pipe_frame.specs.RunningTokens.{left_joined}
@@ -19,14 +19,10 @@ use Rattle.run_laws.proofs.ListOrders.StartsOfRuns.{IsStartSound, Grew, are_colu
 use Rattle.run_laws.proofs.RunStates.Frames.{nodes_at_frame}
 use Rattle.run_laws.proofs.RunStates.LaterEdges.{columns_of_frames}
 use Rattle.pipe_frame.specs.Replies.{replies_of}
+use Rattle.order_2d.proofs.ListsSoFar.{length-log_entries}
 use Rattle.frame_book.specs.KeptTokens.{IsKeptToken}
 use Rattle.frame_book.specs.CallEffects.{seen_whole}
 use Rattle.frame_book.proofs.StartedInstances.StartMarks.{marks_stay, marks_new, marks_by_number}
-
--- two entries for each start
-pub length_entries : (taken : ℕ → ℕ → ℕ) (m : ℕ) (xs : List NodeId) → length (log_entries taken m xs) ≡ 2 * length xs
-length_entries taken m [] = refl
-length_entries taken m (x ∷ xs) = let h = length_entries taken (m + 1) xs in omega (arith, h)
 
 -- lists that were seen keep their names
 pub names_seen : (l : Option SeenLists) (o : OrderPair) (names : ListIdentities) → AreSeenLists l names.down names.right
@@ -56,7 +52,7 @@ module _ (fs fs' : List Frame) (starts : List NodeId) (x : NodeId) (h : IsStartS
       (start_number starts) x.iteration x.index → log ++ taken ∷ (1 + length log) ∷ [] ≡ down_first_log (starts ++ x ∷ [])
   down_grows log taken e t =
       let n : 1 + length log ≡ first_placeholder (length starts) =
-      (let a = ap length e in let b = length_entries (down_first_taken (start_number starts)) 0 starts in omega (arith, a, b)) in
+      (let a = ap length e in let b = length-log_entries (down_first_taken (start_number starts)) 0 starts in omega (arith, a, b)) in
       ap₂ (λ l a. l ++ a ∷ (1 + length log) ∷ []) e t
       ∙ (ap (λ k. down_first_log starts ++ down_first_taken (start_number starts) x.iteration x.index ∷ k ∷ []) n
       ∙ sym (down_log_grows (columns_of_frames fs) (columns_of_frames fs') starts x (are_columns fs' (starts ++ x ∷ []) g.sound) h.ordered
@@ -68,7 +64,7 @@ module _ (fs fs' : List Frame) (starts : List NodeId) (x : NodeId) (h : IsStartS
       → log ++ taken ∷ (1 + length log) ∷ [] ≡ right_first_log (columns_of_frames fs') (starts ++ x ∷ [])
   right_grows log taken e t =
       let n : 1 + length log ≡ first_placeholder (length starts) =
-      (let a = ap length e in let b = length_entries (right_first_taken (columns_of_frames fs) (start_number starts)) 0 starts in
+      (let a = ap length e in let b = length-log_entries (right_first_taken (columns_of_frames fs) (start_number starts)) 0 starts in
       omega (arith, a, b)) in
       ap₂ (λ l a. l ++ a ∷ (1 + length log) ∷ []) e t
       ∙ (ap (λ k. right_first_log (columns_of_frames fs) starts ++ right_first_taken (columns_of_frames fs')

@@ -22,7 +22,7 @@ pub record AddsNode (columns columns' : List (List Node)) (i : ℕ) (new : Node)
   pub within : i < length columns'
 
 -- the source of an edge across is in the left column
-cross_source_within : {left right : List Node} {j k : ℕ} → CrossEdge left right j k → j < length left
+pub cross_source_within : {left right : List Node} {j k : ℕ} → CrossEdge left right j k → j < length left
 cross_source_within (HeadCross x y) = x
 cross_source_within (WaitCross j k u v it) = it.within
 

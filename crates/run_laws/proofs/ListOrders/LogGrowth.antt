@@ -17,7 +17,7 @@ use Rattle.run_laws.proofs.ListOrders.OneMoreStart.{GrowsBy, starts_grown, start
 use Rattle.run_laws.proofs.ListOrders.StartNumbers.{up_ordered, head_ordered, left_ordered}
 
 -- the entries of one more start
-log_entries-push : (taken : ℕ → ℕ → ℕ) (m : ℕ) (xs : List NodeId) (x : NodeId)
+pub log_entries-push : (taken : ℕ → ℕ → ℕ) (m : ℕ) (xs : List NodeId) (x : NodeId)
     → log_entries taken m (xs ++ x ∷ []) ≡ log_entries taken m xs ++ taken x.iteration x.index
     ∷ first_placeholder (m + length xs) ∷ []
 log_entries-push taken m [] x =

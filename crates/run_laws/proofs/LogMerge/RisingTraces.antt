@@ -1,5 +1,5 @@
 -- The actions of an iteration in a merge rise, so they are its trace.
-use Rattle.std.proofs.Common.{List, ◌≡◌, [], ◌∷◌, inl, sym, ◌∙◌, inr, ap, arith, refl, ℕ, ◌==◌, ◌<◌, ◌%◌, Bool, ◌++◌, true, false, subst}
+use Rattle.std.proofs.Common.{List, ◌≡◌, [], ◌∷◌, inl, sym, ◌∙◌, inr, ap, arith, refl, ℕ, ◌<◌, ◌%◌, Bool, ◌++◌, true, false, subst}
 use Rattle.std.proofs.Common.{map}
 use Rattle.pipe_model.specs.Pipelines.Behaviour.{Staged, Ended, Accessed, Action, Performs}
 use Rattle.pipe_model.specs.Runs.ControlRun.{is_access}
@@ -23,7 +23,7 @@ use Rattle.pipe_model.proofs.Members.{none_among, among_either, only_one}
 use Rattle.run_laws.proofs.LogMerge.Entries.{timed}
 
 -- in a rising list equal tickets belong to one action
-same_ticket : (xs : List TimedAction) (x y : TimedAction) → TicketsRise xs → Among x xs → Among y xs
+pub same_ticket : (xs : List TimedAction) (x y : TimedAction) → TicketsRise xs → Among x xs → Among y xs
     → x.ticket ≡ y.ticket → x ≡ y
 same_ticket [] x y r m n e = absurd (none_among x m)
 same_ticket (z ∷ xs) x y r m n e = elim (among_either x (z ∷ []) xs m) [

@@ -18,7 +18,7 @@ completed_passes (Pending k m) nodes n e = absurd (false≢true e)
 completed_passes (Completed d) nodes n e = tt
 
 -- an iteration that has ended is not alive
-completed_not_alive : (w : Status) → is_completed w ≡ true → alive_one w ≡ 0
+pub completed_not_alive : (w : Status) → is_completed w ≡ true → alive_one w ≡ 0
 completed_not_alive Running e = absurd (false≢true e)
 completed_not_alive (Pending k n) e = absurd (false≢true e)
 completed_not_alive (Completed d) e = refl

@@ -62,7 +62,7 @@ iterations_begin_in_turn = of_each_run (λ limit events s r.
     ))
 
 -- an iteration that is not alive has ended
-completed_by : (w : Status) → alive_one w ≡ 0 → is_completed w ≡ true
+pub completed_by : (w : Status) → alive_one w ≡ 0 → is_completed w ≡ true
 completed_by Running e = absurd (omega (arith, e))
 completed_by (Pending k n) e = absurd (omega (arith, e))
 completed_by (Completed x) e = refl

@@ -1,6 +1,5 @@
 -- What a player begins with.
-use Rattle.std.proofs.Common.{◌≡◌, le_trans, negsuc, sym, subst, refl, ℕ, ℤ, pos, ◌+◌, ◌*◌, ◌≤◌, arith, List, [], Some, None, append-nil}
-use Rattle.std.specs.Prelude.{◌≤ℤ◌}
+use Rattle.std.proofs.Common.{◌≡◌, le_trans, sym, subst, refl, ℕ, ℤ, ◌+◌, ◌*◌, ◌≤◌, arith, List, [], Some, None, append-nil}
 use Rattle.std.proofs.Math.Nat.{mul-le-mul_left, mul-le-mul_right}
 use Rattle.cell_store.specs.ShardState.{IsStateAfter, ShardState}
 use Rattle.language_laws.proofs.WellFormed.{accepted_is_well_formed}
@@ -18,14 +17,11 @@ use Rattle.frame_book.specs.NewBooks.{new_book}
 use Rattle.frame_book.proofs.PlannedPrograms.{accepted_programs_are_planned}
 use Rattle.stage_code.specs.FlatCode.{FlatCode}
 use Rattle.stage_code.specs.LimitRanges.{HasRangesOfLimits}
+use Rattle.serial_elision.proofs.PartRuns.{natural_most}
 use Rattle.schedule_play.specs.OneAccess.{HasAllCells}
 use Rattle.schedule_play.specs.Openings.{no_lists}
 use Rattle.schedule_play.specs.PlayStates.{HasShortRuns, IsPlay}
 use Rattle.schedule_play.specs.ScheduleStates.{IsScheduleOf, ScheduleState}
-
-natural_most : (z : ℤ) (n : ℕ) → z ≤ℤ pos n → natural z ≤ n
-natural_most (pos m) n h = grind (arith, h)
-natural_most (negsuc m) n h = omega arith
 
 -- runs of an accepted program are short
 short_runs : (tree : SyntaxTree) (input : List ℤ) (limit : ℕ) → BreaksNoRule tree → HasRangesOfLimits tree.limits

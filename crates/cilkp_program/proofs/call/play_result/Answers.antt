@@ -1,5 +1,5 @@
 use Rattle.pipe_model.specs.Language.SyntaxTree.{tree_of}
-use Rattle.program_ends.proofs.ElidedRuns.{map_ok}
+use Rattle.serial_elision.proofs.Results.{map_ok}
 use Rattle.cilkp_program.proofs.SeededPlays.{play_returned}
 use Rattle.cilkp_program.proofs.call.play_result.Goals as goal
 

@@ -1,4 +1,4 @@
-use Rattle.pipe_engine.proofs.EngineRuns.{map_ok}
+use Rattle.serial_elision.proofs.Results.{map_ok}
 use Rattle.pipe_engine.proofs.run.run.Goals as goal
 
 pub returns-clause-silent : goal.returns-clause-silent

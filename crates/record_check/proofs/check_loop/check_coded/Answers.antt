@@ -3,7 +3,7 @@ use Rattle.pipe_model.specs.Language.ProgramsOfTrees.{pipeline_after_init}
 use Rattle.pipe_model.specs.Language.SyntaxTree.{tree_of}
 use Rattle.pipe_model.specs.Runs.RunLogs.{state_after}
 use Rattle.schedule_play.specs.PlayStates.{pipeline_played}
-use Rattle.schedule_play.proofs.PlayedRuns.{map_ok}
+use Rattle.serial_elision.proofs.Results.{map_ok}
 use Rattle.record_check.specs.CheckedLoops.{IsFirstStop, IsLoopAnswer, IsNoRun, with_stop}
 use Rattle.record_check.specs.FollowedEvents.{HasFollowed}
 use Rattle.record_check.proofs.CheckedRuns.{all_events, all_followed, no_stops, refused_after, refused_before}

@@ -3,7 +3,7 @@ use Rattle.std.specs.Prelude.{is_some}
 use Rattle.pipe_model.specs.Language.ProgramsOfTrees.{whole_of}
 use Rattle.pipe_model.specs.Language.SyntaxTree.{tree_of}
 use Rattle.pipe_model.specs.Pipelines.WholePrograms.{init_trap}
-use Rattle.schedule_play.proofs.PlayedRuns.{map_ok}
+use Rattle.serial_elision.proofs.Results.{map_ok}
 use Rattle.record_check.proofs.ProgramRecords.{program_answer}
 use Rattle.record_check.proofs.check_record.check_prepared.Goals as goal
 

@@ -1,5 +1,6 @@
 use Rattle.std.proofs.Common.{◌+◌, drop}
-use Rattle.record_parser.proofs.DeclaredNames.{names_after, others_after, split_declared, total_after}
+use Rattle.stage_code.proofs.CellRanges.{left_from}
+use Rattle.record_parser.proofs.DeclaredNames.{names_after, others_after, total_after}
 use Rattle.record_parser.proofs.names.declared_field.Goals as goal
 
 pub loop-declaration-preserved : goal.loop-declaration-preserved
@@ -7,7 +8,7 @@ loop-declaration-preserved c =
     let cells = c.args.cells.now in
     let i = c.loop-declaration.declaration-index in
     let d = c.declaration-item.result in
-    let parts = split_declared cells i d c.loop-declaration-test.true c.declaration-item.is in
+    let parts = left_from cells i d c.loop-declaration-test.true c.declaration-item.is in
     let before = c.loop-declaration.before in
     let size = c.size_of-before.result in
     record {

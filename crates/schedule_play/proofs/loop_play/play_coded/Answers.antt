@@ -3,7 +3,8 @@ use Rattle.pipe_model.specs.declared.tree.Program.{Program}
 use Rattle.pipe_model.specs.Language.ProgramsOfTrees.{pipeline_after_init}
 use Rattle.pipe_model.specs.Language.SyntaxTree.{tree_of}
 use Rattle.pipe_model.specs.Runs.Schedules.{played}
-use Rattle.schedule_play.proofs.PlayedRuns.{loop_play, map_ok}
+use Rattle.serial_elision.proofs.Results.{map_ok}
+use Rattle.schedule_play.proofs.PlayedRuns.{loop_play}
 use Rattle.schedule_play.proofs.loop_play.play_coded.Goals as goal
 
 pub returns : goal.returns

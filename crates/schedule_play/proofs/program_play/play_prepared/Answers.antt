@@ -3,8 +3,8 @@ use Rattle.std.specs.Prelude.{is_some}
 use Rattle.pipe_model.specs.Language.ProgramsOfTrees.{whole_of}
 use Rattle.pipe_model.specs.Language.SyntaxTree.{tree_of}
 use Rattle.pipe_model.specs.Pipelines.WholePrograms.{init_trap}
+use Rattle.serial_elision.proofs.Results.{map_ok}
 use Rattle.schedule_play.proofs.PlayedPrograms.{loop_was_played, plays_meet_the_headline}
-use Rattle.schedule_play.proofs.PlayedRuns.{map_ok}
 use Rattle.schedule_play.proofs.program_play.play_prepared.Goals as goal
 
 pub returns-then-is_some-clause-meets : goal.returns-then-is_some-clause-meets
