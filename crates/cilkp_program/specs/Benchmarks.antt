@@ -33,8 +33,7 @@ summary_text items instances workers last other_workers other_last =
     ++ run_line other_workers other_last
 
 -- the summary of a program and its input: its items, the stage instances of its serial elision, and the last number of the elision's
--- output, or 0, for
--- a run with 1 worker and one with 8
+-- output, or 0, for a run with 1 worker and one with 8
 abbrev pub elision_summary : SyntaxTree → List ℤ → List ℕ
 elision_summary tree numbers =
     summary_text (length numbers) (instances_in (elision_columns tree numbers)) 1 (last_or_zero (elision_output tree numbers))

@@ -17,8 +17,7 @@ use Rattle.cilkp_program.specs.SerialResults.{ElisionHasNoRace, elision_output_t
 use Rattle.cilkp_words.specs.Commands.{Command}
 
 -- the command is `run` or `play` with a source that is accepted as the program, an input of these numbers, any number of workers, and a
--- throttling limit
--- of at most `limit`
+-- throttling limit of at most `limit`
 pub record IsToRun (asked : Option Command) (content : Content) (tree : SyntaxTree) (numbers : List ℤ) (limit : ℕ) : Type 0 where
   pub source : List ℕ
   pub input : List ℕ

@@ -10,8 +10,7 @@ use Rattle.cilkp_program.specs.CommandFiles.{CanRunBy, NamesInput, NamesSource, 
 use Rattle.cilkp_words.specs.Commands.{Command}
 
 -- no read failed, the source is accepted as a program, whose lowered form this is if it is taken as a wave loop, and the input is these
--- numbers, by some
--- content of the two files; where the content is known, by that one
+-- numbers, by some content of the two files; where the content is known, by that one
 pub record AreReady (holds : Option Content) (before now : ℕ) (source input : List ℕ) (wave : Bool) (program : SyntaxTree)
     (numbers : List ℤ) : Type 0 where
   pub source_file : Option (List ℕ)

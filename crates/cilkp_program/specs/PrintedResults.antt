@@ -21,9 +21,8 @@ pub record IsRow (asked : Option Command) (holds : Option Content) (status : ℕ
   pub row : ResultRow asked held status text log reports
 
 -- the status, the text, the run log and the reports of a call: those of its row if no read failed, and otherwise the line of the fault,
--- which is the
--- input's only if the source is an accepted program to run, and the record's only if the input is accepted too. `before` and `now` are the
--- counts of
+-- which is the input's only if the source is an accepted program to run, and the record's only if the input is accepted too. `before` and
+-- `now` are the counts of
 -- faults before and after the call
 pub data IsCallResult (asked : Option Command) (holds : Option Content) (before now : ℕ) : ℕ → List ℕ → Option RunLog → List Report
     → Type 0 where

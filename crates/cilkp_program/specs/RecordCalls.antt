@@ -20,8 +20,7 @@ pub record IsToCheck (asked : Option Command) (content : Content) (tree : Syntax
   pub read : IsInputOf (content input) numbers
 
 -- the call has the result of the record, and its text was written completely: a yes, which is a status of 0 or 2, means that the events of
--- the file are a run
--- of the program, and that its race lines name exactly the cells that race in that run's own dag
+-- the file are a run of the program, and that its race lines name exactly the cells that race in that run's own dag
 pub record ReturnsCheck (tree : SyntaxTree) (numbers : List ℤ) (throttle : ℕ) (saved : List ℕ) (file : Option (List ℕ)) (status written : ℕ)
     (run_log : Option RunLog) (reports : List Report) (taken_before taken_now : Option (List ℕ)) : Type 0 where
   pub text : List ℕ

@@ -40,8 +40,7 @@ pub record IsRecordOf (tree : SyntaxTree) (file : Option (List ℕ)) (events : L
   pub read : IsRecord tree.cells (lines_of bytes) events
 
 -- the status, the text, the run log and the reports of a check: a record is refused, or its events are no run of the program from some
--- event on, or they are
--- a run, whose log and races are returned
+-- event on, or they are a run, whose log and races are returned
 pub data RecordResult (tree : SyntaxTree) (numbers : List ℤ) (throttle : ℕ) (name : List ℕ) (file : Option (List ℕ))
     : ℕ → List ℕ → Option RunLog → List Report → Type 0 where
   NoRecord : {text : List ℕ} → RecordRefusal tree name file text → RecordResult tree numbers throttle name file 1 text None []

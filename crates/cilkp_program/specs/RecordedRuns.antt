@@ -57,8 +57,7 @@ pub record IsFinishedLog (tree : SyntaxTree) (input : List ℤ) (run_log : Optio
   pub finished : ProgramIsFinished (whole_of tree input) (state_after log.events)
 
 -- the call returned the log of a run that meets the headline under the throttling limit, and its text, with the lines of the log if they
--- are asked for,
--- was written completely. An accepted program has no other result on its input
+-- are asked for, was written completely. An accepted program has no other result on its input
 pub record ReturnsRun (recording : Bool) (tree : SyntaxTree) (numbers : List ℤ) (limit status written : ℕ) (run_log : Option RunLog)
     (reports : List Report)
     (taken_before taken_now : Option (List ℕ)) : Type 0 where

@@ -18,8 +18,7 @@ use Rattle.wave_laws.specs.Waves.WaveFaults.{wave_fault}
 use Rattle.cilkp_words.specs.Commands.{Command, Run, Play, Serial, Format, Bench, CheckRecord, Wave, Span}
 
 -- the log may be one of a command that makes a run: `run`, and `wave` for a wave loop, may have any, and that of `play` has the events that
--- the choices of its
--- seed make
+-- the choices of its seed make
 pub data IsLogOf (asked : Option Command) (tree : SyntaxTree) (numbers : List ℤ) (throttle : ℕ) (log : RunLog) : Type 0 where
   OfRun : (source input : List ℕ) (workers : ℕ) (recording : Bool) → asked ≡ Some (Run source input workers throttle recording)
       → IsLogOf asked tree numbers throttle log
@@ -30,9 +29,8 @@ pub data IsLogOf (asked : Option Command) (tree : SyntaxTree) (numbers : List �
 
 -- the row of a call by its command and its files: its status, its text, its run log if it keeps one, and its reports.
 -- The words are refused before the source, and the source before the input. A `run` command may have any run that meets the headline under
--- its throttling
--- limit, and a `play` command has the one of its seed; both report what the histories of that run find. A `wave` command refuses a program
--- that is no wave
+-- its throttling limit, and a `play` command has the one of its seed; both report what the histories of that run find. A `wave` command
+-- refuses a program that is no wave
 -- loop before its input, and otherwise has a run of the lowered program, as `run` has one. All other commands have one result
 pub data ResultRow (asked : Option Command) (held : FileContents) : ℕ → List ℕ → Option RunLog → List Report → Type 0 where
   NoCommand : asked ≡ None → ResultRow asked held 1 refused_usage None []

@@ -16,9 +16,8 @@ CallsHaveOneRow = (asked : Option Command) (held : FileContents) (status other_s
     → (status ≡ other_status) × (text ≡ other_text) × (log ≡ other_log) × (reports ≡ other_reports)
 
 -- for all commands: two rows of the same command and the same files have the same status, and the same text unless the status is 2 or the
--- log is printed.
--- (Two runs of `run` or `wave` may have different logs, and if the program has a race they may report different races of a cell. The seed
--- of a `play` fixes its run)
+-- log is printed. (Two runs of `run` or `wave` may have different logs, and if the program has a race they may report different races of
+-- a cell. The seed of a `play` fixes its run)
 abbrev pub CallsHaveOneStatus : Type 0
 CallsHaveOneStatus = (asked : Option Command) (held : FileContents) (status other_status : ℕ) (text other_text : List ℕ)
     (log other_log : Option RunLog)

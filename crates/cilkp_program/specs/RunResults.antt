@@ -16,8 +16,7 @@ use Rattle.cilkp_program.specs.RunTexts.{IsPrintedAs}
 use Rattle.cilkp_program.specs.SerialResults.{elision_output, elision_trap}
 
 -- a finished run of the program under the throttling limit; its reports are those that its histories find, and right; without a report it
--- has the output
--- and the trap of the serial elision
+-- has the output and the trap of the serial elision
 pub record IsFinishedRunOf (tree : SyntaxTree) (input : List ℤ) (throttle : ℕ) (r : FinishedRun) : Type 0 where
   pub run : IsFinishedProgramRun (whole_of tree input) throttle r.run_log
   pub throttled : IsThrottled throttle r.run_log.events

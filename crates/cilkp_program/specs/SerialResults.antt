@@ -39,8 +39,7 @@ abbrev pub ElisionHasNoRace : SyntaxTree → List ℤ → Type 0
 ElisionHasNoRace tree input = IsRaceFree (elision_columns tree input) (elision_accesses tree input)
 
 -- the status, the text and the reports of the elision: if its dag has a race, status 2 and the first race of each cell; otherwise its
--- output with
--- status 0, or its output and its trap with status 3
+-- output with status 0, or its output and its trap with status 3
 pub data ElisionResult (tree : SyntaxTree) (input : List ℤ) : ℕ → List ℕ → List Report → Type 0 where
   Races : (reports : List Report) → (ElisionHasNoRace tree input → ⊥) → AreFirstRaces (elision_columns tree input)
       (elision_accesses tree input) reports

@@ -18,8 +18,7 @@ pub record IsToWeigh (asked : Option Command) (content : Content) (tree : Syntax
   pub read : IsInputOf (content input) numbers
 
 -- work, span and the heaviest path of the program's serial elision were written completely, with status 0, whatever races or trap the
--- elision has; there is
--- no run log, and there are no reports
+-- elision has; there is no run log, and there are no reports
 pub record ReturnsSpan (tree : SyntaxTree) (numbers : List ℤ) (status written : ℕ) (run_log : Option RunLog) (reports : List Report)
     (taken_before taken_now : Option (List ℕ)) : Type 0 where
   pub text : List ℕ

@@ -21,8 +21,7 @@ use Rattle.cilkp_program.specs.TakenText.{HasTaken}
 use Rattle.cilkp_words.specs.Commands.{Command, Wave}
 
 -- the command is `wave` with a source that is accepted as a wave loop, an input of these numbers, any number of workers, and a throttling
--- limit of at most
--- `limit`
+-- limit of at most `limit`
 pub record IsToRunWave (asked : Option Command) (content : Content) (tree : SyntaxTree) (numbers : List ℤ) (limit : ℕ) : Type 0 where
   pub source : List ℕ
   pub input : List ℕ

@@ -1,6 +1,5 @@
 -- A machine that reads programs one symbol at a time. Full expressions are read by the machine of expressions, and their symbols are
--- counted.
--- The grammar defines programs; the machine defines at which symbol a reader must stop, and why. Laws in proofs/ relate the two.
+-- counted. The grammar defines programs; the machine defines at which symbol a reader must stop, and why. Laws in proofs/ relate the two.
 use Rattle.std.specs.Prelude.{◌≡◌, ℕ, suc, List, [], ◌∷◌, ◌++◌, Bool, true, false, ◌==◌, Option, Some, None, ◌&&◌, ◌||◌, if◌then◌else◌}
 use Rattle.std.specs.Prelude.{nat_le, ℤ, pos, negsuc, length}
 use Rattle.pipe_model.specs.declared.operator_codes.TheConstants as operator_codes

@@ -1,6 +1,5 @@
 -- Worked examples, which show that the premises of the laws can be met: a finished hall of two iterations that overlap, with three shards,
--- and
--- a hall that was stopped.
+-- and a hall that was stopped.
 use Rattle.std.specs.Prelude.{◌≡◌, ℕ, pos, true, List, [], ◌∷◌}
 use Rattle.access_history.specs.declared.history.History.{History}
 use Rattle.pipe_model.specs.declared.access.Access.{Access}

@@ -63,8 +63,7 @@ FinishedHallsMeetTheHeadline =
     (printed_text reports races (run_output (whole_in v) (state_after log.events)) (run_trap (whole_in v) (state_after log.events)))
 
 -- what the histories of the shards have found is in the columns of the run log, as `gather` requires; its reports, sorted by cell, are
--- those
--- of the run
+-- those of the run
 abbrev pub MergedHallsReportTheirRaces : Type 0
 MergedHallsReportTheirRaces =
     (v : BookState) (shards : List (List ShardEntry)) (log : RunLog) (history : ℕ → History) (found : List (CellId × Found))

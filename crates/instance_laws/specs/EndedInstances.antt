@@ -16,8 +16,7 @@ abbrev pub accesses_of : List Entry → List Access
 accesses_of trace = map (λ e. e.access) trace
 
 -- an instance, which began with behaviour t, has performed its accesses and its end; if it names a next stage, the machine is at the
--- beginning of
--- the next instance
+-- beginning of the next instance
 pub record HasEnded (code : FlatCode) (cells : ℕ) (input : List ℤ) (t : Behaviour) (run : RunState) (trace : List Entry)
     (end : StageEnd) : Type 0 where
   pub performs : Performs t (accessed trace ++ stage_end_actions end)

@@ -25,8 +25,7 @@ use Rattle.pipe_frame.specs.declared.results.Rescue.TheVariants as rescue
 -- ---- `begin`
 
 -- the first case that holds: the run was stopped; the loop is closed; instance 0 of the last iteration still runs; the throttling limit is
--- reached; the
--- next iteration begins
+-- reached; the next iteration begins
 abbrev pub BeginReturns : {M : Type 0} → ℕ → State → Begun M → Type 0
 BeginReturns limit s begun.Stopped = s.stopped ≡ true
 BeginReturns limit s begun.Closed = (s.stopped ≡ false) × IsClosed s.frames

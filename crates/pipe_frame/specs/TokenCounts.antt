@@ -18,8 +18,7 @@ abbrev pub no_tokens : TokenCounts
 no_tokens = record { given = 0; returned = 0 }
 
 -- from `old` to `new`, the calls gave `given` tokens and took `returned` back. Only the difference matters: a token that was given and
--- taken back
--- may count in both or in neither
+-- taken back may count in both or in neither
 abbrev pub Exchanges : ℕ → ℕ → TokenCounts → TokenCounts → Type 0
 Exchanges given returned old new = new.given + old.returned + returned ≡ old.given + new.returned + given
 

@@ -16,8 +16,7 @@ use Rattle.pipe_model.specs.Language.SyntaxTree.{SyntaxTree, More, Empty}
 use Rattle.pipe_model.specs.Runs.RunLogs.{state_after}
 
 -- a token with these fields, whose payload has this tie, is out; its instance is one of this iteration, which had these replies before, and
--- has
--- made these accesses
+-- has made these accesses
 pub record IsHeld (h : HallName) (i : ℕ) (replies : List (List ℤ)) (f : TokenFields) (tie : Tie) (trace : List Entry) : Type 0 where
   pub out : IsSeated h f tie
   pub entries : trace ≡ seated_entries tie

@@ -23,8 +23,7 @@ pub record HasResults (w : WholeProgram) (ran : Bool) (s : State) (r : ProgramRe
   pub trap : r.trap ≡ played_trap w ran s
 
 -- a finished run with these reports and results has a report exactly if the program's serial elision has a race, and otherwise the
--- elision's
--- columns, output and trap
+-- elision's columns, output and trap
 pub record AgreesWithElision (w : WholeProgram) (log : RunLog) (reports : List Report) (r : ProgramResults) : Type 0 where
   pub silent : (reports ≡ []) ↔ HasNoProgramRace w
   pub columns : reports ≡ [] → log.columns ≡ program_columns w

@@ -146,8 +146,7 @@ ends_now : (t : Behaviour) (trace : List Entry) (x : ColumnEnd) → Performs t (
 ends_now t trace x h is = performs_push t (accessed trace) (Ended x) h (subst (λ d. Offers d (Ended x)) (sym is) refl)
 
 -- an instance that is at its end has performed its accesses and the end, which is its next event; if it names a next stage, the machine is
--- at the
--- beginning of the next instance
+-- at the beginning of the next instance
 pub record EndsInstance (code : FlatCode) (cells : ℕ) (input : List ℤ) (t : Behaviour) (run : RunState) (trace : List Entry)
     (end : StageEnd) : Type 0 where
   pub performs : Performs t (accessed trace ++ stage_end_actions end)

@@ -29,8 +29,7 @@ pub record IsEndOf (v : PlayState) (r : LoopPlay) : Type 0 where
   pub cells : r.cells ≡ v.cells
 
 -- the events are those that the choices make, and a run; after each event at most `workers` instances run and at most `throttle` iterations
--- are
--- alive; the columns and the accesses are those of the events
+-- are alive; the columns and the accesses are those of the events
 pub record IsScheduledRun (tree : SyntaxTree) (input : List ℤ) (limits : PlayLimits) (choices : List ℕ) (r : LoopPlay) : Type 0 where
   pub events : r.run_log.events ≡ played (pipeline_after_init tree input) limits.throttle limits.workers choices limits.turns
   pub run : Run (pipeline_after_init tree input) limits.throttle r.run_log.events (state_after r.run_log.events)
@@ -40,8 +39,7 @@ pub record IsScheduledRun (tree : SyntaxTree) (input : List ℤ) (limits : PlayL
   pub accesses : r.accesses ≡ accesses_after r.run_log.events
 
 -- the loop was played: `finished` says whether the run is finished, and otherwise all turns were taken; the reports are the first races
--- that the
--- histories of the run find, and right for its own dag; the cells, all in one shard, are those after `init` and the run
+-- that the histories of the run find, and right for its own dag; the cells, all in one shard, are those after `init` and the run
 pub record IsLoopPlay (tree : SyntaxTree) (input : List ℤ) (limits : PlayLimits) (choices : List ℕ) (r : LoopPlay) : Type 0 where
   pub scheduled : IsScheduledRun tree input limits choices r
   pub finished : IsTrue r.finished ↔ IsFinished (state_after r.run_log.events)

@@ -27,8 +27,7 @@ played_events tree input workers throttle choices turns =
     unless (is_some (init_trap (whole_of tree input))) (played (pipeline_after_init tree input) throttle workers choices turns)
 
 -- the events are a run of the program; after each event at most `workers` instances run and at most `throttle` iterations are alive; the
--- columns are
--- those of the events; `finished` says whether the run is finished, and otherwise all turns were taken
+-- columns are those of the events; `finished` says whether the run is finished, and otherwise all turns were taken
 pub record IsPlayedLog (tree : SyntaxTree) (input : List ℤ) (limits : PlayLimits) (choices : List ℕ) (r : Played) : Type 0 where
   pub events : r.run_log.events ≡ played_events tree input limits.workers limits.throttle choices limits.turns
   pub run : ProgramRun (whole_of tree input) limits.throttle r.run_log.events (state_after r.run_log.events)

@@ -13,8 +13,7 @@ use Rattle.stage_code.specs.declared.instr.Part.TheVariants as parts
 use Rattle.stage_interp.specs.TreeRuns.{interaction_in}
 
 -- the steps of each instance of a tree. Each read returns what the accesses before it leave in the cell. The first instance has `left` of
--- its budget
--- of steps left; each later one has the whole budget.
+-- its budget of steps left; each later one has the whole budget.
 abbrev pub step_counts : InitialStore → List Access → ℕ → ℕ → Interaction ColumnEnd → List ℕ
 step_counts store before budget left (Return e) = (budget - left) ∷ []
 step_counts store before budget left (Raise t) = (budget - left) ∷ []

@@ -1,6 +1,5 @@
 -- The flat code that `lower` makes, as functions of the tree. Jump targets are indices into the whole code, so each function takes the
--- index
--- of its first instruction. A name is looked up among the locals in scope, which have slots, and then among the declared cells.
+-- index of its first instruction. A name is looked up among the locals in scope, which have slots, and then among the declared cells.
 use Rattle.std.specs.Prelude.{ℕ, pos, List, [], ◌∷◌, ◌++◌, Option, Some, None, ◌+◌, length}
 use Rattle.pipe_model.specs.declared.tree.StageKind.{StageKind}
 use Rattle.pipe_model.specs.declared.tree.StageKind.TheVariants as stage_kinds

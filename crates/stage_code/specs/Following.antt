@@ -1,7 +1,6 @@
 -- Flat code that follows an interaction tree: it takes the same steps, makes the same accesses, whatever the replies, goes to the same
--- stages, and
--- has the same end. Code that is stuck follows no tree, so where code follows a tree, its stack, its slots, its cells and its jumps are in
--- range.
+-- stages, and has the same end. Code that is stuck follows no tree, so where code follows a tree, its stack, its slots, its cells and its
+-- jumps are in range.
 use Rattle.std.specs.Prelude.{ℕ, zero, suc, ℤ}
 use Rattle.pipe_model.specs.declared.column.ColumnEnd.{ColumnEnd}
 use Rattle.pipe_model.specs.declared.node.Kind.{Kind}

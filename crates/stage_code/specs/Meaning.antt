@@ -37,8 +37,7 @@ pub record HasRoomToRun (tree : SyntaxTree) (code : FlatCode) (bounds : Bounds) 
   pub locals : MOST_LOCALS ≤ length slots
 
 -- from a start the code does what an interaction tree of the program does in iteration i, for as many steps as the budgets of all stage
--- instances
--- together allow
+-- instances together allow
 abbrev pub RunsFrom : SyntaxTree → FlatCode → ℕ → List ℤ → ℕ → Interaction ColumnEnd → Type 0
 RunsFrom tree code start input i part =
     (bounds : Bounds) (slots : List ℤ) (n : ℕ) → HasRoomToRun tree code bounds slots → n < (setting_of tree input i).turns

@@ -1,7 +1,6 @@
 -- The grammar of the whole language: which symbols derive which expression, and which pieces derive which statements and program,
 -- one constructor for each line of the grammar. A piece is one symbol, or the symbols of a full expression: one that is not part of
--- another.
--- The bounds on brackets and on full expressions are not part of the grammar; they are in Spelling.
+-- another. The bounds on brackets and on full expressions are not part of the grammar; they are in Spelling.
 use Rattle.std.specs.Prelude.{◌≡◌, ℕ, suc, ℤ, pos, List, [], ◌∷◌, ◌++◌, slice_index, Option, Some, None}
 use Rattle.pipe_model.specs.declared.operator_codes.TheConstants as operator_codes
 use Rattle.pipe_model.specs.declared.levels.TheConstants.{ANY_EXPRESSION, OPERAND}

@@ -51,8 +51,7 @@ store_of tree = record {
 }
 
 -- the loop of a program alone, without `init` and `final` (`whole_of` has all three): each instance has its budget of steps, and the
--- iteration
--- after the last that is allowed closes the loop
+-- iteration after the last that is allowed closes the loop
 abbrev pub pipeline_of : SyntaxTree → List ℤ → Pipeline
 pipeline_of tree input = record {
   store = store_of tree;

@@ -1,6 +1,5 @@
 -- Whole programs: `init`, a loop, and `final`; and their serial elision. The output and the trap of a program are defined by the traces and
--- the
--- accesses of its loop, so one definition serves the elision and every run.
+-- the accesses of its loop, so one definition serves the elision and every run.
 use Rattle.std.specs.Prelude.{ℤ, List, [], ◌++◌, Option, Some, None, map, is_some}
 use Rattle.pipe_model.specs.declared.access.Access.{Access}
 use Rattle.pipe_model.specs.declared.access.NodeAccess.{NodeAccess}

@@ -60,8 +60,7 @@ event_if true e = Some e
 event_if false e = None
 
 -- the next event of an iteration with this status and trace: an action, or the start of the stage that it has named; none if it must wait
--- or has
--- ended
+-- or has ended
 abbrev pub event_of_status : Pipeline → State → ℕ → Status → List Action → Option Event
 event_of_status p s i Running trace = Some (event_of_behaviour p (p.preamble ++ accesses_of s.accesses) i
     (behaviour_after_all (p.behaviour i) trace))

@@ -45,8 +45,7 @@ candidates_from p s room i [] = []
 candidates_from p s room i (f ∷ fs) = if_room room (event_of_status p s i f.status f.trace) ++ candidates_from p s room (i + 1) fs
 
 -- the candidates under the throttling limit `limit`: the next event of each iteration by rising number, then the beginning of the next
--- iteration;
--- an instance may start only while fewer than `workers` run
+-- iteration; an instance may start only while fewer than `workers` run
 abbrev pub candidates : Pipeline → ℕ → ℕ → State → List Event
 candidates p limit workers s =
     candidates_from p s (nat_lt (running_instances s) workers) 0 s.frames ++ if_room (nat_lt (running_instances s) workers)
