@@ -23,7 +23,7 @@ pub record IsAmong (accesses : List CellAccess) (w : Who) : Type 0 where
 pub record AgreeOnAll (down_first right_first : List ℕ) (down right : NodeId → ℕ) (accesses : List CellAccess) : Type 0 where
   pub two : (a b : CellAccess) → Contains accesses a → Contains accesses b → AgreeOn down_first right_first down right a.who b.who
 
--- the report is that of the first race that the orders define; there is none if there is no race
+-- the report names the first race that the orders define; there is none if there is no race
 pub record ReportsFirst (down right : NodeId → ℕ) (accesses : List NotedAccess) (report : Option Found) : Type 0 where
   pub found : Option FoundRace
   pub first : IsRightInOrders down right accesses found

@@ -37,7 +37,7 @@ pub record KeepsAmong (h : History) (x : Who) (h' : History) : Type 0 where
   pub rightmost : IfSome h'.rightmost (IsEither h.rightmost x)
   pub downmost : IfSome h'.downmost (IsEither h.downmost x)
 
--- y is before x in each order exactly if its element is before that of x in the list
+-- y is before x in each order exactly if y's element is before x's element in the list
 pub record AgreeOn (down_first right_first : List ℕ) (down right : NodeId → ℕ) (x y : Who) : Type 0 where
   pub in_down : StandsBefore down_first y.marks.down_first x.marks.down_first ↔ (down y.node < down x.node)
   pub in_right : StandsBefore right_first y.marks.right_first x.marks.right_first ↔ (right y.node < right x.node)

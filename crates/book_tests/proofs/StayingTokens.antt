@@ -1,4 +1,4 @@
--- Tokens that are out stay those of running instances while the book's calls start and end other instances.
+-- Tokens that are out still belong to running instances while the book's calls start and end other instances.
 use Rattle.std.proofs.Common.{◌≡◌, ◌≢◌, ℕ, suc, List, [], ◌∷◌, ◌++◌, ◌≤◌, refl, sym, ◌∙◌, ap, subst, arith, length, max, map, append_assoc}
 use Rattle.std.proofs.Common.{append-nil}
 use Rattle.std.proofs.lemmas.List.{map-append, length-append}

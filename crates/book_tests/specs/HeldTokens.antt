@@ -17,7 +17,7 @@ IsHeldAt v i (Some t) = (t.iteration ≡ i) × IsGiven v t
 abbrev pub token_of : List (Option (FrameToken Plan)) → ℕ → Option (FrameToken Plan)
 token_of tokens i = slice_index_or tokens i None
 
--- each token is that of the iteration with its index
+-- the token at each index belongs to the iteration with this number
 abbrev pub AreHeld : BookState → List (Option (FrameToken Plan)) → Type 0
 AreHeld v tokens = (i : ℕ) → IsHeldAt v i (token_of tokens i)
 

@@ -13,7 +13,7 @@ use Rattle.book_tests.specs.StageWaits.{iteration_behaviour, waiting}
 abbrev pub left_in : Plan → Behaviour
 left_in m = if m.going then waiting m.stages m.here m.left else Ending Closed
 
--- the iterations of the program are those of the plan
+-- the program has the iterations of the plan
 abbrev pub IsPlanOf : SyntaxTree → Plan → Type 0
 IsPlanOf tree m = (input : List ℤ) (i : ℕ) → (pipeline_of tree input).behaviour i ≡ iteration_behaviour m.turns m.waits m.stages i
 

@@ -45,7 +45,7 @@ pub record AgreesWithElision (tree : SyntaxTree) (input : List ℤ) (reports : L
 -- a run of the program under the throttling limit: its log, its reports, and the status and the text of the call
 pub record MeetsHeadline (tree : SyntaxTree) (input : List ℤ) (limit : ℕ) (log : RunLog) (reports : List Report) (status : ℕ)
     (text : List ℕ) : Type 0 where
-  -- the log is that of a finished run of the program on its input, with the run's own columns
+  -- the log records a finished run of the program on its input, with the run's own columns
   pub run : IsFinishedProgramRun (whole_of tree input) limit log
   -- a cell has a report exactly if two conflicting accesses to it are parallel in the run's own dag; it has at most one, and the reports
   -- rise by cell
@@ -55,6 +55,6 @@ pub record MeetsHeadline (tree : SyntaxTree) (input : List ℤ) (limit : ℕ) (l
   -- at most the throttling limit of iterations are alive at any event
   pub throttled : IsThrottled limit log.events
 
--- the status is that of a program that was run: 0, 2 or 3
+-- the status of a program that was run is 0, 2 or 3
 abbrev pub IsRunStatus : ℕ → Type 0
 IsRunStatus status = (status ≡ 0) ⊎ ((status ≡ 2) ⊎ (status ≡ 3))

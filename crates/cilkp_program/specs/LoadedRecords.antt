@@ -19,7 +19,7 @@ is_record_fault (records.Accepted events) = false
 is_record_fault (records.Refused line) = false
 is_record_fault records.Failed = true
 
--- the line is that of the first bad line
+-- the line names the first bad line
 pub record HasBadLineAt (tree : SyntaxTree) (bytes line : List ℕ) : Type 0 where
   pub n : ℕ
   pub bad : IsFirstBadLine tree.cells (lines_of bytes) n

@@ -20,7 +20,7 @@ pub record IsRow (asked : Option Command) (holds : Option Content) (status : ℕ
   pub known : IfSome holds (λ content. AreHeldBy content asked held)
   pub row : ResultRow asked held status text log reports
 
--- the status, the text, the run log and the reports of a call: those of its row if no read failed, and otherwise the line of the fault,
+-- the status, the text, the run log and the reports of a call are as in its row if no read failed, and otherwise the line of the fault,
 -- which is the input's only if the source is an accepted program to run, and the record's only if the input is accepted too. `before` and
 -- `now` are the counts of
 -- faults before and after the call
@@ -51,7 +51,7 @@ pub record IsPrinted (asked : Option Command) (holds : Option Content) (faults_b
   pub whole : written ≡ length text
   pub taken : HasTaken written text taken_before taken_now
 
--- a prefix of the call's text was written, and not all of it; the run log and the reports are those of the complete result
+-- a prefix of the call's text was written, and not all of it; the run log and the reports are the ones of the complete result
 pub record IsCutShort (asked : Option Command) (holds : Option Content) (faults_before faults_now written : ℕ) (log : Option RunLog)
     (reports : List Report)
     (taken_before taken_now : Option (List ℕ)) : Type 0 where

@@ -46,7 +46,7 @@ pub record IsToPlay (asked : Option Command) (content : Content) (tree : SyntaxT
   pub program : IsSourceOf (content source) tree
   pub read : IsInputOf (content input) numbers
 
--- the events of the log are those of the schedule
+-- the log has the events of the schedule
 abbrev pub HasSeededEvents : (tree : SyntaxTree) (input : List ℤ) (workers throttle seed : ℕ) → Option RunLog → Type 0
 HasSeededEvents tree input workers throttle seed log = IfSome log (λ l. l.events ≡ seeded_events tree input workers throttle seed)
 

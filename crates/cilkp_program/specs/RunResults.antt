@@ -38,17 +38,17 @@ pub record IsPrintedRun (cells : List Declaration) (recording : Bool) (run : Fin
   pub logged : a.run_log ≡ Some run.run_log
   pub reports : a.reports ≡ run.reports
 
--- the result has this log, which is that of a run that meets the headline, and reports what the run's histories find
+-- the result has this log of a run that meets the headline, and reports what the run's histories find
 pub record HasRun (tree : SyntaxTree) (input : List ℤ) (throttle : ℕ) (recording : Bool) (log : RunLog) (a : CommandResult) : Type 0 where
   pub logged : a.run_log ≡ Some log
   pub meets : IsRecordedRun recording tree input throttle log a.reports a.status a.text
   pub found : a.reports ≡ run_reports log
 
--- the result of `run`: that of some run
+-- the result of `run`: some run's result
 abbrev pub IsRunResult : SyntaxTree → List ℤ → (throttle : ℕ) → (recording : Bool) → CommandResult → Type 0
 IsRunResult tree input throttle recording a = (log : RunLog) × HasRun tree input throttle recording log a
 
--- the result of `play`: that of the run with the events of the schedule
+-- the result of `play`: the result of the run with the events of the schedule
 pub record IsPlayResult (tree : SyntaxTree) (input : List ℤ) (workers throttle seed : ℕ) (recording : Bool)
     (a : CommandResult) : Type 0 where
   pub log : RunLog

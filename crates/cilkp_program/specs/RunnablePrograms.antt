@@ -16,7 +16,7 @@ is_runnable_fault (runnables.Program checked) = false
 is_runnable_fault (runnables.Refused line) = false
 is_runnable_fault runnables.Failed = true
 
--- the line is that of the program's first fault as a wave loop
+-- the line names the program's first fault as a wave loop
 pub record IsNoWave (source : List ℕ) (tree : SyntaxTree) (line : List ℕ) : Type 0 where
   pub fault : WaveRefusal
   pub faulty : wave_fault tree ≡ Some fault

@@ -27,7 +27,7 @@ elision_trap tree input = program_trap (whole_of tree input)
 abbrev pub elision_columns : SyntaxTree → List ℤ → List (List Node)
 elision_columns tree input = map column_of (loop_traces (whole_of tree input))
 
--- the accesses of its loop; those of `init` and `final` cannot race
+-- the accesses of its loop; accesses of `init` and `final` cannot race
 abbrev pub elision_accesses : SyntaxTree → List ℤ → List NodeAccess
 elision_accesses tree input = loop_accesses (whole_of tree input)
 

@@ -57,7 +57,7 @@ pub record ReturnsGrid (tree : SyntaxTree) (numbers : List ℤ) (limit status wr
   pub whole : written ≡ length text
   pub taken : HasTaken written text taken_before taken_now
   pub complete : IsRunStatus status
-  -- the log is that of a finished run, with the run's own columns
+  -- the log records a finished run, with the run's own columns
   pub run : IsFinishedProgramRun (whole_of (lowered tree) numbers) limit log
   -- a cell has a report exactly if two conflicting accesses to it are parallel in the run's own dag; it has at most one, and the reports
   -- rise by cell

@@ -20,7 +20,7 @@ pub data IsWaveLine (source : List ℕ) (tree : SyntaxTree) : WaveRefusal → Li
   OfRowSet : (mark place : ℕ) → IsMarkAt source tree mark place
       → IsWaveLine source tree (RowSet mark) (numbered_line (codes "refused wave RowSet at ") place)
 
--- the line is that of the program's first fault as a wave loop; the file holds the program's source
+-- the line names the program's first fault as a wave loop; the file holds the program's source
 pub record IsRefusedWave (file : Option (List ℕ)) (tree : SyntaxTree) (line : List ℕ) : Type 0 where
   pub bytes : List ℕ
   pub held : file ≡ Some bytes

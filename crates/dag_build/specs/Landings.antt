@@ -33,7 +33,7 @@ pub data MovesTo (columns : List (List Node)) (i m : ℕ) : ℕ → ℕ → Type
       → IsLanding (nodes_at columns t) (nodes_at columns (t + 1)) from landing
       → MovesTo columns i m (t + 1) landing
 
--- the table holds the indices to which those of column i move `step` columns further
+-- the table has for each index of column i where its edges lead `step` columns further
 pub record IsJumpTable (columns : List (List Node)) (step i : ℕ) (table : List ℕ) : Type 0 where
   pub whole : length table ≡ length (nodes_at columns i)
   pub moves : (m : ℕ) → m < length table → MovesTo columns i m (i + step) (slice_index table m)

@@ -1,4 +1,4 @@
--- The columns of which a dag is made: lists of instances whose stage numbers rise (Lee et al. 2013).
+-- A dag is made of columns: lists of instances whose stage numbers rise (Lee et al. 2013).
 use Rattle.std.specs.Prelude.{ℕ, List, map}
 use Rattle.pipe_model.specs.declared.access.NodeAccess.{NodeAccess}
 use Rattle.pipe_model.specs.declared.column.Column.{Column}

@@ -12,7 +12,7 @@ is_alive_row (Some r) = not (is_completed r.status)
 abbrev pub is_alive_in : {M : Type 0} → List (IterationRow M) → ℕ → Bool
 is_alive_in rows i = is_alive_row (row_at rows i)
 
--- the numbers rise, each is that of a row, and each alive iteration is among them; some may have ended
+-- the numbers rise, each is the number of a row, and each alive iteration is among them; some may have ended
 pub record ListsAlive {M : Type 0} (rows : List (IterationRow M)) (alive : List ℕ) : Type 0 where
   pub rises : AllPairs (λ (i : ℕ) (j : ℕ). i < j) alive
   pub begun : All (λ i. i < length rows) alive

@@ -64,7 +64,7 @@ reads_left v t end = not (state_of v).stopped && must_read_left t.iteration t.fo
 abbrev pub folded_after : BookState → TokenFields → StageEnd → Option Counter
 folded_after v t end = cond (reads_left v t end) (left_counter (state_of v).frames t.iteration) t.folded
 
--- where the token is afterwards; that of an iteration that waits has the ticket of its last event
+-- where the token is afterwards; if the iteration waits, its token has the ticket of its last event
 abbrev pub token_after : {M : Type 0} → BookState → TokenFields → StageEnd → Next M → TokenState
 token_after v t end next.Stopped = Kept t
 token_after v t end next.Ended = Spent

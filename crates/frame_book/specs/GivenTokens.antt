@@ -8,7 +8,7 @@ use Rattle.pipe_frame.specs.TokenFields.{TokenFields, fields_of}
 use Rattle.pipe_frame.specs.declared.token.FrameToken.{FrameToken}
 use Rattle.frame_book.specs.BookStates.{BookState, IsOut, Kept, Spent, events_of, item_or, last_ticket, replies_at}
 
--- the fields are those of the token of a running instance that is out, and its ticket is in bounds
+-- the fields belong to the token of a running instance that is out, and its ticket is in bounds
 pub record IsOutOf (v : BookState) (t : TokenFields) : Type 0 where
   pub out : IsOut v t.iteration
   pub token : IsTokenOf (events_of v.log) t

@@ -42,7 +42,7 @@ abbrev pub stop_one : Bool → ℕ
 stop_one true = 1
 stop_one false = 0
 
--- the events are a run of the control part, and each start but those of running instances has its end
+-- the events are a run of the control part, and each start has its end unless its instance is running
 pub record IsLogged (limit : ℕ) (es : List Event) (starts : List NodeId) (c : State) : Type 0 where
   pub run : ControlRun limit es c
   pub sound : IsStartSound c.frames starts

@@ -1,4 +1,4 @@
--- The rows of a book as those of the iterations of a state.
+-- The rows of a book, one for each iteration of a state.
 use Rattle.std.specs.Prelude.{◌≡◌, ℕ, zero, suc, List, [], ◌∷◌, ◌<◌, ◌≤◌, ◌⊎◌, map, length, Bool, true, false, not, Option, Some, None}
 use Rattle.std.specs.Prelude.{IsSome, slice_index_or}
 use Rattle.pipe_model.specs.declared.marks.Marks.{Marks}
@@ -44,7 +44,7 @@ pub record IsRowOf {M : Type 0} (going : Bool) (f : Frame) (r : IterationRow M) 
 
 -- ---- all rows
 
--- the rows are those of the iterations, in order
+-- the rows belong to the iterations, in order
 abbrev pub AreRows : {M : Type 0} → Bool → List Frame → List (IterationRow M) → Type 0
 AreRows going [] [] = Unit {0}
 AreRows going [] (r ∷ rs) = ⊥
@@ -60,7 +60,7 @@ token_at (r ∷ rs) (suc i) = token_at rs i
 abbrev pub no_marks : Marks
 no_marks = start_marks 0 0 0
 
--- the rows are those of a state after these starts, and have the marks of all instances
+-- the rows belong to the iterations of a state after these starts, and have the marks of all instances
 pub record HasRows {M : Type 0} (rows : List (IterationRow M)) (starts : List NodeId) (c : State) : Type 0 where
   pub each : AreRows (not c.stopped) c.frames rows
   pub marks : (i k : ℕ) → k < length (nodes_at (own_columns c) i) → slice_index_or (slice_index_or (map (λ r. r.marks) rows) i []) k

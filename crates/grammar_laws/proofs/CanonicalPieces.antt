@@ -18,7 +18,7 @@ use Rattle.grammar_laws.proofs.CanonicalBounds.{IsUnjoined, IsPair, NoDeeper, no
 use Rattle.grammar_laws.proofs.CanonicalBounds.{nested_deep, unbracketed_deep, none_lifts, full_least}
 use Rattle.grammar_laws.proofs.Pieces.{flat_append, short_append, short_front, short_back}
 
--- if the full expressions of `ps` are short, so are those of `us`, and `us` never has more brackets open
+-- if the full expressions of `ps` are short, the full expressions of `us` are too, and `us` never has more brackets open
 pub record Leaner (us ps : List Piece) : Type 0 where
   pub short : AreShort 256 ps → AreShort 256 us
   pub deep : NoDeeper (flat us) (flat ps)

@@ -76,7 +76,7 @@ inside_over_on longest t before rest wants n inner left (Some mid) e f h l m (in
     let many : length (t ∷ (before ++ rest)) ≡ suc (length rest) = omega (arith, m, c, l, length-append before rest) in
     goes_on longest n (Some mid) inner t (before ++ rest) wants e ∙ rw (over, many) refl
 
--- symbols that continue a full expression, and with the last of which it is too long
+-- symbols that continue a full expression; with the last of them it is too long
 pub inside_over : (longest : ℕ) (before rest : List Symbol) (wants : List Want) → FindsOver longest before rest wants
 inside_over longest [] rest wants n inner left h l m = absurd (omega (arith, l, m))
 inside_over longest (t ∷ before) rest wants n inner left h l m =

@@ -124,7 +124,7 @@ move Value (symbols.Name name) = Refuses
 move Value (symbols.Word k) = Refuses
 move Value (symbols.Sign b) = Refuses
 
--- outside full expressions, with these wants; or inside one, after n of its symbols, with its wants and those of the program
+-- outside full expressions, with these wants; or inside one, after n of its symbols, with its wants and the program's
 pub data MachineState : Type 0 where
   Outside : List Want → MachineState
   Inside : ℕ → List expression.Want → List Want → MachineState

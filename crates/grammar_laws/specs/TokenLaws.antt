@@ -17,6 +17,6 @@ abbrev pub SourcesWithTokensHaveNoFault : Type 0
 SourcesWithTokensHaveNoFault = (source : List ℕ) (tokens : List Token) (fault : LexicalFault) → IsLexed source tokens
     → HasFault source fault → ⊥
 
--- each token of a source is in it, and its text there is that of its symbol
+-- each token of a source is in it, and its text there is the text of its symbol
 abbrev pub TokensStandInTheirSource : Type 0
 TokensStandInTheirSource = (source : List ℕ) (tokens : List Token) → HasTokens source tokens → All (StandsIn source) tokens

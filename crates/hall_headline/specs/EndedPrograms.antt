@@ -40,7 +40,7 @@ HallEndsAreMerged =
 
 -- ---- reports
 
--- the reports are those of the races found, sorted by cell, as `gather` ensures
+-- the reports name the races found, sorted by cell, as `gather` ensures
 pub record AreGathered (log : RunLog) (found : List (CellId × Found)) (reports : List Report) : Type 0 where
   pub each : IsPermutation (map (λ (f : CellId × Found). report_found (column_nodes log.columns) f.0 f.1) found) reports
   pub rise : RiseByCell reports
@@ -58,7 +58,7 @@ HallEndsReportTheirRaces =
 
 -- ---- the headline
 
--- if the book is finished and the program breaks no rule, the reports are those of the run, and meet the headline with the run's output and
+-- if the book is finished and the program breaks no rule, the reports are the run's, and meet the headline with the run's output and
 -- trap
 abbrev pub FinishedHallEndsMeetTheHeadline : Type 0
 FinishedHallEndsMeetTheHeadline =

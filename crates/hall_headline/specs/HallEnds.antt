@@ -1,4 +1,4 @@
--- A hall that has ended: what `close` and `Book::entries` ensure of its book and its shards. The logs of these are those of a run.
+-- A hall that has ended: what `close` and `Book::entries` ensure of its book and its shards. Together their logs make a run.
 use Rattle.std.specs.Prelude.{◌≡◌, ◌<◌, ◌%◌, ◌/◌, ◌++◌, ℕ, List, map, length, All}
 use Rattle.std.specs.List.{flat_map}
 use Rattle.access_history.specs.declared.history.Found.{Found}
@@ -35,7 +35,7 @@ history_of shards c = history_at (shard_in shards (c % 16)).histories (c / 16)
 abbrev pub found_in : ShardValue → List (CellId × Found)
 found_in x = found_in_slots 16 x.number 0 x.histories
 
--- what those of all shards report, one shard after the other
+-- what the histories of all shards report, one shard after the other
 abbrev pub found_by : List ShardValue → List (CellId × Found)
 found_by shards = flat_map found_in shards
 
@@ -73,7 +73,7 @@ HallEndsAccessTheirCells =
 
 -- ---- the cells
 
--- the state is that of shard k of 16 after `before` and the accesses of these events
+-- the state of shard k of 16 after `before` and the accesses of these events
 pub record IsShardAfterRun (before : List Access) (b : BookState) (events : List Event) (k : ℕ) (state : ShardState) : Type 0 where
   pub number : state.shard.number ≡ k
   pub shards : state.shard.shards ≡ 16

@@ -63,13 +63,13 @@ ReadsAreRight store before (e ∷ es) = HasReply store before e.access × ReadsA
 -- ---- all together
 
 -- the facts that `Book::entries` ensures: the events of the book are a run of the control part, each iteration has done what its program
--- does, and if the run was not stopped, a token that is out is that of a running instance
+-- does, and if the run was not stopped, a token that is out belongs to a running instance
 pub record IsSoundBook (v : BookState) : Type 0 where
   pub control : ControlRun v.limit (events_of v.log) (state_of v)
   pub performs : (i : ℕ) → Performs ((pipeline_in v).behaviour i) (actions_at v i)
   pub out : (state_of v).stopped ≡ false → (i : ℕ) → IsOut v i → IsRunning (state_of v) i
 
--- the logs of the shards, next to that of the book; accesses to cell c are in shard c modulo the number of shards
+-- the logs of the shards, next to the book's log; accesses to cell c are in shard c modulo the number of shards
 pub record HasShardLogs (v : BookState) (before : List Access) (shards : List (List ShardEntry)) : Type 0 where
   pub some : 0 < length shards
   pub traces : EntriesAreTraces v shards

@@ -38,7 +38,7 @@ pub record IsMergedHall (v : BookState) (shards : List (List ShardEntry)) (log :
   pub events : AreMerged v.log shards log.events
   pub columns : log.columns ≡ made_columns log.events
 
--- the log is that of a run of the program under the throttling limit of the book. It is finished if the book is, and ends with `Stop` if
+-- the log records a run of the program under the throttling limit of the book. It is finished if the book is, and ends with `Stop` if
 -- the book was stopped.
 pub record IsProgramRunOfHall (v : BookState) (log : RunLog) : Type 0 where
   pub run : ProgramRun (whole_in v) v.limit log.events (state_after log.events)

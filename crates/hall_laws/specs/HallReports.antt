@@ -1,4 +1,4 @@
--- The access histories and the cells of a closed hall: they are those of the run.
+-- The access histories and the cells of a closed hall are the run's.
 use Rattle.std.specs.Prelude.{◌≡◌, ◌≢◌, ◌+◌, ◌*◌, ◌/◌, suc, ◌%◌, ◌<◌, ◌++◌, [], ◌∷◌, ℕ, List, map, length, slice_index_or, Some, All}
 use Rattle.std.specs.Prelude.{AllPairs, Contains}
 use Rattle.std.specs.List.{flat_map}
@@ -40,7 +40,7 @@ starts_of_book v = starts_of (events_of v.log)
 abbrev pub cell_of : ℕ → CellId
 cell_of c = record { 0 = c }
 
--- the history of each cell has noted the cell's entries, by the two orders of the book's lists; that of a cell without entries is empty
+-- the history of each cell has noted the cell's entries, by the two orders of the book's lists; a cell without entries has an empty one
 pub record HaveNotedEntries (v : BookState) (shards : List (List ShardEntry)) (history : ℕ → History) : Type 0 where
   pub each : (c : ℕ) → IsHistoryAfter (down_place (starts_of_book v)) (right_place (columns_of_book v) (starts_of_book v))
       (entries_to shards c) (history c)
@@ -76,12 +76,12 @@ ShardsFindAll =
     → ((k : ℕ) → k < length founds → AreFoundInShard (length founds) k history (slice_index_or founds k []))
     → AreFound history (flat_map (λ x. x) founds)
 
--- the reports are those of the run's own histories, and right for its own dag
+-- the reports are what the run's own histories find, and right for its own dag
 pub record AreReportsOf (events : List Event) (reports : List Report) : Type 0 where
   pub found : reports ≡ found_reports (columns_after events) (starts_of events) (accesses_after events)
   pub right : AreRight (columns_after events) (accesses_after events) reports
 
--- what was found is in the run's own columns, as `gather` requires; its reports, sorted by cell, are those of the run
+-- what was found is in the run's own columns, as `gather` requires; sorted by cell, it gives the reports of the run
 pub record FindsRacesOf (events : List Event) (found : List (CellId × Found)) : Type 0 where
   pub inside : All (λ (f : CellId × Found). IsFoundIn (columns_after events) f.1) found
   pub reports : (reports : List Report) → IsPermutation (map (λ (f : CellId × Found). report_found (columns_after events) f.0 f.1) found)

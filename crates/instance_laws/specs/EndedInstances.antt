@@ -22,7 +22,7 @@ pub record HasEnded (code : FlatCode) (cells : ℕ) (input : List ℤ) (t : Beha
   pub performs : Performs t (accessed trace ++ stage_end_actions end)
   pub stands : NamesNextStage end → StandsFor code cells input run (after_instance t (replies_of trace))
 
--- a machine that ran over a memory without accesses, which now has those of the trace, has ended its instance
+-- a machine that ran over a memory without accesses, which now has the accesses of the trace, has ended its instance
 abbrev pub MachinesPerformTheirInstances : Type 0
 MachinesPerformTheirInstances = (code : FlatCode) (cells : ℕ) (input : List ℤ) (t : Behaviour) (run : RunState) (trace : List Entry)
     (end : StageEnd)

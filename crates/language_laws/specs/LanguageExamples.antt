@@ -123,7 +123,7 @@ let_tokens =
 abbrev pub let_symbols : List Symbol
 let_symbols = word_let ∷ symbols.Name t ∷ equals ∷ symbols.Name n ∷ semicolon ∷ []
 
--- the text has these tokens and symbols, and the symbols are those of pieces that derive this statement
+-- the text has these tokens and symbols, and the symbols spell pieces that derive this statement
 abbrev pub LetIsSpelled : Type 0
 LetIsSpelled =
     HasTokens let_text let_tokens × (symbols_in let_text let_tokens ≡ let_symbols)

@@ -33,7 +33,7 @@ abbrev pub MarksAreThoseOfTokens : Type 0
 MarksAreThoseOfTokens = (source : List ℕ) (tree : SyntaxTree) (s : SourceSpells source tree)
     → length (marks_of tree) ≡ length (mark_places s.tokens)
 
--- each mark of a program is that of its token
+-- each mark of a program is at the offset of its token
 abbrev pub MarksOccurAsTokens : Type 0
 MarksOccurAsTokens = (source : List ℕ) (tree : SyntaxTree) (s : SourceSpells source tree) → HaveMarks source s.tokens (marks_of tree)
     (mark_places s.tokens)

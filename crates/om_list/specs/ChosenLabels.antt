@@ -15,15 +15,15 @@ abbrev pub next_label : List ℕ → List ℕ → ℕ → ℕ
 next_label [] labels x = 2 ^ 62
 next_label (y ∷ ys) labels x = if y == x then first_label ys labels else next_label ys labels x
 
--- a label between those of x and of the next element is free
+-- a label between the labels of x and of the next element is free
 abbrev pub IsFreeAfter : List ℕ → List ℕ → ℕ → Type 0
 IsFreeAfter xs labels x = slice_index labels x + 2 ≤ next_label xs labels x
 
--- the label in the middle between those of x and of the next element, rounded down
+-- the label in the middle between the labels of x and of the next element, rounded down
 abbrev pub middle_after : List ℕ → List ℕ → ℕ → ℕ
 middle_after xs labels x = slice_index labels x + (next_label xs labels x - slice_index labels x) / 2
 
--- the elements whose labels are in the aligned range of 2^bits labels around that of x
+-- the elements whose labels are in the aligned range of 2^bits labels around the label of x
 abbrev pub around : List ℕ → List ℕ → ℕ → ℕ → List ℕ
 around xs labels x bits =
     let low : ℕ = aligned (slice_index labels x) bits in

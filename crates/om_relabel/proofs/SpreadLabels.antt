@@ -37,7 +37,7 @@ index_of (z ∷ zs) x h = elim (cases_eq z x) [
 
 -- ---- labels that rise
 
--- labels at equal distances, the first of which is `base`
+-- labels at equal distances; the first is `base`
 pub spread_rises : (label : ℕ → ℕ) (base gap end : ℕ) (xs : List ℕ) (k low : ℕ) → 1 ≤ gap
     → ((j : ℕ) → j < length xs → label (get_or xs j 0) ≡ base + (k + j) * gap) → low ≤ base + k * gap
     → base + (k + length xs) * gap ≤ end → LabelsRise label low end xs

@@ -12,7 +12,7 @@ abbrev pub AreLinked : (ℕ → ℕ) → List ℕ → Type 0
 AreLinked next [] = Unit {0}
 AreLinked next (x ∷ xs) = (next x ≡ first_of xs) × AreLinked next xs
 
--- each element's link is the element before; that of the first is `before`
+-- each element's link is the element before it; the first element's link is `before`
 abbrev pub AreLinkedBack : (ℕ → ℕ) → ℕ → List ℕ → Type 0
 AreLinkedBack prev before [] = Unit {0}
 AreLinkedBack prev before (x ∷ xs) = (prev x ≡ before) × AreLinkedBack prev x xs

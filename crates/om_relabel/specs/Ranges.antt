@@ -14,7 +14,7 @@ elements_within label low end (x ∷ xs) =
 abbrev pub aligned : ℕ → ℕ → ℕ
 aligned label bits = label / 2 ^ bits * 2 ^ bits
 
--- the elements whose labels are in the aligned range of 2^bits labels around that of x
+-- the elements whose labels are in the aligned range of 2^bits labels around the label of x
 abbrev pub elements_around : Links → ℕ → ℕ → List ℕ
 elements_around links x bits =
     elements_within (label_of links) (aligned (label_of links x) bits) (aligned (label_of links x) bits + 2 ^ bits) (elements links)

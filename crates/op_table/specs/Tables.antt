@@ -35,7 +35,7 @@ pub record HasCode (rows : List OpRow) (code : ℕ) (row : OpRow) : Type 0 where
 abbrev pub HasNoCode : List OpRow → ℕ → Type 0
 HasNoCode rows code = All (λ row. row.code ≡ code → ⊥) rows
 
--- the symbol of the row is longer than that of the other row, if there is one
+-- the symbol of the row is longer than the symbol of the other row, if there is one
 abbrev pub Outdoes : OpRow → Option OpRow → Type 0
 Outdoes row None = Unit {0}
 Outdoes row (Some other) = length (text_of other) < length (text_of row)

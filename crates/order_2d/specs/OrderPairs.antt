@@ -36,13 +36,13 @@ marks_after n down right = record {
   right = record { down_first = 2 + n; right_first = 1 + n };
 }
 
--- what an instance takes in down-first: the placeholder of the instance above, or else that of its left parent
+-- what an instance takes in down-first: the placeholder of the instance above, or else of its left parent
 abbrev pub down_taken : Option Marks → Option Marks → ℕ
 down_taken (Some up) left = up.down.down_first
 down_taken None (Some left) = left.right.down_first
 down_taken None None = 0
 
--- what it takes in right-first: the placeholder of its left parent, or else that of the instance above
+-- what it takes in right-first: the placeholder of its left parent, or else of the instance above
 abbrev pub right_taken : Option Marks → Option Marks → ℕ
 right_taken up (Some left) = left.right.right_first
 right_taken (Some up) None = up.down.right_first

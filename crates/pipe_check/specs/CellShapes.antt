@@ -3,7 +3,7 @@ use Rattle.std.specs.Prelude.{◌≡◌, ℤ, Option, Some, None}
 use Rattle.pipe_check.specs.declared.cell_table.CellShape.{CellShape}
 use Rattle.pipe_check.specs.declared.cell_table.CellShape.TheVariants.{Undeclared, Plain, Array}
 
--- the size, if there is one, is that of a declaration of this shape
+-- a name declared with this size, or not declared at all, has this shape
 abbrev pub HasShape : Option (Option ℤ) → CellShape → Type 0
 HasShape size Undeclared = size ≡ None
 HasShape size Plain = size ≡ Some None

@@ -20,7 +20,7 @@ IsFirstFaultOf (faults.NeedsIndex n) fault = fault ≡ Some (Broken NeedsIndex n
 IsFirstFaultOf (faults.ZeroSize n) fault = fault ≡ Some (Broken ZeroSize n)
 IsFirstFaultOf faults.NoMemory fault = Unit {0}
 
--- the marks, of which the first has this number, break no rule, and the result is the number after them; or it is their first fault
+-- the marks break no rule, and the result is the number after the last one, if the first has this number; or it is their first fault
 abbrev pub PassesMarks : Result ℕ CheckFault → ℕ → List Mark → Type 0
 PassesMarks (Ok end) next marks = (first_fault next marks ≡ None) × (end ≡ next + length marks)
 PassesMarks (Err fault) next marks = IsFirstFaultOf fault (first_fault next marks)

@@ -8,7 +8,7 @@ use Rattle.pipe_model.specs.Runs.Throttling.{IsThrottled}
 use Rattle.pipe_model.specs.Runs.WholeProgramRuns.{IsFinishedProgramRun}
 use Rattle.program_laws.specs.DeclaredCells.{IsInside, cell_count}
 
--- the log is that of a finished run of the program, over the program's cells, and the reports are those of the run
+-- the log records a finished run of the program, over the program's cells, and the reports are the run's
 pub record IsLoopEnd (tree : SyntaxTree) (input : List ℤ) (limit : ℕ) (end : LoopEnd) : Type 0 where
   pub run : IsFinishedProgramRun (whole_of tree input) limit end.run_log
   pub throttled : IsThrottled limit end.run_log.events

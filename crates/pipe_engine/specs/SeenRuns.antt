@@ -6,7 +6,7 @@ use Rattle.pipe_model.specs.Runs.ControlRun.{ControlRun}
 use Rattle.pipe_model.specs.Runs.RunLogs.{state_after}
 use Rattle.pipe_worker.specs.Tasks.{IsOver}
 
--- the events that were seen begin with those of a run that is over
+-- the events that were seen begin with a run that is over
 pub record HasSeenOver (seen : List Event) : Type 0 where
   pub base : List Event
   pub over : IsOver base

@@ -1,4 +1,4 @@
--- Tokens that the calls of seats have given and not taken back, and those of tasks that workers have taken or pushed.
+-- Tokens that the calls of seats have given and not taken back, and tokens of tasks that workers have taken or pushed.
 use Rattle.std.specs.Prelude.{◌≡◌, ◌+◌, ℕ, List, sum_by}
 use Rattle.pipe_frame.specs.TokenCounts.{TokenCounts}
 use Rattle.pipe_engine.specs.Lanes.{ends_in, seat_in}

@@ -15,7 +15,7 @@ abbrev pub left_joined : List (List Node) → ℕ → ℕ → ℕ
 left_joined columns zero k = 0
 left_joined columns (suc i) k = joined_at columns i k
 
--- the fields are those of the token of an instance that runs after these events
+-- the fields belong to the token of an instance that runs after these events
 pub record IsTokenOf (events : List Event) (t : TokenFields) : Type 0 where
   pub running : IsRunning (state_after events) t.iteration
   pub index : length running.frame.nodes ≡ suc t.index

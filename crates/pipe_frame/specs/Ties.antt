@@ -12,7 +12,7 @@ pub record SeenLists : Type 0 where
   pub down_log : List ℕ
   pub right_log : List ℕ
 
--- the identities of the lists of two orders; the empty one is that of a list without an identity
+-- the identities of the lists of two orders; a list without an identity has the empty one
 pub record ListIdentities : Type 0 where
   pub down : List ℕ
   pub right : List ℕ

@@ -140,7 +140,7 @@ not_empty : (log : List BookEntry) → LastStops log → 0 < length log
 not_empty [] h = absurd h
 not_empty (b ∷ bs) h = omega arith
 
--- the facts of an ended hall stay, and the raised ticket is above those of all accesses
+-- the facts of an ended hall stay, and the raised ticket is above the tickets of all accesses
 module _ (start : HallStart) (seen : List Event) (b : BookState) (shard : ℕ → ShardValue) (h : EndedHall start seen b shard) (least : ℕ)
     (stopped : (state_of b).stopped ≡ true) (above : (k : ℕ) → k < 16 → (shard k).last < least) where
   last : LastStops b.log

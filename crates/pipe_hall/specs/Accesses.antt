@@ -64,14 +64,14 @@ pub record IsAccessed (who : Who) (joined ticket : ℕ) (a : Access) (x y : Shar
   pub last : y.last ≡ ticket
   pub noted : IsNoted who joined a.kind (a.cell.0 / 16) x.lists y.lists x.histories y.histories
 
--- the same, after the shard's passes have seen what those of the token had seen
+-- the same, after the shard's passes have seen what the token's passes had seen
 pub record IsMade (who : Who) (joined ticket : ℕ) (a : Access) (x y : ShardValue) : Type 0 where
   pub met : SeenLists
   pub grown : GrowLists x.lists met
   pub known : AreIn (down_list met) (right_list met) who.marks
   pub accessed : IsAccessed who joined ticket a (record x { lists = met }) y
 
--- the ticket of an access: one more than the shard's last and than that of the token
+-- the ticket of an access: one more than the greater of the shard's last ticket and the token's
 abbrev pub next_ticket : ℕ → ℕ → ℕ
 next_ticket last now = max last now + 1
 

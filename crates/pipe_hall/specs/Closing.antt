@@ -47,7 +47,7 @@ abbrev pub HasSeenAll : BookState → SeenLists → Type 0
 HasSeenAll b l = (l.down_log ≡ down_first_log (starts_of (events_of b.log)))
     × (l.right_log ≡ right_first_log (columns_after (events_of b.log)) (starts_of (events_of b.log)))
 
--- each history is that of the accesses to its cell, by the orders of the two lists
+-- each history has noted the accesses to its cell, by the orders of the two lists
 abbrev pub HasHistories : BookState → ℕ → ShardValue → Type 0
 HasHistories b k x = (slot : ℕ) → IsHistoryAfter (down_place (starts_of (events_of b.log)))
     (right_place (columns_after (events_of b.log)) (starts_of (events_of b.log)))
@@ -60,12 +60,12 @@ pub record HasLearned (b : BookState) (x y : ShardValue) : Type 0 where
   pub grown : GrowLists x.lists lists
   pub all : HasSeenAll b lists
 
--- the ticket of a stop is greater than those of all accesses
+-- the ticket of a stop is greater than the tickets of all accesses
 abbrev pub StopIsLast : BookState → (ℕ → ShardValue) → Type 0
 StopIsLast b shard = (state_of b).stopped ≡ true → (k : ℕ) → k < 16 → (e : ShardEntry) → Among e (shard k).log
     → e.ticket < last_ticket b.log
 
--- what is known of a hall after its end: the facts of its rule, and each history is that of the accesses to its cell
+-- what is known of a hall after its end: the facts of its rule, and each history has noted the accesses to its cell
 pub record EndedHall (start : HallStart) (seen : List Event) (b : BookState) (shard : ℕ → ShardValue) : Type 0 where
   pub closed : ClosedHall start seen b shard
   pub all : (k : ℕ) → k < 16 → HasSeenAll b (shard k).lists

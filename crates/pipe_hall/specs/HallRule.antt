@@ -24,7 +24,7 @@ stride = 8
 abbrev pub place : ℕ → ℕ
 place i = stride * i
 
--- how many words and slots there are: those of 17 locks
+-- how many words and slots there are, for 17 locks
 abbrev pub width : ℕ
 width = place 17
 
@@ -51,8 +51,8 @@ pub record IsPlaced {M : Type 0} (words : List ℕ) (homes : List (mathlib.Core.
   pub home : slice_index words i ≡ 0 → get_elem? homes i ≡ some (some (slot_of x))
   pub away : slice_index words i ≢ 0 → (slice_index words i ≡ 1) × (get_elem? homes i ≡ some none)
 
--- what seat j knows is right. `number` is the number of the seat of an iteration's running instance, and `holder` that of the seat that has
--- taken a lock
+-- what seat j knows is right. `number` has the number of the seat of each iteration's running instance, and `holder` the number of the
+-- seat that has taken a lock
 pub record IsRightView (words : List ℕ) (b : BookState) (shard : ℕ → ShardValue) (seats : ℕ → Option InstanceData) (number holder : ℕ → ℕ)
     (j : ℕ) (v : SeatView) : Type 0 where
   pub constants : (a : HallConstants) → v.constants ≡ Some a → a ≡ constants_of b

@@ -16,7 +16,7 @@ shards = 16
 abbrev pub with_at : {A : Type 0} → (ℕ → A) → ℕ → A → ℕ → A
 with_at f i a j = if j == i then a else f j
 
--- an entry of a trace, as that of a shard
+-- an entry of a trace, as the shard's log has it
 abbrev pub entry_of : ShardEntry → Entry
 entry_of e = record { ticket = e.ticket; access = e.access }
 
@@ -34,7 +34,7 @@ of_shard k (e ∷ es) = if e.access.cell.0 % 16 == k then e ∷ of_shard k es el
 abbrev pub book_trace : BookState → ℕ → ℕ → List Entry
 book_trace b i k = item_or [] (item_or [] b.traces i) k
 
--- the trace of instance k of iteration i: that of the iteration's seat, if it has one for this instance, or else that of the book
+-- the trace of instance k of iteration i: from the iteration's seat, if it has one for this instance, or else from the book
 abbrev pub trace_by : BookState → Option InstanceData → ℕ → ℕ → List Entry
 trace_by b None i k = book_trace b i k
 trace_by b (Some d) i k = if d.fields.index == k then d.entries else book_trace b i k

@@ -22,7 +22,7 @@ pub record IsNewShard (before : List Access) (tree : SyntaxTree) (lists_ : SeenL
   pub last : x.last ≡ 0
   pub lists : x.lists ≡ lists_
 
--- a value in its slot, and the slots up to that of the next lock, which nobody uses
+-- a value in its slot, and the slots up to the next lock's slot, which nobody uses
 abbrev pub spaced : {M : Type 0} → Slot M → List (Slot M)
 spaced y = y ∷ replicate 7 slots.Out
 

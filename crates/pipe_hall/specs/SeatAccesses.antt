@@ -8,7 +8,7 @@ use Rattle.pipe_hall.specs.SeatViews.{HallConstants, InstanceData, SeatView}
 use Rattle.pipe_hall.specs.Accesses.{IsAsked}
 use Rattle.pipe_hall.specs.declared.view.View.{View}
 
--- the seat is that of the instance of a token with these fields, and holds nothing
+-- the seat belongs to the instance of a token with these fields, and holds nothing
 pub record RunsAs {S : Type 0} (m : Me S View) (f : TokenFields) : Type 0 where
   pub constants : HallConstants
   pub knows : m.0.it.constants ≡ Some constants

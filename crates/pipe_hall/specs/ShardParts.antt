@@ -43,11 +43,11 @@ abbrev pub AgreeOnKnownLog : (NodeId → ℕ) → List ShardEntry → (NodeId �
 AgreeOnKnownLog joined log down right = (e f : ShardEntry) → Among e log → Among f log → AgreeOnKnown
     (Some (joined e.node)) down right e.node f.node
 
--- a kept instance is that of an entry
+-- a kept instance has made one of the accesses in the log
 abbrev pub IsOfLog : (NodeId → Marks) → List ShardEntry → Who → Type 0
 IsOfLog marks log w = (e : ShardEntry) × Among e log × (w ≡ who_of marks e)
 
--- the history of cell c is that of the accesses in the log, by any two orders that agree with the lists and with what is known without them
+-- the history of cell c has noted the accesses in the log, by any two orders that agree with the lists and with what is known without them
 pub record IsCellHistory (marks : NodeId → Marks) (joined : NodeId → ℕ) (lists : SeenLists) (log : List ShardEntry) (c : ℕ)
     (h : History) : Type 0 where
   pub kept : AllKept (IsOfLog marks log) h

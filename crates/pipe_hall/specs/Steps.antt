@@ -126,7 +126,7 @@ run_seat v = record v { seen = []; met = []; held = []; tokens = no_tokens }
 abbrev pub worker_seat : SeatView → SeatView
 worker_seat v = record v { run = None; held = []; tokens = no_tokens }
 
--- the seat takes in that of an instance, whose token has come back
+-- the seat takes in the seat of an instance, whose token has come back
 abbrev pub with_run : SeatView → SeatView → SeatView
 with_run v w = record v { run = w.run; tokens = one_returned v.tokens }
 

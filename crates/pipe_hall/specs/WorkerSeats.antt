@@ -79,7 +79,7 @@ pub record StaysIdle {S : Type 0} (m n : Me S View) : Type 0 where
   pub idle : IsIdle n
   pub constants : n.0.it.constants ≡ m.0.it.constants
 
--- the seat has taken the book, and is that of the running instance `back`, if there is one
+-- the seat has taken the book, and belongs to the running instance `back`, if there is one
 pub record HoldsBook {M : Type 0} (m : ViewAndSlots M) (b : BookState) (back : Option InstanceData) : Type 0 where
   pub slots : m.1 ≡ (0, slots.Out) ∷ []
   pub held : m.0.it.held ≡ (0, TheBook b) ∷ []

@@ -19,7 +19,7 @@ abbrev pub IsPrefixOf : Option (List ℕ) → List ℕ → Type 0
 IsPrefixOf None bytes = bytes ≡ []
 IsPrefixOf (Some held) bytes = (bytes ≡ take (length bytes) held) × (length bytes ≤ length held)
 
--- the bytes of a whole file are at most `limit`, and those of a file that is too long are more
+-- a whole file has at most `limit` bytes, and a file that is too long has more
 abbrev pub IsUpTo : ℕ → Whole → Type 0
 IsUpTo limit (Bytes bytes) = length bytes ≤ limit
 IsUpTo limit (TooLong bytes) = limit < length bytes

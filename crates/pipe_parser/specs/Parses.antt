@@ -16,7 +16,7 @@ BreaksFirst ts (syntax.TooDeep left) = FirstFault ts TooDeep (length ts - left)
 BreaksFirst ts (syntax.TooLong left) = FirstFault ts TooLong (length ts - left)
 BreaksFirst ts syntax.NoMemory = Unit {0}
 
--- a fault of the symbols, of which there are `all`, with its offset in the source
+-- a fault of the symbols, `all` in number, with its offset in the source
 abbrev pub IsPlaced : List ℕ → List Token → (all : ℕ) → SyntaxFault → ParseFault → Type 0
 IsPlaced source tokens all (syntax.Unexpected left) fault = fault ≡ faults.Unexpected (fault_place source tokens (all - left))
 IsPlaced source tokens all (syntax.TooDeep left) fault = fault ≡ faults.TooDeep (fault_place source tokens (all - left))

@@ -1,4 +1,4 @@
--- Entries of the table of heaviest paths: those of a column, from those of the column on its left.
+-- Entries of the table of heaviest paths: a column's entries, from the entries of the column on its left.
 use Rattle.std.specs.Prelude.{◌≡◌, ℕ, ℤ, List, Option, Some, None, ◌+◌, ◌*◌, ◌<◌, ◌≤◌, ◌≤ℤ◌, ◌<ℤ◌, length, slice_index_or}
 use Rattle.pipe_model.specs.declared.node.Node.{Node}
 use Rattle.pipe_model.specs.Races.Columns.{node_at}

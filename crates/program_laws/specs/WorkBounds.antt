@@ -18,7 +18,7 @@ ProgramsHaveBoundedWork =
     → HasBoundedWork (2 * natural tree.limits.steps) (2 * natural tree.limits.steps) (natural tree.limits.stages - 1)
     ((pipeline_of tree input).behaviour i)
 
--- the greatest number of instances in a run: those of all iterations, and the one that closes the loop
+-- the greatest number of instances in a run: the instances of all iterations, and the one that closes the loop
 abbrev pub most_instances : SyntaxTree → ℕ
 most_instances tree = natural tree.limits.iterations * natural tree.limits.stages + 1
 

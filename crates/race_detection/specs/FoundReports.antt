@@ -6,7 +6,7 @@ use Rattle.pipe_model.specs.declared.node.NodeId.{NodeId}
 use Rattle.pipe_model.specs.declared.report.Report.{Report}
 use Rattle.pipe_model.specs.Orders.HistoryReports.{reports_below}
 
--- the least number that is greater than that of each accessed cell
+-- the least number that is greater than the number of each accessed cell
 abbrev pub cell_bound : List NodeAccess → ℕ
 cell_bound [] = 0
 cell_bound (a ∷ more) = max (suc a.access.cell.0) (cell_bound more)

@@ -19,7 +19,7 @@ use Rattle.pipe_model.specs.Races.CellRaces.{NotedAccess, accesses_to}
 use Rattle.pipe_model.specs.Races.Columns.{AreColumns, IsNodeOf}
 use Rattle.race_report.specs.RaceReports.{IsFoundIn}
 
--- the lists and the marks are those of a run with these columns
+-- the lists and the marks belong to a run with these columns
 pub record IsReplayOf (columns : List (List Node)) (r : Replayed) : Type 0 where
   pub down : r.orders.down.log ≡ down_first_log r.nodes
   pub right : r.orders.right.log ≡ right_first_log columns r.nodes

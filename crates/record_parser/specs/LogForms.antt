@@ -46,7 +46,7 @@ IsAccessText cells text i c v =
 abbrev pub IsStageText : List ℕ → ℕ → ℤ → Type 0
 IsStageText text i n = IsIteration i × (FitsSigned w64 n × (text ≡ decimal i ++ space ∷ signed_decimal n))
 
--- the fields after the word are those of the event
+-- the fields after the word are the event's
 pub data HasFields (cells : List Declaration) (fields : List ℕ) : LogWord → Event → Type 0 where
   Begins : (i : ℕ) → IsIteration i → fields ≡ decimal i → HasFields cells fields Begin (events.Begin i)
   Enters : (i : ℕ) → IsIteration i → fields ≡ decimal i → HasFields cells fields Enter (events.Enter i)

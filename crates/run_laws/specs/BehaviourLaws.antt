@@ -1,5 +1,5 @@
 -- Laws of behaviours: the actions that an iteration can make, as defined by an interpreter, by replies, and action by action.
--- Interaction trees are those of Xia et al. 2020.
+-- Interaction trees are as in Xia et al. 2020.
 use Rattle.std.specs.Prelude.{List, ℕ, ◌≡◌, ◌++◌, ℤ}
 use Rattle.pipe_model.specs.Pipelines.Behaviour.{accesses_in, Behaviour, Performs, actions_with, Action, HasNoEnd}
 use Rattle.pipe_model.specs.Language.Interaction.{bind, interpreted_bind, Interaction, Progress, interpreted_actions, interpret}

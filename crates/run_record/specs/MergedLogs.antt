@@ -18,7 +18,7 @@ BookRises book = AllPairs (λ (a : BookEntry) (b : BookEntry). a.ticket < b.tick
 abbrev pub ShardRises : List ShardEntry → Type 0
 ShardRises shard = AllPairs (λ (a : ShardEntry) (b : ShardEntry). a.ticket < b.ticket) shard
 
--- the events are those of the merge of the book and its shards
+-- the events of the merge of the book and its shards
 pub record AreMerged (book : List BookEntry) (shards : List (List ShardEntry)) (events : List Event) : Type 0 where
   pub entries : List LogEntry
   pub merge : IsMerge book (shard_at shards) entries
@@ -31,7 +31,7 @@ abbrev pub shard_entries : ℕ → List (List ShardEntry) → List LogEntry
 shard_entries k [] = []
 shard_entries k (s ∷ ss) = map (OfShard k) s ++ shard_entries (k + 1) ss
 
--- the entries of the book, and then those of the shards
+-- the entries of the book, and then the entries of the shards
 abbrev pub all_entries : List BookEntry → List (List ShardEntry) → List LogEntry
 all_entries book shards = map OfBook book ++ shard_entries 0 shards
 

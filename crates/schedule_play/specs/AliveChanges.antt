@@ -12,7 +12,7 @@ released passed Running = Running
 released passed MayEnter = MayEnter
 released passed MustWait = if passed then MayEnter else MustWait
 
--- an entry after an event; that of an iteration that ends is removed separately
+-- an entry after an event; the entry of an iteration that ends is removed separately
 abbrev pub after_change : Change → Alive → Alive
 after_change (Named i n free) a =
     if a.iteration == i then record { iteration = i; number = n; standing = if free then MayEnter else MustWait }
@@ -20,6 +20,6 @@ after_change (Named i n free) a =
 after_change (Entered i) a = if a.iteration == i then record { iteration = i; number = a.number; standing = Running } else a
 after_change (Ended i) a = if a.iteration == i + 1 then record a { standing = released true a.standing } else a
 
--- the entry is not that of the left neighbour of iteration i, or has named a stage with a number greater than n
+-- the entry does not belong to the left neighbour of iteration i, or has named a stage with a number greater than n
 abbrev pub passes_left : ℕ → ℤ → Alive → Bool
 passes_left i n a = not (a.iteration + 1 == i) || int_lt n a.number

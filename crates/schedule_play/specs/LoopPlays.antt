@@ -19,7 +19,7 @@ use Rattle.schedule_play.specs.declared.loop_play.PlayLimits.{PlayLimits}
 use Rattle.schedule_play.specs.OneAccess.{HasAllCells}
 use Rattle.schedule_play.specs.PlayStates.{PlayState, run_state}
 
--- the result is that of a player after its last event
+-- the result of a player after its last event
 pub record IsEndOf (v : PlayState) (r : LoopPlay) : Type 0 where
   pub events : r.run_log.events ≡ v.events
   pub columns : r.run_log.columns ≡ ended_columns_after v.events

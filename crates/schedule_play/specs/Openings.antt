@@ -4,7 +4,7 @@ use Rattle.order_2d.specs.OrderPairs.{OrderPair, OrderedList}
 use Rattle.pipe_frame.specs.Ties.{ListIdentities}
 use Rattle.schedule_play.specs.declared.opening.TheConstants.{MOST_ELEMENTS}
 
--- a list without elements but the first, with room for those of each run, and without an identity
+-- a list without elements but the first, with room for the elements of each run, and without an identity
 pub record IsNewList (l : OrderedList) : Type 0 where
   pub log : l.log ≡ []
   pub capacity : l.capacity ≡ MOST_ELEMENTS

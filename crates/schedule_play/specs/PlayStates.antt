@@ -72,7 +72,7 @@ abbrev pub HasShortRuns : Pipeline → ℕ → Type 0
 HasShortRuns p limit = (events : List Event) (s : State) → Run p limit events s → s.stopped ≡ false
     → (length events < 2 ^ 62) × (length s.frames < 2 ^ 32)
 
--- the events are a run, and what is kept is that of the run
+-- the events are a run, and what is kept of it is the run's
 pub record IsPlay (code : FlatCode) (cells : ℕ) (v : PlayState) : Type 0 where
   pub proper : IsWellFormed (pipeline_played v)
   pub short : HasShortRuns (pipeline_played v) v.book.limit

@@ -17,7 +17,7 @@ use Rattle.schedule_play.specs.declared.turns.Turn.TheVariants.{Next, Begin}
 
 -- ---- what is kept
 
--- iteration i, unless it has ended; its number is that of the stage that it has named last
+-- iteration i, unless it has ended; its number is the number of the stage that it has named last
 abbrev pub alive_entry : List Frame → ℕ → Status → List Node → List Alive
 alive_entry all i statuses.Running nodes = record {
   iteration = i;
@@ -29,7 +29,7 @@ alive_entry all i (statuses.Pending k n) nodes =
     record { iteration = i; number = n; standing = if may_enter all i k n then MayEnter else MustWait } ∷ []
 alive_entry all i (statuses.Completed e) nodes = []
 
--- those of these iterations that have not ended; the first of them has number i
+-- the iterations of this list that have not ended; the first of the list has number i
 abbrev pub alive_from : List Frame → ℕ → List Frame → List Alive
 alive_from all i [] = []
 alive_from all i (f ∷ fs) = alive_entry all i f.status f.nodes ++ alive_from all (i + 1) fs

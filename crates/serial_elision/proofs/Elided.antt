@@ -29,7 +29,7 @@ use Rattle.serial_elision.specs.LoopRuns.{LoopRan}
 use Rattle.serial_elision.specs.ColumnTraps.{column_trap, last_place}
 use Rattle.serial_elision.specs.PartRuns.{PartRan, column_closes}
 
--- at most n iterations follow, the first of which is iteration i: with them, this is the elision
+-- at most n iterations follow, from iteration i: with them, this is the elision
 pub record Elided (p : Pipeline) (n i : ℕ) (columns : List Column) (trap : Option TrapAt) (log : Log) : Type 0 where
   pub all_columns : columns ++ map ended_column (serial_traces_from p n i (p.preamble ++ accesses_of log.accesses)) ≡ serial_ended_columns p
   pub least_trap : first_of_both trap (first_trap i (serial_traces_from p n i (p.preamble ++ accesses_of log.accesses))) ≡ serial_trap p
@@ -155,7 +155,7 @@ elided_push p n m i columns pushed trap last least log now column closes h one i
 
 -- ---- steps
 
--- at most n iterations follow, the first of which is iteration i: with their steps, these are the steps of the elision
+-- at most n iterations follow, from iteration i: with their steps, these are the steps of the elision
 pub record StepsSoFar (tree : SyntaxTree) (input : List ℤ) (p : Pipeline) (n i : ℕ) (log : Log) (steps : List ℤ) : Type 0 where
   pub all_steps : steps ++ map pos (steps_from tree input i (p.preamble ++ accesses_of log.accesses)
       (serial_traces_from p n i (p.preamble ++ accesses_of log.accesses))) ≡ map pos (steps_from tree input 0 p.preamble (serial_traces p))

@@ -26,7 +26,7 @@ pub record Serves (tree : SyntaxTree) (cells : ShardState) : Type 0 where
 abbrev pub longest_column : ℕ
 longest_column = natural MOST_STAGES + 1
 
--- the end closes the loop if it is that of instance 0
+-- the end closes the loop if instance 0 has it
 abbrev pub end_closes : Option ColumnEnd → Bool
 end_closes None = false
 end_closes (Some e) = closes_at_once e

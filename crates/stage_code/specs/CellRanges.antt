@@ -25,7 +25,7 @@ abbrev pub AreNew : List Declaration → List Declaration → Type 0
 AreNew before [] = Unit {0}
 AreNew before (d ∷ ds) = (is_cell before d.name ≡ false) × AreNew (before ++ d ∷ []) ds
 
--- the size is that of a plain cell, or of an array with a bounded number of elements
+-- the size of a plain cell, or of an array with a bounded number of elements
 abbrev pub HasSize : Option ℤ → Type 0
 HasSize None = Unit {0}
 HasSize (Some n) = (pos 0 ≤ℤ n) × (n ≤ℤ pos MOST_CELLS)

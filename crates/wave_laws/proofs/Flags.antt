@@ -1,4 +1,4 @@
--- Flags none of which is true.
+-- Flags; none is true.
 use Rattle.std.proofs.Common.{◌≡◌, refl, ℕ, Bool, true, false, List, [], ◌∷◌, ◌++◌, ◌+◌, None}
 use Rattle.pipe_model.specs.Language.SyntaxTree as syntax
 use Rattle.pipe_model.specs.Language.SyntaxTree.{Expression}

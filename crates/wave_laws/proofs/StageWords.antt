@@ -1,4 +1,4 @@
--- Marks none of which is the word of a stage statement.
+-- Marks; none is the word of a stage statement.
 use Rattle.std.proofs.Common.{◌≡◌, false, List, [], ◌∷◌, ◌++◌, map}
 use Rattle.pipe_model.specs.Language.Marks.{Mark}
 use Rattle.wave_laws.specs.Waves.WaveFaults.{is_stage_word}

@@ -18,7 +18,7 @@ with_taken v xs = tally v.parts v.put (v.taken ++ xs)
 abbrev pub joined : Tally → Tally → Tally
 joined v w = tally (v.parts + w.parts) (v.put ++ w.put) (v.taken ++ w.taken)
 
--- a number of a tally that is the sum of those of its parts
+-- a number of a tally that is the sum of the numbers of its parts
 abbrev pub IsAdditive : (Tally → ℕ) → Type 0
 IsAdditive f = (v w : Tally) → f (joined v w) ≡ f v + f w
 

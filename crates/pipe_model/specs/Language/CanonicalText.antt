@@ -25,7 +25,7 @@ operator_text code = slice_index_or ([] ∷ operators) code []
 abbrev pub unary_text : ℕ → List ℕ
 unary_text code = if code == operator_codes.NEGATIVE then codes "-" else codes "!"
 
--- the level of an expression: that of its outermost operator if that is binary, and else that of operands
+-- the level of an expression: the level of its outermost operator if it is binary, and else the level of operands
 abbrev pub level_in : Expression → ℕ
 level_in (Or a b) = level_of operator_codes.OR
 level_in (And a b) = level_of operator_codes.AND

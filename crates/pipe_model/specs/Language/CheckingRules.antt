@@ -37,7 +37,7 @@ abbrev pub size_in : List Declaration → List ℕ → Option (Option ℤ)
 size_in [] x = None
 size_in (d ∷ ds) x = if bytes_eq d.name x then Some d.size else size_in ds x
 
--- the name is that of a declared cell
+-- the name is declared as a cell
 abbrev pub is_cell : List Declaration → List ℕ → Bool
 is_cell cells x = is_some (size_in cells x)
 

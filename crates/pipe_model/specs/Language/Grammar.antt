@@ -25,7 +25,7 @@ level_of code = slice_index (0 ∷ 1 ∷ 2 ∷ 3 ∷ 3 ∷ 4 ∷ 4 ∷ 4 ∷ 4 �
 abbrev pub operand_level : ℕ
 operand_level = OPERAND
 
--- the level of any expression: that of the operator that binds most loosely
+-- the level of any expression: the level of the operator that binds most loosely
 abbrev pub any_expression : ℕ
 any_expression = ANY_EXPRESSION
 

@@ -31,7 +31,7 @@ bind (Get c go) f = Get c (λ v. bind (go v) f)
 bind (Set c v d) f = Set c v (bind d f)
 bind (Stage k n d) f = Stage k n (bind d f)
 
--- the behaviour of a tree: each instance has a budget of steps, of which `left` are left in this one
+-- the behaviour of a tree: each instance has a budget of steps, and `left` steps are left in this one
 abbrev pub with_budget : ℕ → ℕ → Interaction ColumnEnd → Behaviour
 with_budget budget left (Return e) = Ending e
 with_budget budget left (Raise t) = Ending (ends.Trapped t)
@@ -65,7 +65,7 @@ spend_step (suc n) stop go = go n
 abbrev pub progress_with : Progress → Action → Progress
 progress_with k i = record k { actions = k.actions ++ i ∷ [] }
 
--- the value of cell c after the accesses before the iteration and those of the iteration so far
+-- the value of cell c after the accesses before the iteration and the iteration's own accesses so far
 abbrev pub value_seen : InitialStore → List Access → Progress → ℕ → ℤ
 value_seen store base k c = value_after store (base ++ accesses_in k.actions) c
 
@@ -85,7 +85,7 @@ abbrev pub interpreted_actions : Interpreted Progress ColumnEnd → List Action
 interpreted_actions (Returned e k) = k.actions ++ Ended e ∷ []
 interpreted_actions (Raised t k) = k.actions ++ Ended (ends.Trapped t) ∷ []
 
--- the replies with that of this access at the front, if it is a read
+-- the replies, with this access's reply at the front if it is a read
 abbrev pub reply_of : AccessKind → ℤ → List ℤ → List ℤ
 reply_of Read v rs = v ∷ rs
 reply_of Write v rs = rs

@@ -23,7 +23,7 @@ abbrev pub declared_values : List Declaration → List ℤ
 declared_values [] = []
 declared_values (d ∷ ds) = replicate (declared_size d.size) d.value ++ declared_values ds
 
--- the cells of a name; those of the first declaration begin at `next`
+-- the cells of a name; the cells of the first declaration begin at `next`
 abbrev pub range_of : ℕ → List Declaration → List ℕ → Option CellRange
 range_of next [] x = None
 range_of next (d ∷ ds) x = if bytes_eq d.name x then Some (record { first = next; size = declared_size d.size }) else range_of

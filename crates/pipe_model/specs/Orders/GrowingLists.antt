@@ -3,7 +3,7 @@ use Rattle.std.specs.Prelude.{◌≡◌, ◌↔◌, ℕ, List, true}
 use Rattle.pipe_model.specs.declared.marks.Marks.{Marks}
 use Rattle.pipe_model.specs.Orders.OrderList.{StandsBefore, has}
 
--- ys has the elements of xs, and perhaps more, and those of xs in the same order
+-- ys has the elements of xs in the same order, and perhaps more
 pub record KeepsOrder (xs ys : List ℕ) : Type 0 where
   pub elements : (x : ℕ) → has x xs ≡ true → has x ys ≡ true
   pub order : (x y : ℕ) → has x xs ≡ true → has y xs ≡ true → StandsBefore ys x y ↔ StandsBefore xs x y

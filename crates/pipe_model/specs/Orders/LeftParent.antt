@@ -24,13 +24,13 @@ abbrev pub later_place : ℕ → Option ℕ → ℕ
 later_place k None = k
 later_place k (Some j) = max k j
 
--- the joined index of an instance of this kind, from that of the instance above it and the index that it waits for
+-- the joined index of an instance of this kind, from the joined index of the instance above it and the index that it waits for
 abbrev pub joined_by : Kind → ℕ → Option ℕ → ℕ
 joined_by Wait k found = later_place k found
 joined_by Zero k found = k
 joined_by Continue k found = k
 
--- the joined index: that of the last instance of the left column that precedes instance k of the right column
+-- the joined index: the index of the last instance of the left column that precedes instance k of the right column
 abbrev pub joined : List Node → List Node → ℕ → ℕ
 joined left right zero = 0
 joined left right (suc k) = joined_by (node_at right (suc k)).kind (joined left right k) (last_up_to left (node_at right (suc k)).number)

@@ -28,7 +28,7 @@ pub data Precedes (columns : List (List Node)) : NodeId → NodeId → Type 0 wh
   ByEdge : {x y : NodeId} → Edge columns x y → Precedes columns x y
   ByPath : {x y z : NodeId} → Precedes columns x y → Edge columns y z → Precedes columns x z
 
--- two different instances of which neither precedes the other
+-- two different instances, and neither precedes the other
 pub record AreParallel (columns : List (List Node)) (x y : NodeId) : Type 0 where
   pub apart : x ≢ y
   pub not_before : Precedes columns x y → ⊥

@@ -1,4 +1,4 @@
--- Determinacy races: two accesses of one cell, of which one is a write, by parallel instances.
+-- Determinacy races: two accesses of one cell by parallel instances, and one of the two is a write.
 use Rattle.std.specs.Prelude.{◌≡◌, List, ◌∷◌, ◌⊎◌}
 use Rattle.pipe_model.specs.declared.access.Access.{Access}
 use Rattle.pipe_model.specs.declared.access.AccessKind.TheVariants.{Write}
@@ -6,7 +6,7 @@ use Rattle.pipe_model.specs.declared.access.NodeAccess.{NodeAccess}
 use Rattle.pipe_model.specs.declared.node.Node.{Node}
 use Rattle.pipe_model.specs.Races.Dag.{AreParallel}
 
--- two accesses of one cell, of which one is a write
+-- two accesses of one cell, and one of the two is a write
 pub record Conflict (a b : Access) : Type 0 where
   pub same : a.cell ≡ b.cell
   pub one : (a.kind ≡ Write) ⊎ (b.kind ≡ Write)

@@ -22,14 +22,14 @@ pub record IsFirstRacingPair (columns : List (List Node)) (accesses : List Noted
   pub first_later : (n : ℕ) → n < later → RacesWithNone columns accesses n
   pub first_earlier : RacesWithNoneBefore columns accesses later earlier
 
--- the report is that of the first race among these accesses, which are those to its cell
+-- the report names the first race among these accesses, which are all accesses to its cell
 pub record ReportsFirstRace (columns : List (List Node)) (accesses : List NotedAccess) (r : Report) : Type 0 where
   pub earlier : ℕ
   pub later : ℕ
   pub first : IsFirstRacingPair columns accesses earlier later
   pub told : r ≡ report_of columns r.cell.0 (access_at accesses earlier) (access_at accesses later)
 
--- the report is that of the first race of its cell
+-- the report names the first race of its cell
 abbrev pub ReportsFirstRaceOfCell : List (List Node) → List NodeAccess → Report → Type 0
 ReportsFirstRaceOfCell columns accesses r = ReportsFirstRace columns (accesses_to r.cell.0 accesses) r
 
@@ -37,7 +37,7 @@ ReportsFirstRaceOfCell columns accesses r = ReportsFirstRace columns (accesses_t
 abbrev pub HasReport : List Report → ℕ → Type 0
 HasReport reports cell = (r : Report) × Among r reports × (r.cell.0 ≡ cell)
 
--- each report is that of the first race of its cell, the cells rise, and each cell with a race has a report
+-- each report names the first race of its cell, the cells rise, and each cell with a race has a report
 pub record AreFirstRaces (columns : List (List Node)) (accesses : List NodeAccess) (reports : List Report) : Type 0 where
   pub each : (r : Report) → Among r reports → ReportsFirstRaceOfCell columns accesses r
   pub rise : RiseByCell reports

@@ -29,8 +29,8 @@ column_of_frame f = record { nodes = f.nodes; end = end_of_status f.status }
 abbrev pub ended_columns_after : List Event → List Column
 ended_columns_after events = map column_of_frame (state_after events).frames
 
--- the log is that of a finished run: each event is allowed after those before it, all iterations have ended, and the columns are the run's
--- own
+-- the log records a finished run: each event is allowed after the events before it, all iterations have ended, and the columns are
+-- the run's own
 pub record IsFinishedRun (p : Pipeline) (limit : ℕ) (log : RunLog) : Type 0 where
   pub run : Run p limit log.events (state_after log.events)
   pub finished : IsFinished (state_after log.events)

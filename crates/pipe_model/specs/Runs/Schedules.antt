@@ -39,7 +39,7 @@ abbrev pub if_room : Bool → Option Event → List Event
 if_room room None = []
 if_room room (Some e) = if room || not (starts_instance e) then e ∷ [] else []
 
--- the next events of these iterations, of which the first has number i
+-- the next events of these iterations; the first iteration has number i
 abbrev pub candidates_from : Pipeline → State → Bool → ℕ → List Frame → List Event
 candidates_from p s room i [] = []
 candidates_from p s room i (f ∷ fs) = if_room room (event_of_status p s i f.status f.trace) ++ candidates_from p s room (i + 1) fs

@@ -38,7 +38,7 @@ frame_at [] i = None
 frame_at (f ∷ fs) zero = Some f
 frame_at (f ∷ fs) (suc i) = frame_at fs i
 
--- the frames with that of iteration i updated by g
+-- the frames, after the frame of iteration i was updated by g
 abbrev pub update_frame : List Frame → ℕ → (Frame → Frame) → List Frame
 update_frame [] i g = []
 update_frame (f ∷ fs) zero g = g f ∷ fs

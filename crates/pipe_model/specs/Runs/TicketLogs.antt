@@ -62,7 +62,7 @@ shard_in k [] = []
 shard_in k (OfBook b ∷ xs) = shard_in k xs
 shard_in k (OfShard j e ∷ xs) = if_shard (j == k) e (shard_in k xs)
 
--- the list is in order, and its entries of the book and of each shard are those of `book` and `shards`, in their order
+-- the list is in order, and has the entries of `book` and of each of `shards`, in their order
 pub record IsMerge (book : List BookEntry) (shards : ℕ → List ShardEntry) (merged : List LogEntry) : Type 0 where
   pub order : InOrder merged
   pub book_is : book_in merged ≡ book

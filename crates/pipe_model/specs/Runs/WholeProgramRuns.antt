@@ -25,7 +25,7 @@ pub data ProgramIsFinished (w : WholeProgram) (s : State) : Type 0 where
   WithoutLoop : is_some (init_trap w) ≡ true → ProgramIsFinished w s
   WithLoop : is_some (init_trap w) ≡ false → IsFinished s → ProgramIsFinished w s
 
--- the log is that of a finished run of the program
+-- the log records a finished run of the program
 pub record IsFinishedProgramRun (w : WholeProgram) (limit : ℕ) (log : RunLog) : Type 0 where
   pub run : ProgramRun w limit log.events (state_after log.events)
   pub finished : ProgramIsFinished w (state_after log.events)

@@ -44,7 +44,7 @@ left_none_by : (x y : ℕ) (t : Bool) → ltb x y ≡ t → cond t (Some y) None
 left_none_by x y true e f = absurd (let r : Some y ≡ None = f in cc)
 left_none_by x y false e f = ltb-false x y e
 
--- without a left parent the joined index is that of the instance above it
+-- without a left parent the joined index is the joined index of the instance above
 pub left_none : (columns : List (List Node)) (a k : ℕ) → left_parent columns (suc a) (suc k) ≡ None
     → joined_at columns a (suc k) ≡ joined_at columns a k
 left_none columns a k e =

@@ -119,7 +119,7 @@ insert_twice xs t m l h =
         place_new xs t (1 + 2 * m) (h.each t l) (λ q. let v = h.only (1 + 2 * m) q in omega (arith, v)) in
         omega arith
 
--- the list after m starts, each of which takes an element
+-- the list after m starts; each of them takes an element
 abbrev pub list_after : (ℕ → ℕ) → ℕ → List ℕ
 list_after taken zero = 0 ∷ []
 list_after taken (suc m) =

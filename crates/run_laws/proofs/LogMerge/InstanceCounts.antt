@@ -151,7 +151,7 @@ pub record IsCountedAt (es : List Event) (s : State) (i : ℕ) : Type 0 where
   pub starts : start_count i es ≡ started_in (frame_at s.frames i)
   pub ends : end_count i es ≡ ended_in (frame_at s.frames i)
 
--- after every event the counts are still those of the frames
+-- after every event the counts still agree with the frames
 counted_after : (limit : ℕ) (es : List Event) (s : State) (e : Event) (i : ℕ) → is_access e ≡ false → IsSound s.frames
     → ControlAllows limit s e → IsCountedAt es s i → IsCountedAt (es ++ e ∷ []) (next_state s e) i
 counted_after limit es s (Begin j) i n sound h c =

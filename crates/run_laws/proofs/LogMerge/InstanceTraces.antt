@@ -32,7 +32,7 @@ end_actions-tickets i (b ∷ bs) = by_event (end_actions-tickets i bs) b.event
     by_event rest (Finish j e) = if_end-ticket (j == i) b.ticket (Ended e) (end_actions i bs) (end_tickets i bs) rest
     by_event rest Stop = rest
 
--- two rising lists, the first of which is before the second
+-- two rising lists; all of the first is before the second
 rises_join : (xs ys : List TimedAction) → TicketsRise xs → TicketsRise ys
     → ((x y : TimedAction) → Among x xs → Among y ys → x.ticket < y.ticket) → TicketsRise (xs ++ ys)
 rises_join [] ys r q h = q

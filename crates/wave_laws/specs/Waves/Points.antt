@@ -35,7 +35,7 @@ abbrev pub point : Setting → Statements → (rows r : ℕ) → Interaction Col
 point setting rest rows r =
     bind (steps (steps_before r) (execute_all setting rest (at_row r))) (λ env. steps (steps_after rows r) (Return ends.End))
 
--- the trace of the point in column c and row r after these accesses; its budget is that of an instance
+-- the trace of the point in column c and row r after these accesses; it has the budget of an instance
 abbrev pub point_trace : SyntaxTree → List ℤ → (c r : ℕ) → List Access → List Action
 point_trace tree input c r before =
     serial_trace (store_of tree) (with_budget (natural tree.limits.steps) (natural tree.limits.steps)
