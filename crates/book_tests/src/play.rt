@@ -74,7 +74,7 @@ fn list(alloc: Global, capacity: u32) -> Result<OmList, NoMemory>
     Ok(OmList::new(alloc, capacity)?)
 }
 
-// Room for the tokens of some iterations, none of which is held.
+// Room for the tokens of some iterations; none is held.
 fn places(alloc: Global, count: u32) -> Result<Vec<Option<FrameToken<Plan>>>, NoMemory>
     ensures { IfOk result (λ places. (i : ℕ) → token_of places.items i ≡ None) }
 {

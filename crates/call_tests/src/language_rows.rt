@@ -648,7 +648,7 @@ const PIPELINES: [Row; 17] = [
         3,
         "trap Overflow at 0/0\n",
     ),
-    // The steps of operands come before that of their operator.
+    // The steps of operands come before the step of their operator.
     (
         [1, 1, 3, 1],
         "init { emit 1 / 0; } pipe_while (0) { }",

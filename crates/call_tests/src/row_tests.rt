@@ -185,7 +185,7 @@ const PROGRAMS: [Row; 39] = [
         3,
         "trap Overflow at 0/9223372036854775807\n",
     ),
-    // A trap in a later stage ends only its iteration, and the line is that of the least iteration.
+    // A trap in a later stage ends only its iteration, and the line names the least iteration that trapped.
     (
         [3, 3, 50, 4],
         "cell n = 0; pipe_while (n < 2) { n = n + 1; let t = n; pipe_wait(1); emit t; let u = 9223372036854775807 + t; }",

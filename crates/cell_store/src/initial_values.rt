@@ -36,7 +36,7 @@ pub(crate) fn initial_values(alloc: Global, cells: &[Declaration]) -> Result<Vec
     Ok(values)
 }
 
-/// Returns, of the values of all cells, those of the cells of a shard. Returns an error only if
+/// Returns the values of the cells of a shard, from the values of all cells. Returns an error only if
 /// memory runs out.
 pub(crate) fn values_of_shard(
     alloc: Global,

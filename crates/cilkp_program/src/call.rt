@@ -504,7 +504,7 @@ pub fn cilkp<R: Threads + Wait + Sync, F: Files, S: Sink, G: Gate + Sync>(
         ReturnsSummary tree numbers e.status e.written e.run_log e.reports (S.taken out.old) (S.taken out.new)) }
 
     // Unless the status is 5, the text of the call's row, or the line of a read that failed, was
-    // written completely; the run log and the reports are those of the row.
+    // written completely; the run log and the reports are the row's.
     ensures printed { IfOk result (λ e. e.status ≢ 5 →
         IsPrinted (command_of (words_of words.now)) (F.holds files.old) (F.faults files.old) (F.faults files.new)
         e.status e.written e.run_log e.reports (S.taken out.old) (S.taken out.new)) }

@@ -92,7 +92,7 @@ fn kind_words(kind: RunKind) -> &'static str
     }
 }
 
-// The line that says how far the run is, and those of its races.
+// The line that says how far the run is, and the lines of its races.
 fn run_text(
     alloc: Global,
     checked: &Checked,

@@ -1,4 +1,4 @@
-//! The program that a command runs: that of its source, or the lowered form of a wave loop.
+//! The program that a command runs: as its source has it, or the lowered form of a wave loop.
 
 ghost use Rattle.std.specs.Prelude.{◌≡◌, List, ℕ, IfOk, OnErr, true};
 ghost use Rattle.pipe_io.specs.Faults.{CountsFault};

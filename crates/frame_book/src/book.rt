@@ -191,7 +191,7 @@ impl<M: Payload<L>, L: ListWriter + Drop> Book<M, L> {
         self.reads
     }
 
-    /// Returns the two order lists, which are those of the starts in the log.
+    /// Returns the two order lists, which the starts in the log have made.
     pub fn orders(&self) -> &TwoOrders<L>
         ensures down { result.now.down.log ≡ down_first_log (starts_of (events_of self.now.log)) }
         ensures right { result.now.right.log ≡ right_first_log (columns_after (events_of self.now.log))

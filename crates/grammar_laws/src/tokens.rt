@@ -18,7 +18,7 @@ pub fn sources_with_tokens_have_no_fault()
     ensures { SourcesWithTokensHaveNoFault }
 {}
 
-/// Each token of a source is in it, and its text there is that of its symbol.
+/// Each token of a source is in it, and its text there is the text of its symbol.
 pub fn tokens_stand_in_their_source()
     ensures { TokensStandInTheirSource }
 {}

@@ -1,4 +1,4 @@
-//! The histories and the cells of the shards of a closed hall are those of the run.
+//! The histories and the cells of the shards of a closed hall are the run's.
 
 ghost use Rattle.hall_laws.specs.HallReports.{HistoriesFindRaces, ShardStatesAreOfRuns, ShardsFindAll, SlotsAreFound};
 

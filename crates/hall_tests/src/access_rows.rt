@@ -120,7 +120,7 @@ fn accesses_of_source<R: Wait>(
     accesses_after(rt, alloc, source, &Accesses::new(alloc), asked)
 }
 
-// The accesses have the two tickets after that of the beginning.
+// The accesses have the two tickets after the ticket of the beginning.
 #[test]
 fn a_cell_is_read_and_written(rt: HostRuntime) -> Result<(), Fail> {
     let made = accesses_of_source(&rt, rt.alloc(), PREFIX_SUMS, &[(2, None), (2, Some(1))])?;
@@ -188,7 +188,7 @@ fn cells_of_several_shards_are_read_back(rt: HostRuntime) -> Result<(), Fail> {
     Ok(())
 }
 
-// A program of one cell, and one of 4,096, of which the last is read and written.
+// A program of one cell, and one of 4,096 cells; the last cell is read and written.
 #[test]
 fn programs_have_one_cell_or_many(rt: HostRuntime) -> Result<(), Fail> {
     let rows = [

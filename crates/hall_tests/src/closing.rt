@@ -45,7 +45,7 @@ fn logs_of(alloc: Global, shards: Vec<Shard>) -> Result<Vec<ShardLog>, NoMemory>
     Ok(logs)
 }
 
-/// Closes a hall of which the key is. Returns an error only if memory runs out.
+/// Closes the hall that the key belongs to. Returns an error only if memory runs out.
 pub fn close_logs<R: Wait, B: RunCode>(
     rt: &R,
     alloc: Global,

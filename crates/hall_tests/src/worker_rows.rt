@@ -1,6 +1,6 @@
 //! How often a worker makes each call of a hall. One worker alone does one thing after another, so the
 //! numbers are exact. The program has iterations 0 to 2 of two instances, and instance 0 of iteration 3
-//! closes the loop. Instance 1 waits for that of the iteration before.
+//! closes the loop. Instance 1 waits for instance 1 of the iteration before.
 
 ghost use Rattle.std.specs.Prelude.{◌≡◌, ◌<◌, IfOk};
 ghost use Rattle.hall_tests.specs.PreparedPrograms.{IsPrepared};

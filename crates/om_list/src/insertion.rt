@@ -10,7 +10,7 @@ ghost use Rattle.pipe_model.specs.Orders.OrderList.{insert_after};
 use crate::labels::{free_label_after, next_label};
 use om_relabel::links::{END, Links, MOST_ELEMENTS};
 
-// Links a new element, whose number is that of the links so far, after `x`. Returns the element that was after `x`.
+// Links a new element after `x`; its number is the number of links so far. Returns the element that was after `x`.
 fn link_after(next: &mut Vec<u32>, x: u32) -> u32
     requires there { x < length next.old.items }
     requires few { length next.old.items < END }

@@ -22,7 +22,7 @@ pub fn next_label(links: &Links, x: u32) -> u64
     links.label[after as usize]
 }
 
-/// Returns whether a label between those of `x` and of the next element is free.
+/// Returns whether a label between the labels of `x` and of the next element is free.
 pub fn has_free_label(links: &Links, x: u32) -> bool
     requires labelled { AreLabelled links.now }
     requires there { x < length links.now.label.items }
@@ -48,7 +48,7 @@ pub(crate) fn relabel_around(links: &mut Links, x: u32)
     relabel(links, &range);
 }
 
-/// Makes a label between those of `x` and of the next element free, if none is.
+/// Makes a label between the labels of `x` and of the next element free, if none is.
 pub(crate) fn free_label_after(links: &mut Links, x: u32)
     requires labelled { AreLabelled links.old }
     requires there { x < length links.old.label.items }

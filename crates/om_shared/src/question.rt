@@ -7,7 +7,7 @@ ghost use Rattle.om_shared.specs.Seats.{IsAsking};
 use crate::rule::{CheckSequence, NoteLabel, NoteSequence};
 use crate::table::{HEAD, OrderSeat, OrderWords, SEQUENCE};
 
-/// Returns whether the label of `x` is below that of `y`, and `None` if labels were moving when the
+/// Returns whether the label of `x` is below `y`'s, and `None` if labels were moving when the
 /// sequence number was read, or have moved between the two times that it was read.
 pub(crate) fn compare_labels(
     words: &OrderWords,

@@ -35,7 +35,7 @@ impl OpRow {
         bytes.starts_with(self.text())
     }
 
-    // Whether the symbol is longer than that of another row, if there is one.
+    // Whether the symbol is longer than the symbol of another row, if there is one.
     fn outdoes(&self, other: Option<OpRow>) -> bool
         ensures { Decides result (Outdoes self.now other) }
     {

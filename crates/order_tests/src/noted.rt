@@ -11,7 +11,7 @@ use order_2d::two_passes::{Asking, TwoPasses};
 use pipe_model::access::AccessKind;
 use std::sync::Wait;
 
-/// Notes an access. The passes have seen the elements of the kept instances, and those of the new one.
+/// Notes an access. The passes have seen the elements of the kept instances and of the new one.
 #[tactic(auto, using(order_2d::proofs::QuestionIdentities::same_lists))]
 pub fn note_with<R: Wait>(
     rt: &R,

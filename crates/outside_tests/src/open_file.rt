@@ -16,7 +16,7 @@ fn open_file_is_read_on(rt: HostRuntime) -> Result<(), Fail> {
     assert_eq!(rt; first, ReadPart::Got(4));
     assert_eq!(rt; files.read_part(name, 4, &mut part), ReadPart::Got(1));
     assert_eq!(rt; part[0], b'e');
-    // Offset 0 is that of the file which has the name now.
+    // Offset 0 is in the file which has the name now.
     assert_eq!(rt; files.read_part(name, 0, &mut part), ReadPart::Missing);
     Ok(())
 }

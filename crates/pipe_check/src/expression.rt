@@ -8,7 +8,7 @@ use crate::fault::CheckFault;
 use crate::scope::Scope;
 use pipe_model::tree::Expr;
 
-/// Checks the marks of an expression, the first of which has the number `next`. Returns the number
+/// Checks the marks of an expression, numbered from `next`. Returns the number
 /// after the last mark, or the first fault.
 pub fn check_expression(scope: &Scope, next: u32, e: &Expr) -> Result<u32, CheckFault>
     requires fits { Fits next (marks_of_expression scope.now (expression_of e.now)) }

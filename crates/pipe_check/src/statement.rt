@@ -69,7 +69,7 @@ fn check_stage(scope: &Scope, next: u32, number: &Option<Expr>) -> Result<u32, C
     }
 }
 
-// Checks the marks of a statement, the first of which has the number `next`. Returns the number
+// Checks the marks of a statement, numbered from `next`. Returns the number
 // after the last mark, or the first fault. On `Ok`, the scope is that after the statement.
 #[cycle(walk)]
 fn check_statement(alloc: Global, scope: &mut Scope, next: u32, s: &Stmt) -> Result<u32, CheckFault>
@@ -96,7 +96,7 @@ fn check_statement(alloc: Global, scope: &mut Scope, next: u32, s: &Stmt) -> Res
     }
 }
 
-/// Checks the marks of a block, the first of which has the number `next`. Returns the number after
+/// Checks the marks of a block, numbered from `next`. Returns the number after
 /// the last mark, or the first fault. On `Ok`, the block's locals are out of scope.
 #[cycle(walk)]
 pub fn check_block(

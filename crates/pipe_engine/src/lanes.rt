@@ -1,4 +1,4 @@
-//! Workers beside their seats, each pair of which goes to a thread of its own.
+//! Workers beside their seats. Each pair goes to a thread of its own.
 
 ghost use Rattle.std.specs.Prelude.{◌≡◌, ◌≤◌, ◌<◌, ◌+◌, ◌^◌, [], ℕ, List, All, IfOk, length, map, slice_index_or, sum_by, vec_capacity};
 ghost use Rattle.std.specs.Prelude.{vec_len};

@@ -13,7 +13,7 @@ use cell_store::cells::Cells;
 use pipe_model::access::{Access, AccessKind};
 use pipe_model::event::Event;
 
-// Makes an access again, of which the log has the value.
+// Makes an access of the log again, with the value that the log has.
 fn make_again(cells: &mut Cells, access: Access)
     requires there { access.cell.0 < cells.old.shard.cells }
     requires own { IsOfShard cells.old.shard access.cell.0 }

@@ -42,7 +42,7 @@ pub trait Carrier: Payload<OmWriter> {
         ensures* writes_back { sem 𝓛 (LendsPasses Self.row with_lists self.entry result) }
         ensures value { result.now ≡ lists self.old };
 
-    /// Its tie is that of its passes and its seat.
+    /// Its tie is made of the ties of its passes and its seat.
     ghost tied: { (x : Self) → Self.tie x ≡ tie_of (lists x) (seat x) };
 
     /// The seat that was put in is there, and the passes are the same.

@@ -97,7 +97,7 @@ fn learn_all<M: Carrier>(shards: &mut Vec<Shard>, book: &mut Book<M, OmWriter>)
     }
 }
 
-// A ticket above those of all shards.
+// A ticket above the tickets of all shards.
 fn ticket_above(shards: &[Shard]) -> u64
     requires bound { (k : ℕ) → k < length shards.now → (shard_in shards.now k).last ≤ 2 ^ 62 }
     ensures above { (k : ℕ) → k < length shards.now → (shard_in shards.now k).last < result }

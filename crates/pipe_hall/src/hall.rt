@@ -79,7 +79,7 @@ impl<M: Carrier> Model for HallKey<M> {
 // The words: the locks, which are free, and the words between them.
 const FREE: [u64; 136] = [0; 136];
 
-// Appends the slots that nobody uses, up to that of the next lock.
+// Appends the slots that nobody uses, up to the next lock's slot.
 fn push_gap<M: Carrier>(slots: &mut Vec<Slot<M>>)
     requires room { length slots.old.items + 7 ≤ vec_capacity slots.old }
     ensures items { slots.new.items ≡ slots.old.items ++ replicate 7 Slot.Out }

@@ -25,7 +25,7 @@ pub struct Node {
 /// The name of a stage instance: its iteration, and its index in the column, both counted from 0.
 #[derive(Clone, Copy, PartialEq, Eq, Debug)]
 pub struct NodeId {
-    /// The iteration's number, which is that of its column.
+    /// The number of the iteration, and of its column.
     pub iteration: u32,
     /// The index in the column.
     pub index: u32,

@@ -83,7 +83,7 @@ pub struct Declaration {
 /// The declarations of a program, in order.
 pub type Declarations = ListOf<Declaration>;
 
-/// What a program may use. The ranges are those of a program that obeys the rules.
+/// What a program may use. The ranges hold for a program that obeys the rules.
 #[derive(Clone, Copy, PartialEq, Eq, Debug)]
 pub struct Limits {
     /// The most iterations of the loop that run its body, 1 to 65,536.

@@ -1,4 +1,4 @@
-//! One row of the table: the entries of a column, from those of the column on its left.
+//! One row of the table: the entries of a column, from the entries of the column on its left.
 
 ghost use Rattle.std.specs.Prelude.{◌≡◌, ◌≤◌, ◌+◌, length, IfOk};
 ghost use Rattle.pipe_model.specs.Races.Columns.{IsRising, node_at};

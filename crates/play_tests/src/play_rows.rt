@@ -22,7 +22,7 @@ const RACING: &str = "limits iterations 2, stages 3, steps 50, emits 2; \
     cell n = 0; cell f = 0; cell c = 0; pipe_while (n < 2) { n = n + 1; if (iter() == 0) { \
     pipe_continue(1); f = 1; } else { if (f == 0) { pipe_continue(1); } pipe_continue(2); c = 1; } }";
 
-// Two iterations, of which each waits in its stage 1.
+// Two iterations; each waits in its stage 1.
 const WAITING: &str = "limits iterations 2, stages 2, steps 50, emits 0; \
     cell n = 0; pipe_while (n < 2) { n = n + 1; pipe_wait(1); }";
 

@@ -6,7 +6,7 @@ ghost use Rattle.program_laws.specs.ProgramRunLaws.{PlayedWhereFinalRan, Program
 ghost use Rattle.program_laws.specs.ProgramRunLaws.{RaceFreeProgramRunsAreSerial, RaceFreeRunsHaveOutcomes};
 
 /// A finished run of a program without a determinacy race has the columns, the output and the trap
-/// of the program's serial elision, those of `init` and `final` included.
+/// of the program's serial elision, with the accesses of `init` and `final`.
 #[tactic(auto, using(crate::proofs::ProgramRuns::race_free_program_runs_are_serial))]
 pub fn race_free_program_runs_are_serial()
     ensures { RaceFreeProgramRunsAreSerial }
@@ -44,7 +44,7 @@ pub fn parts_are_one_instance()
     ensures { PartsAreOneInstance }
 {}
 
-/// If `final` ran after a run, the output and the trap are those of the whole program.
+/// If `final` ran after a run, the output and the trap are the whole program's.
 #[tactic(auto, using(crate::proofs::ProgramRuns::played_where_final_ran))]
 pub fn played_where_final_ran()
     ensures { PlayedWhereFinalRan }

@@ -18,7 +18,7 @@ use pipe_model::report::Reports;
 use race_report::gather::gather;
 use std::alloc::Global;
 
-// The least number that is greater than that of each accessed cell.
+// The least number that is greater than the number of each accessed cell.
 fn cell_bound(accesses: &[NodeAccess]) -> usize
     ensures bound { result ≡ cell_bound accesses.now }
     ensures small { result ≤ 4294967296 }

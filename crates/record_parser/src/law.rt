@@ -3,7 +3,7 @@
 ghost use Rattle.record_parser.specs.ReadingLaws.{LogsAreReadAsTheirEvents, LogsHaveNoBadLine, RecordsHaveNoBadLine, RecordsHaveOneReading};
 ghost use Rattle.record_parser.specs.ReadingLaws.{TextsHaveOneBadLine};
 
-/// If a record is the text of a run log, its events are those of the log.
+/// If a record is the text of a run log, its events are the log's.
 pub fn logs_are_read_as_their_events()
     ensures { LogsAreReadAsTheirEvents }
 {}

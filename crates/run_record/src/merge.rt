@@ -68,7 +68,7 @@ fn push_shards(items: &mut Vec<LogItem>, shards: &[ShardLog]) -> Result<(), NoMe
     Ok(())
 }
 
-// The entries of the book, and then those of each shard.
+// The entries of the book, and then the entries of each shard.
 fn all_items(alloc: Global, book: BookLog, shards: Vec<ShardLog>) -> Result<Vec<LogItem>, NoMemory>
     ensures { IfOk result (λ items. map entry_of items.items ≡ all_entries book shards.items) }
 {

@@ -91,7 +91,7 @@ fn count_iterations(alive: &[Alive], room: bool) -> usize
     alive.iter().filter(|a| a.standing.may_go(room)).count()
 }
 
-// Returns the turn of an iteration, and past them that of the next iteration.
+// Returns the turn of an iteration, and after the last turn the next iteration's.
 fn turn_at(alive: &[Alive], room: bool, index: usize) -> Turn
     ensures { result ≡ slice_index_or (iteration_turns room alive.now) index Turn.Begin }
 {

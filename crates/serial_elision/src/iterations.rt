@@ -39,7 +39,7 @@ pub struct LoopRun {
     pub log: Log,
 }
 
-// Returns whether the end closes the loop if it is that of instance 0.
+// Returns whether the end closes the loop if instance 0 has it.
 fn end_closes(end: Option<ColumnEnd>) -> bool
     ensures { result ≡ part_runs.end_closes end }
 {

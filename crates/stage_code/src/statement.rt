@@ -19,7 +19,7 @@ use pipe_model::name::Name;
 use pipe_model::tree::{Block, Expr, StageKind, Stmt};
 use std::alloc::Global;
 
-// Returns the code of an assignment to a local or a plain cell, after that of the value.
+// Returns the code of an assignment to a local or a plain cell, after the code of the value.
 fn assign_code(cells: &CellRanges, locals: &Locals, name: &Name) -> Instr
     ensures { result ≡ assign_code (slot_of locals.now name.now) (range_of 2 cells.now name.now) }
 {
@@ -32,7 +32,7 @@ fn assign_code(cells: &CellRanges, locals: &Locals, name: &Name) -> Instr
     }
 }
 
-// Returns the code of an assignment to an element, after that of the index and of the value.
+// Returns the code of an assignment to an element, after the code of the index and of the value.
 fn assign_element_code(cells: &CellRanges, name: &Name) -> Instr
     ensures { result ≡ assign_element_code (range_of 2 cells.now name.now) }
 {
@@ -117,7 +117,7 @@ fn put_emit(
     put(code, Instr::Emit)
 }
 
-// Returns the code of a stage statement with a number, after that of the number.
+// Returns the code of a stage statement with a number, after the code of the number.
 fn stage_code(kind: StageKind) -> Instr
     ensures { result ≡ stage_code kind }
 {

@@ -4,7 +4,7 @@ ghost use Rattle.std.specs.Prelude.{◌≡◌, ◌<◌, ◌≤◌, ◌↔◌, []
 
 use std::marker::Model;
 
-/// A fixed number of tokens, of which some are out. Contracts see those that are in the pool, and
+/// A fixed number of tokens; some are out. Contracts see the tokens in the pool, and
 /// the number of all.
 #[derive(Drop)]
 pub struct Pool<T> {
@@ -24,7 +24,7 @@ impl<T> Model for Pool<T> {
 }
 
 impl<T> Pool<T> {
-    /// Returns a pool of these tokens, of which none is out. Does not allocate.
+    /// Returns a pool of these tokens; none is out. Does not allocate.
     pub fn new(tokens: Vec<T>) -> Pool<T>
         ensures { result ≡ record { home = tokens.items; size = length tokens.items } }
     {

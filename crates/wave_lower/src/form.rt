@@ -12,7 +12,7 @@ use pipe_model::tree::{Expr, Stmt};
 /// The name of the local that is the row.
 pub const ROW: [u8; 3] = *b"row";
 
-/// Returns whether the name is that of the row.
+/// Returns whether the name is the name of the row.
 pub fn is_row(name: &Name) -> bool
     ensures { result ≡ bytes_eq row name.now }
 {

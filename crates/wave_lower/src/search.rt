@@ -11,7 +11,7 @@ use crate::form::is_row;
 use pipe_model::name::Name;
 use pipe_model::tree::{Block, Expr, Stmt};
 
-// Returns the number after the marks of an expression, the first of which has the number `next`.
+// Returns the number after the marks of an expression, which are numbered from `next`.
 fn after_expression(next: u32, e: &Expr) -> u32
     requires { Fits next (no_flags (expression_of e.now)) }
     ensures { result ≡ next + length (no_flags (expression_of e.now)) }

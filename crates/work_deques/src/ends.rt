@@ -89,7 +89,7 @@ impl<T: Drop, Q: TaskTest<T>> Ends<T, Q> {
         self.own.absorb::<OnePart>(front.into_pass());
     }
 
-    // Returns how many tasks are in the own deque, of which the owner has all parts.
+    // Returns how many tasks are in the own deque. The owner has all parts of its tally.
     pub(crate) fn left(mut self) -> usize
         requires { (own_tally self).parts ≡ ALL_PARTS }
         ensures { (left : List ℕ) × (length left ≡ result) × IsEven (own_tally self) left }
