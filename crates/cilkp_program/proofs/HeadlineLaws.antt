@@ -86,7 +86,7 @@ run_meets tree numbers limit log output trap reports form run throttled right o 
     record {
       run = run;
       reported = right;
-      agrees = printed_agrees tree numbers output trap reports whole.silent o t printed;
+      agrees = printed_agrees tree numbers output trap reports whole.agrees.silent o t printed;
       throttled =
           throttled;
     }

@@ -14,7 +14,7 @@ use Rattle.pipe_model.specs.Runs.Run.{IsFinished}
 use Rattle.pipe_model.specs.Runs.RunLogs.{state_after}
 use Rattle.pipe_model.specs.Runs.WholeProgramRuns.{run_output, run_trap}
 use Rattle.frame_book.specs.BookStates.{BookState, state_of}
-use Rattle.program_laws.specs.ProgramHeadline.{MeetsProgramHeadline, exit_status, printed_text}
+use Rattle.program_laws.specs.ProgramHeadline.{MeetsHeadline, exit_status, printed_text}
 use Rattle.race_report.specs.RaceReports.{IsFoundIn, column_nodes, report_found}
 use Rattle.run_record.specs.MergedLogs.{AreMerged}
 use Rattle.run_record.specs.OwnColumns.{made_columns}
@@ -66,5 +66,6 @@ FinishedHallEndsMeetTheHeadline =
     → BreaksNoRule (tree_of b.program) → IsProgramEnd before b shards log → IsFinished (state_of b)
     → AreGathered log (found_by shards) reports
     → AreReportsOf log.events reports
-    × MeetsProgramHeadline (whole_in b) b.limit log reports races (exit_status reports (run_trap (whole_in b) (state_after log.events)))
+    × MeetsHeadline (tree_of b.program) b.input b.limit log reports races
+    (exit_status reports (run_trap (whole_in b) (state_after log.events)))
     (printed_text reports races (run_output (whole_in b) (state_after log.events)) (run_trap (whole_in b) (state_after log.events)))

@@ -17,7 +17,7 @@ use Rattle.pipe_model.specs.Runs.RunLogs.{accesses_after, columns_after, ended_c
 use Rattle.pipe_model.specs.Runs.Throttling.{IsThrottled}
 use Rattle.pipe_model.specs.Runs.WholeProgramRuns.{IsFinishedProgramRun, ProgramRun, run_output, run_trap}
 use Rattle.frame_book.specs.BookStates.{BookState, state_of}
-use Rattle.program_laws.specs.ProgramHeadline.{MeetsProgramHeadline, exit_status, printed_text}
+use Rattle.program_laws.specs.ProgramHeadline.{MeetsHeadline, exit_status, printed_text}
 use Rattle.race_report.specs.RaceReports.{IsFoundIn, column_nodes, report_found}
 use Rattle.run_record.specs.MergedLogs.{AreMerged}
 use Rattle.run_record.specs.OwnColumns.{made_columns}
@@ -59,7 +59,8 @@ FinishedHallsMeetTheHeadline =
     (v : BookState) (shards : List (List ShardEntry)) (log : RunLog) (reports : List Report) (races : List ℕ)
     → BreaksNoRule (tree_of v.program) → IsMergedHall v shards log → IsFinished (state_of v)
     → AreRight (columns_after log.events) (accesses_after log.events) reports
-    → MeetsProgramHeadline (whole_in v) v.limit log reports races (exit_status reports (run_trap (whole_in v) (state_after log.events)))
+    → MeetsHeadline (tree_of v.program) v.input v.limit log reports races
+    (exit_status reports (run_trap (whole_in v) (state_after log.events)))
     (printed_text reports races (run_output (whole_in v) (state_after log.events)) (run_trap (whole_in v) (state_after log.events)))
 
 -- what the histories of the shards have found is in the columns of the run log, as `gather` requires; its reports, sorted by cell, are

@@ -7,7 +7,7 @@ use Rattle.pipe_model.specs.Language.SyntaxTree.{SyntaxTree}
 use Rattle.pipe_model.specs.Runs.RunLogs.{state_after}
 use Rattle.pipe_model.specs.Runs.Throttling.{IsThrottled}
 use Rattle.pipe_model.specs.Runs.WholeProgramRuns.{IsFinishedProgramRun, played_output, played_trap}
-use Rattle.program_ends.specs.ProgramEnds.{AgreesWithElision, reaches_final}
+use Rattle.program_ends.specs.ProgramEnds.{EndsAsElision, reaches_final}
 use Rattle.program_ends.specs.declared.ends.ProgramResults.{ProgramResults}
 
 -- the output and the trap
@@ -21,4 +21,4 @@ pub record IsEngineRun (tree : SyntaxTree) (input : List ℤ) (limit : ℕ) (r :
   pub reports : AreReportsOf r.run_log.events r.reports
   pub output : r.output ≡ played_output (whole_of tree input) (reaches_final true r.reports) (state_after r.run_log.events)
   pub trap : r.trap ≡ played_trap (whole_of tree input) (reaches_final true r.reports) (state_after r.run_log.events)
-  pub elision : AgreesWithElision (whole_of tree input) r.run_log r.reports (results_of r)
+  pub elision : EndsAsElision (whole_of tree input) r.run_log r.reports (results_of r)

@@ -16,10 +16,10 @@ finished_runs_agree_with_elisions tree input limit log reports r accepted run ri
     let meets = accepted_programs_meet_the_elision tree input limit log accepted run in
     let headline = runs_meet_the_headline tree input limit log reports [] accepted run right in
     let free : reports ≡ [] → IsRaceFree (columns_after log.events) (accesses_after log.events) =
-    λ none. meets.races.1 (headline.silent.0 none) in
+    λ none. meets.races.1 (headline.agrees.silent.0 none) in
     let ran : reports ≡ [] → reaches_final true reports ≡ true = λ none. ap (reaches_final true) none in
     record {
-      silent = headline.silent;
+      silent = headline.agrees.silent;
       columns = λ none. meets.columns (free none);
       output = λ none. results.output ∙ ap (λ b. played_output w b s) (ran none) ∙ (played_where_final_ran w s).0
           ∙ meets.output (free none);

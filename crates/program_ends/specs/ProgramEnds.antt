@@ -24,7 +24,7 @@ pub record HasResults (w : WholeProgram) (ran : Bool) (s : State) (r : ProgramRe
 
 -- a finished run with these reports and results has a report exactly if the program's serial elision has a race, and otherwise the
 -- elision's columns, output and trap
-pub record AgreesWithElision (w : WholeProgram) (log : RunLog) (reports : List Report) (r : ProgramResults) : Type 0 where
+pub record EndsAsElision (w : WholeProgram) (log : RunLog) (reports : List Report) (r : ProgramResults) : Type 0 where
   pub silent : (reports ≡ []) ↔ HasNoProgramRace w
   pub columns : reports ≡ [] → log.columns ≡ program_columns w
   pub output : reports ≡ [] → r.output ≡ program_output w
@@ -36,4 +36,4 @@ FinishedRunsAgreeWithElisions =
     (tree : SyntaxTree) (input : List ℤ) (limit : ℕ) (log : RunLog) (reports : List Report) (r : ProgramResults) → BreaksNoRule tree
     → IsFinishedProgramRun (whole_of tree input) limit log → AreRight (columns_after log.events) (accesses_after log.events) reports
     → HasResults (whole_of tree input) (reaches_final true reports) (state_after log.events) r
-    → AgreesWithElision (whole_of tree input) log reports r
+    → EndsAsElision (whole_of tree input) log reports r

@@ -19,18 +19,33 @@ use Rattle.pipe_model.specs.Runs.WholeProgramRuns.{IsFinishedProgramRun, run_out
 abbrev pub HasNoProgramRace : WholeProgram → Type 0
 HasNoProgramRace w = IsRaceFree (map column_of (loop_traces w)) (loop_accesses w)
 
--- the log, the reports, the status and the text of a call that has run the program under the throttling limit; `races` is the text of the
+-- the reports, the status and the text of a call agree with the serial elision of the program on its input; `lines` are the lines of the
 -- reports
-pub record MeetsProgramHeadline (w : WholeProgram) (limit : ℕ) (log : RunLog) (reports : List Report) (races : List ℕ) (status : ℕ)
-    (text : List ℕ) : Type 0 where
-  pub run : IsFinishedProgramRun w limit log
+pub record AgreesWithElision (tree : SyntaxTree) (input : List ℤ) (reports : List Report) (lines : List ℕ) (status : ℕ) (text : List ℕ)
+    : Type 0 where
+  -- no cell is reported exactly if the dag of the serial elision has no race
+  pub silent : (reports ≡ []) ↔ HasNoProgramRace (whole_of tree input)
+  -- the status is 2 exactly if the dag of the serial elision has a race, and then the races are printed
+  pub racy : (status ≡ 2) ↔ (HasNoProgramRace (whole_of tree input) → ⊥)
+  pub races : status ≡ 2 → text ≡ lines
+  -- otherwise the output and the trap of the serial elision are printed, with status 3 exactly if it has a trap, and status 0 exactly if
+  -- not
+  pub otherwise : HasNoProgramRace (whole_of tree input)
+      → text ≡ output_lines (program_output (whole_of tree input)) ++ trap_lines (program_trap (whole_of tree input))
+  pub trapped : (status ≡ 3) ↔ (HasNoProgramRace (whole_of tree input) × (program_trap (whole_of tree input) ≢ None))
+  pub untrapped : (status ≡ 0) ↔ (HasNoProgramRace (whole_of tree input) × (program_trap (whole_of tree input) ≡ None))
+
+-- the headline: a run of the program under the throttling limit, its log and its reports, and the status and the text of the call
+pub record MeetsHeadline (tree : SyntaxTree) (input : List ℤ) (limit : ℕ) (log : RunLog) (reports : List Report) (lines : List ℕ)
+    (status : ℕ) (text : List ℕ) : Type 0 where
+  -- the log records a finished run of the program on its input, with the run's own columns
+  pub run : IsFinishedProgramRun (whole_of tree input) limit log
+  -- a cell has a report exactly if two conflicting accesses to it are parallel in the run's own dag; it has at most one, and the reports
+  -- rise by cell
   pub reported : AreRight (columns_after log.events) (accesses_after log.events) reports
-  pub silent : (reports ≡ []) ↔ HasNoProgramRace w
-  pub racy : (status ≡ 2) ↔ (HasNoProgramRace w → ⊥)
-  pub races_printed : status ≡ 2 → text ≡ races
-  pub otherwise : HasNoProgramRace w → text ≡ output_lines (program_output w) ++ trap_lines (program_trap w)
-  pub trapped : (status ≡ 3) ↔ (HasNoProgramRace w × (program_trap w ≢ None))
-  pub untrapped : (status ≡ 0) ↔ (HasNoProgramRace w × (program_trap w ≡ None))
+  -- whether races are reported, and what is printed, is as the serial elision says
+  pub agrees : AgreesWithElision tree input reports lines status text
+  -- at most the throttling limit of iterations are alive at any event
   pub throttled : IsThrottled limit log.events
 
 -- the exit status of a run with these reports and this trap
@@ -50,7 +65,7 @@ RunsMeetTheHeadline =
     (tree : SyntaxTree) (input : List ℤ) (limit : ℕ) (log : RunLog) (reports : List Report) (races : List ℕ) → BreaksNoRule tree
     → IsFinishedProgramRun (whole_of tree input) limit log
     → AreRight (columns_after log.events) (accesses_after log.events) reports
-    → MeetsProgramHeadline (whole_of tree input) limit log reports races
+    → MeetsHeadline tree input limit log reports races
     (exit_status reports (run_trap (whole_of tree input) (state_after log.events)))
     (printed_text reports races (run_output (whole_of tree input) (state_after log.events))
     (run_trap (whole_of tree input) (state_after log.events)))
