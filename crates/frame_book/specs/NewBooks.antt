@@ -12,7 +12,7 @@ use Rattle.frame_book.specs.Rooms.{IsPlanned}
 -- the limits are in their ranges, and the iterations keep to them
 pub record IsPlannedProgram (tree : SyntaxTree) (input : List ℤ) : Type 0 where
   pub planned : IsPlanned (pipeline_of tree input) (replicate (natural tree.limits.iterations) (natural tree.limits.stages) ++ 1 ∷ [])
-  pub few : most_instances tree ≤ 262145
+  pub bounded : most_instances tree ≤ 262145
   pub some_iterations : pos 0 ≤ℤ tree.limits.iterations
   pub some_stages : pos 0 ≤ℤ tree.limits.stages
 

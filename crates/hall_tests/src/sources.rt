@@ -80,7 +80,7 @@ impl Prepared {
     pub fn cells(&self) -> u32
         ensures count { result ≡ cells_of (tree_of self.now.checked) }
         ensures all { cell_total (tree_of self.now.checked).cells + 2 ≤ result }
-        ensures few { result ≤ 65538 }
+        ensures bounded { result ≤ 65538 }
     {
         self.checked.cell_count()
     }

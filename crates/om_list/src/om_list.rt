@@ -41,7 +41,7 @@ impl OmList {
     /// No other call allocates. Returns an error only if memory runs out.
     pub fn new(alloc: Global, capacity: u32) -> Result<OmList, OutOfMemory>
         requires some { 0 < capacity }
-        requires few { capacity ≤ MOST_ELEMENTS }
+        requires bounded { capacity ≤ MOST_ELEMENTS }
         ensures log { IfOk result (λ list. list.log ≡ []) }
         ensures capacity { IfOk result (λ list. list.capacity ≡ capacity) }
         ensures labels { IfOk result HasRisingLabels }

@@ -298,8 +298,8 @@ spread_is_free links h labels range s d x m =
           omega (arith, after, end, top))
       | inr found ↦ (
           let there = h.only u found.there in
-          let few = h.few in
-          let after = label_of_link labels u (λ q. omega (arith, q, there, few)) in
+          let bounded = h.bounded in
+          let after = label_of_link labels u (λ q. omega (arith, q, there, bounded)) in
           let above = found.above in
           elim (cases_lt (label_of links u) (range.low + 2 ^ range.bits)) [
             | inl inside ↦ (
@@ -323,12 +323,12 @@ relabelled old new h next prev long rises =
     let same = h.same in
     let same_back = h.same_back in
     let some = h.some in
-    let few = h.few in
+    let bounded = h.bounded in
     record {
       same = omega (arith, ap (length {A = ℕ}) next, same, long);
       same_back = omega (arith, ap (length {A = ℕ}) prev, same_back, long);
       some = omega (arith, some, long);
-      few = omega (arith, few, long);
+      bounded = omega (arith, bounded, long);
       each = λ x l. subst (λ xs. has x xs ≡ true) list (h.each x (omega (arith, l, long)));
       only = λ x m. (let l = h.only x (subst (λ xs. has x xs ≡ true) (sym list) m) in omega (arith, l, long));
       linked = subst (AreLinked (λ x. slice_index new.next.items x)) list

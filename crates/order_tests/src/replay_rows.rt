@@ -119,7 +119,7 @@ fn event_count(log: &RunLog) -> usize
 // Whether the lists of a run and its dag agree about each pair of instances.
 fn lists_are_dag(alloc: Global, log: &RunLog) -> Result<bool, NoMemory>
     requires own { IsOwnLog log.now }
-    requires few { length (log_starts log.now.events) ≤ 262_145 }
+    requires bounded { length (log_starts log.now.events) ≤ 262_145 }
 {
     let dag = Dag::of(alloc, &log.columns)?;
     let replayed = replay(alloc, log)?;

@@ -10,4 +10,4 @@ pub record IsChecked (program : Program) (cells : ℕ) : Type 0 where
   pub spellable : IsSpellable (tree_of program)
   pub obeys : fault_of (tree_of program) ≡ None
   pub count : cells ≡ cell_total program.cells + 2
-  pub few : cells ≤ 65538
+  pub bounded : cells ≤ 65538

@@ -55,7 +55,7 @@ impl Checked {
     /// `output` counted: 2 to 65,538.
     pub fn cell_count(&self) -> u32
         ensures count { result ≡ cell_total self.now.cells + 2 }
-        ensures few { result ≤ 65538 }
+        ensures bounded { result ≤ 65538 }
     {
         self.cells
     }

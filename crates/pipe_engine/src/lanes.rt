@@ -41,7 +41,7 @@ pub fn lanes<J: DrivenHall, M: Runs + Drop, H: Hall<M> + Drop>(
     ends: Vec<Ends<Task<M>, TestOf<J, M>>>,
     mut seats: Vec<H>,
 ) -> Result<Vec<Lane<J, M, H>>, NoMemory>
-    requires few { vec_len ends < 2 ^ 32 }
+    requires bounded { vec_len ends < 2 ^ 32 }
     requires seats { vec_len seats ≡ vec_len ends }
     requires named { All (λ seat. H.named seat ≡ J.named) seats.items }
     ensures named { IfOk result (λ lanes. All (λ lane. H.named (seat_in lane) ≡ J.named) lanes.items) }

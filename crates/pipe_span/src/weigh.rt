@@ -52,7 +52,7 @@ pub fn weigh(
     ensures columns { IfOk result (λ w. AreColumns (node_columns w.columns)) }
     ensures rising { IfOk result (λ w. (i : ℕ) → IsRising (nodes_at (node_columns w.columns) i)) }
     ensures whole { IfOk result (λ w. length w.steps ≡ instances_before (node_columns w.columns) (length w.columns)) }
-    ensures few { IfOk result (λ w. length w.steps ≤ most_entries) }
+    ensures bounded { IfOk result (λ w. length w.steps ≤ most_entries) }
     ensures steps { IfOk result (λ w. AreSteps w.steps) }
 {
     let _limits = code.limits();

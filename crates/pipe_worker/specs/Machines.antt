@@ -38,4 +38,4 @@ ready_whole code tree input (Some m) i replies h = h.can
 pub record CanDrive (own : FlatCode) (h : HallName) (code : FlatCode) (input : List ℤ) : Type 0 where
   pub code_is : code ≡ own
   pub input_is : input ≡ h.input
-  pub few : cells_of h.tree ≤ 4294967296
+  pub bounded : cells_of h.tree ≤ 4294967296

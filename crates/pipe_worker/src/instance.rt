@@ -35,7 +35,7 @@ fn run_stage_by<M: Memory>(
     memory: &mut M,
 ) -> StageEnd
     requires before { (t : Behaviour) × StandsFor code.now (M.served memory.old) input.now machine.old.run t }
-    requires few { M.served memory.old ≤ 4294967296 }
+    requires bounded { M.served memory.old ≤ 4294967296 }
     ensures ran { (t : Behaviour) → StandsFor code.now (M.served memory.old) input.now machine.old.run t
         → RanInstance code.now (M.served memory.old) input.now t (M.made memory.old) (M.made memory.new) machine.new.run result }
     ensures made { (c : FlatCode) → IsMadeFor c machine.old → IsMadeFor c machine.new }

@@ -80,7 +80,7 @@ fn found_races(alloc: Global, histories: &[History]) -> Result<Vec<(CellId, Foun
 /// if memory runs out.
 pub fn detect(alloc: Global, run_log: &RunLog, accesses: &NodeAccesses) -> Result<Reports, NoMemory>
     requires own { IsOwnLog run_log.now }
-    requires few { length (log_starts run_log.now.events) ≤ MOST_STARTS }
+    requires bounded { length (log_starts run_log.now.events) ≤ MOST_STARTS }
     requires inside { All (λ (a : PlainAccess). IsNodeOf (log_columns run_log.now.events) a.node) accesses.now }
     ensures { IfOk result (λ reports. reports ≡ found_reports (log_columns run_log.now.events)
         (log_starts run_log.now.events) accesses.now) }

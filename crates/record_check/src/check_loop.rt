@@ -114,7 +114,7 @@ fn check_coded<B: PlayedCode>(
     requires accepted { BreaksNoRule (tree_of checked.now) }
     requires throttle { 0 < throttle }
     requires served { cell_total (tree_of checked.now).cells + 2 ≤ cells.shard.cells }
-    requires few { cells.shard.cells ≤ 4294967296 }
+    requires bounded { cells.shard.cells ≤ 4294967296 }
     requires all { HasAllCells cells }
     requires state { IsStateAfter (store_of (tree_of checked.now)) (init_accesses (whole_of (tree_of checked.now) input.now)) cells }
     requires short { length events.now < 2 ^ 32 }
@@ -149,7 +149,7 @@ pub fn check_loop(
     requires accepted { BreaksNoRule (tree_of checked.now) }
     requires throttle { 0 < throttle }
     requires served { cell_total (tree_of checked.now).cells + 2 ≤ cells.shard.cells }
-    requires few { cells.shard.cells ≤ 4294967296 }
+    requires bounded { cells.shard.cells ≤ 4294967296 }
     requires all { HasAllCells cells }
     requires state { IsStateAfter (store_of (tree_of checked.now)) (init_accesses (whole_of (tree_of checked.now) input.now)) cells }
     requires short { length events.now < 2 ^ 32 }

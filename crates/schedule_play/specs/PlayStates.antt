@@ -86,7 +86,7 @@ pub record IsPlay (code : FlatCode) (cells : ℕ) (v : PlayState) : Type 0 where
   pub state : IsStateAfter (pipeline_played v).store ((pipeline_played v).preamble ++ accesses_of (run_state v).accesses) v.cells
   pub all : HasAllCells v.cells
   pub count : v.cells.shard.cells ≡ cells
-  pub few : cells ≤ 4294967296
+  pub bounded : cells ≤ 4294967296
   pub accesses : v.accesses ≡ (run_state v).accesses
 
 -- the program, the input and the limit are the same

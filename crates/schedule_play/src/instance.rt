@@ -26,7 +26,7 @@ use std::marker::Brand;
 /// end. It does not allocate.
 pub fn run_to_access(machine: &mut Machine, code: &Code, input: &Numbers, cells: &Cells) -> StageEnd
     requires before { (t : Behaviour) × StandsFor code.now cells.now.shard.cells input.now machine.old.run t }
-    requires few { cells.now.shard.cells ≤ 4294967296 }
+    requires bounded { cells.now.shard.cells ≤ 4294967296 }
     ensures ran { (t : Behaviour) → StandsFor code.now cells.now.shard.cells input.now machine.old.run t
         → RanInstance code.now cells.now.shard.cells input.now t [] [] machine.new.run result }
     ensures made { (c : FlatCode) → IsMadeFor c machine.old → IsMadeFor c machine.new }
@@ -47,7 +47,7 @@ fn next_access<B: CellsBefore>(
 ) -> (Access, StageEnd)
     requires cells { cells.now ≡ B.cells }
     requires all { HasAllCells cells.now }
-    requires few { cells.now.shard.cells ≤ 4294967296 }
+    requires bounded { cells.now.shard.cells ≤ 4294967296 }
     requires before { (t : Behaviour) × IsStopped code.now cells.now.shard.cells input.now machine.old.run t }
     ensures ran { (t : Behaviour) → IsStopped code.now cells.now.shard.cells input.now machine.old.run t
         → RanInstance code.now cells.now.shard.cells input.now t [] (result.0 ∷ []) machine.new.run result.1 }
@@ -89,7 +89,7 @@ pub fn make_access(
 ) -> (Access, StageEnd)
     requires before { (t : Behaviour) × IsStopped code.now cells.old.shard.cells input.now machine.old.run t }
     requires all { HasAllCells cells.old }
-    requires few { cells.old.shard.cells ≤ 4294967296 }
+    requires bounded { cells.old.shard.cells ≤ 4294967296 }
     ensures ran { (t : Behaviour) → IsStopped code.now cells.old.shard.cells input.now machine.old.run t
         → RanInstance code.now cells.old.shard.cells input.now t [] (result.0 ∷ []) machine.new.run result.1 }
     ensures reply { (store : InitialStore) (before : List Accessed) → IsStateAfter store before cells.old → HasReply store before result.0 }

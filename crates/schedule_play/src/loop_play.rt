@@ -93,7 +93,7 @@ fn play_coded<B: PlayedCode>(
     requires workers { 0 < limits.workers }
     requires throttle { 0 < limits.throttle }
     requires served { cell_total (tree_of checked.now).cells + 2 ≤ cells.shard.cells }
-    requires few { cells.shard.cells ≤ 4294967296 }
+    requires bounded { cells.shard.cells ≤ 4294967296 }
     requires all { HasAllCells cells }
     requires state { IsStateAfter (store_of (tree_of checked.now)) (init_accesses (whole_of (tree_of checked.now) input.now)) cells }
     ensures { IfOk result (IsLoopPlay (tree_of checked.now) input.now limits choices.now) }
@@ -130,7 +130,7 @@ pub fn play_loop(
     requires workers { 0 < limits.workers }
     requires throttle { 0 < limits.throttle }
     requires served { cell_total (tree_of checked.now).cells + 2 ≤ cells.shard.cells }
-    requires few { cells.shard.cells ≤ 4294967296 }
+    requires bounded { cells.shard.cells ≤ 4294967296 }
     requires all { HasAllCells cells }
     requires state { IsStateAfter (store_of (tree_of checked.now)) (init_accesses (whole_of (tree_of checked.now) input.now)) cells }
     ensures { IfOk result (IsLoopPlay (tree_of checked.now) input.now limits choices.now) }

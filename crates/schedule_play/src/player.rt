@@ -91,7 +91,7 @@ impl<B: PlayedCode> Player<B> {
         requires throttle { 0 < throttle }
         requires cells { cells.shard.cells ≡ B.cells }
         requires served { cell_total (tree_of checked.now).cells + 2 ≤ cells.shard.cells }
-        requires few { cells.shard.cells ≤ 4294967296 }
+        requires bounded { cells.shard.cells ≤ 4294967296 }
         requires all { HasAllCells cells }
         requires state { IsStateAfter (store_of (tree_of checked.now)) (init_accesses (whole_of (tree_of checked.now) input.now)) cells }
         ensures play { IfOk result (λ player. IsPlay B.code B.cells player) }

@@ -169,7 +169,7 @@ fn play_prepared(
 fn most_instances(limits: Limits) -> u64
     requires { HasRangesOfLimits limits }
     ensures count { result ≡ natural limits.iterations * natural limits.stages + 1 }
-    ensures few { result ≤ 268435457 }
+    ensures bounded { result ≤ 268435457 }
 {
     limits.iterations as u64 * limits.stages as u64 + 1
 }
@@ -178,7 +178,7 @@ fn most_instances(limits: Limits) -> u64
 fn turns_of_instance(limits: Limits) -> u64
     requires { HasRangesOfLimits limits }
     ensures count { result ≡ 2 * natural limits.steps + 2 }
-    ensures few { result ≤ 2000002 }
+    ensures bounded { result ≤ 2000002 }
 {
     2 * limits.steps as u64 + 2
 }

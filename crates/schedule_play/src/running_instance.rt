@@ -67,7 +67,7 @@ impl RunningInstance {
         cells: &Cells,
     ) -> Self
         requires before { (t : Behaviour) × StandsFor code.now cells.now.shard.cells input.now machine.old.run t }
-        requires few { cells.now.shard.cells ≤ 4294967296 }
+        requires bounded { cells.now.shard.cells ≤ 4294967296 }
         ensures begun { (t : Behaviour) → StandsFor code.now cells.now.shard.cells input.now machine.old.run t
             → IsUnderWay code.now cells.now.shard.cells input.now t machine.new.run [] result.next }
         ensures empty { result.trace.items ≡ [] }
@@ -93,7 +93,7 @@ impl RunningInstance {
         requires before { (t : Behaviour) × IsUnderWay code.now cells.old.shard.cells input.now t machine.old.run self.old.trace.items
             self.old.next }
         requires all { HasAllCells cells.old }
-        requires few { cells.old.shard.cells ≤ 4294967296 }
+        requires bounded { cells.old.shard.cells ≤ 4294967296 }
         ensures goes_on { IfOk result (λ a. (t : Behaviour)
             → IsUnderWay code.now cells.old.shard.cells input.now t machine.old.run self.old.trace.items self.old.next
             → IsUnderWay code.now cells.old.shard.cells input.now t machine.new.run self.new.trace.items self.new.next) }

@@ -70,7 +70,7 @@ impl<B: PlayedCode> RunningIteration<B> {
     ) -> Self
         requires code { code.now ≡ B.code }
         requires cells { cells.now.shard.cells ≡ B.cells }
-        requires few { cells.now.shard.cells ≤ 4294967296 }
+        requires bounded { cells.now.shard.cells ≤ 4294967296 }
         requires at_instance { (tree : SyntaxTree) × ((replies : List (List ℤ)) × IsAtInstance B.code B.cells tree input.now
             token.payload.machine token.iteration replies) }
         ensures instance { (tree : SyntaxTree) (replies : List (List ℤ)) → IsAtInstance B.code B.cells tree input.now token.payload.machine
@@ -112,7 +112,7 @@ impl<B: PlayedCode> RunningIteration<B> {
         requires code { code.now ≡ B.code }
         requires cells { cells.old.shard.cells ≡ B.cells }
         requires all { HasAllCells cells.old }
-        requires few { cells.old.shard.cells ≤ 4294967296 }
+        requires bounded { cells.old.shard.cells ≤ 4294967296 }
         requires pending { self.old.next ≡ NextAction.Access }
         requires instance { (tree : SyntaxTree) × ((replies : List (List ℤ)) × IsRunningIteration B.code B.cells tree input.now replies
             self.old) }

@@ -104,7 +104,7 @@ impl Schedule {
     /// Notes that the next iteration begins.
     pub fn begin(&mut self)
         requires room { length self.old.alive < self.old.limit }
-        requires few { self.old.begun < 2 ^ 32 - 1 }
+        requires bounded { self.old.begun < 2 ^ 32 - 1 }
         ensures schedule { (s : State) → IsScheduleOf s self.old → IsScheduleOf (next_state s (events.Begin self.old.begun)) self.new }
         ensures limit { self.new.limit ≡ self.old.limit }
     {

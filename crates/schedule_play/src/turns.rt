@@ -109,7 +109,7 @@ fn turn_at(alive: &[Alive], room: bool, index: usize) -> Turn
 
 // Returns the number of turns, with the beginning of the next iteration if it may begin.
 fn count_turns(alive: &[Alive], room: bool, begins: bool) -> usize
-    requires few { length alive.now < 2 ^ 63 }
+    requires bounded { length alive.now < 2 ^ 63 }
     ensures { result ≡ length (turns room begins alive.now) }
 {
     let iterations = count_iterations(alive, room);
@@ -124,7 +124,7 @@ fn count_turns(alive: &[Alive], room: bool, begins: bool) -> usize
 /// by rising number, and in which the next iteration may begin or not. An instance may start only while
 /// fewer than `workers` run. The time grows with the number of these iterations.
 pub fn count(alive: &[Alive], begins: bool, workers: u32) -> usize
-    requires few { length alive.now < 2 ^ 63 }
+    requires bounded { length alive.now < 2 ^ 63 }
     ensures { (p : Pipeline) (limit : ℕ) (s : State) → alive.now ≡ alive_iterations s → begins ≡ is_some (next_begin limit s)
         → result ≡ length (candidates p limit workers s) }
 {
@@ -135,7 +135,7 @@ pub fn count(alive: &[Alive], begins: bool, workers: u32) -> usize
 /// are the next event of each iteration, by rising number, and then the beginning of the next one, as
 /// for `count`. Returns `None` if there is none.
 pub fn choose(alive: &[Alive], begins: bool, workers: u32, choice: u32) -> Option<Turn>
-    requires few { length alive.now < 2 ^ 63 }
+    requires bounded { length alive.now < 2 ^ 63 }
     ensures { (p : Pipeline) (limit : ℕ) (s : State) → alive.now ≡ alive_iterations s → begins ≡ is_some (next_begin limit s)
         → option_map (turn_event p limit s) result ≡ option_map Some (chosen choice (candidates p limit workers s)) }
 {

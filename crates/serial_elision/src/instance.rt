@@ -55,7 +55,7 @@ fn run_from<B: Beginning>(
     requires log { log ≡ B.log }
     requires node { node ≡ B.node }
     requires whole { IsWhole log.cells }
-    requires few { log.cells.shard.cells ≤ 4294967296 }
+    requires bounded { log.cells.shard.cells ≤ 4294967296 }
     requires before { (t : Behaviour) × StandsFor prepared.now.code.now log.cells.shard.cells prepared.now.input.now machine.old.run t }
     ensures ran { IfOk result (λ r. (t : Behaviour) → StandsFor prepared.now.code.now log.cells.shard.cells prepared.now.input.now
         machine.old.run t
@@ -90,7 +90,7 @@ pub fn run_instance(
     log: Log,
 ) -> Result<(InstanceEnd, Log), NoMemory>
     requires whole { IsWhole log.cells }
-    requires few { log.cells.shard.cells ≤ 4294967296 }
+    requires bounded { log.cells.shard.cells ≤ 4294967296 }
     requires before { (t : Behaviour) × StandsFor prepared.now.code.now log.cells.shard.cells prepared.now.input.now machine.old.run t }
     ensures ran { IfOk result (λ r. (t : Behaviour) → StandsFor prepared.now.code.now log.cells.shard.cells prepared.now.input.now
         machine.old.run t

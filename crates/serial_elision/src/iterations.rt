@@ -61,7 +61,7 @@ fn column_closes(column: &Column) -> bool
 // Returns the number of the iteration that closes the loop if none before it does.
 fn last_iteration(code: &Code) -> u32
     ensures limit { result ≡ natural code.now.limits.iterations }
-    ensures few { result ≤ natural MOST_ITERATIONS }
+    ensures bounded { result ≤ natural MOST_ITERATIONS }
 {
     code.limits().iterations as u32
 }

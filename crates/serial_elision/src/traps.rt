@@ -23,7 +23,7 @@ pub fn part_trap(place: TrapPlace, end: Option<ColumnEnd>) -> Option<TrapAt>
 // Returns the place of the last instance of an iteration.
 fn last_place(iteration: u32, column: &Column) -> TrapPlace
     requires some { 0 < length column.now.nodes }
-    requires few { length column.now.nodes ≤ 4294967296 }
+    requires bounded { length column.now.nodes ≤ 4294967296 }
     ensures { result ≡ column_traps.last_place iteration column.now }
 {
     let nodes = column.nodes.as_slice();
@@ -39,7 +39,7 @@ fn last_place(iteration: u32, column: &Column) -> TrapPlace
 /// instance.
 pub fn column_trap(iteration: u32, column: &Column) -> Option<TrapAt>
     requires some { 0 < length column.now.nodes }
-    requires few { length column.now.nodes ≤ 4294967296 }
+    requires bounded { length column.now.nodes ≤ 4294967296 }
     ensures { result ≡ column_traps.column_trap iteration column.now }
 {
     part_trap(last_place(iteration, column), column.end)
@@ -50,7 +50,7 @@ pub fn column_trap(iteration: u32, column: &Column) -> Option<TrapAt>
 pub fn least_trap(columns: &[Column]) -> Option<TrapAt>
     requires count { length columns.now ≤ 4294967296 }
     requires some { All (λ column. 0 < length column.nodes) columns.now }
-    requires few { All (λ column. length column.nodes ≤ 4294967296) columns.now }
+    requires bounded { All (λ column. length column.nodes ≤ 4294967296) columns.now }
     ensures { result ≡ column_traps.least_trap 0 columns.now }
 {
     let mut trap = None;

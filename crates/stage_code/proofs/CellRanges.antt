@@ -114,9 +114,9 @@ half_more ranges grown next i size cells d key range half h e named sized is upd
 
 -- a size is not negative, and at most all of them together
 has_size : (size : Option ℤ) → HasNoNegativeSize size → declared_size size ≤ MOST_CELLS → HasSize size
-has_size None h few = tt
-has_size (Some (pos n)) h few = (record { le = le→leb 0 n (omega arith) }, record { le = le→leb n MOST_CELLS few })
-has_size (Some (negsuc n)) h few = absurd (omega (arith, h))
+has_size None h bounded = tt
+has_size (Some (pos n)) h bounded = (record { le = le→leb 0 n (omega arith) }, record { le = le→leb n MOST_CELLS bounded })
+has_size (Some (negsuc n)) h bounded = absurd (omega (arith, h))
 
 one_total : (cells : List Declaration) (i : ℕ) (d : Declaration) → i < length cells → d ≡ get_or cells i d
     → declared_size d.size ≤ cell_total cells
@@ -127,6 +127,6 @@ one_total (x ∷ cells) (suc i) d h e = let others = one_total cells i d (omega 
 pub size_fits : (cells : List Declaration) (i : ℕ) (d : Declaration) → i < length cells → d ≡ get_or cells i d
     → All (λ (c : Declaration). HasNoNegativeSize c.size) cells
     → cell_total cells ≤ MOST_CELLS → HasSize d.size
-size_fits cells i d h e sizes few =
+size_fits cells i d h e sizes bounded =
     let one = one_total cells i d h e in
-    has_size d.size (subst (λ (c : Declaration). HasNoNegativeSize c.size) (sym e) (sizes i d h)) (omega (arith, one, few))
+    has_size d.size (subst (λ (c : Declaration). HasNoNegativeSize c.size) (sym e) (sizes i d h)) (omega (arith, one, bounded))

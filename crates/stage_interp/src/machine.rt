@@ -113,7 +113,7 @@ impl Machine {
     #[inline(never)]
     pub fn run_stage<M: Memory>(&mut self, code: &Code, input: &Numbers, memory: &mut M) -> StageEnd
         requires before { (t : Behaviour) × StandsFor code.now (M.served memory.old) input.now self.old.run t }
-        requires few { M.served memory.old ≤ 4294967296 }
+        requires bounded { M.served memory.old ≤ 4294967296 }
         ensures ran { (t : Behaviour) → StandsFor code.now (M.served memory.old) input.now self.old.run t
             → RanInstance code.now (M.served memory.old) input.now t (M.made memory.old) (M.made memory.new) self.new.run result }
         ensures tree { (d : Interaction ColumnEnd) → StandsForTree code.now (M.served memory.old) input.now self.old.run d
@@ -144,7 +144,7 @@ impl Machine {
     #[inline(never)]
     pub fn go_on<M: Memory>(&mut self, code: &Code, input: &Numbers, memory: &mut M) -> StageEnd
         requires before { (t : Behaviour) × IsStopped code.now (M.served memory.old) input.now self.old.run t }
-        requires few { M.served memory.old ≤ 4294967296 }
+        requires bounded { M.served memory.old ≤ 4294967296 }
         ensures ran { (t : Behaviour) → IsStopped code.now (M.served memory.old) input.now self.old.run t
             → RanInstance code.now (M.served memory.old) input.now t (M.made memory.old) (M.made memory.new) self.new.run result }
         ensures tree { (d : Interaction ColumnEnd) → IsStoppedTree code.now (M.served memory.old) input.now self.old.run d

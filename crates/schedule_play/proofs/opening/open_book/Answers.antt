@@ -35,12 +35,12 @@ pub new-requires-clause-room : goal.new-requires-clause-room
 new-requires-clause-room g c =
     let accepted = c.requires.accepted in
     let planned = accepted_programs_are_planned (tree_of c.args.checked.now) c.args.input.now accepted in
-    let few = planned.few in
+    let bounded = planned.bounded in
     let same : most_instances (tree_of c.program.result.now) ≡ most_instances (tree_of c.args.checked.now) =
     ap (λ (p : Program). most_instances (tree_of p)) c.program.ensures.program in
     let down = c.in_ok-orders.ensures.down.capacity in
     let right = c.in_ok-orders.ensures.right.capacity in
-    (omega (arith, few, same, down), omega (arith, few, same, right))
+    (omega (arith, bounded, same, down), omega (arith, bounded, same, right))
 
 pub returns-clause-tree : goal.returns-clause-tree
 returns-clause-tree g c = subst (λ (p : Program). IfOk c.new.result (λ book. tree_of book.program ≡ tree_of p)) c.program.ensures.program

@@ -37,7 +37,7 @@ loop-nodes-init c =
       whole = subst (λ (l : Log). IsWhole l.cells) (sym begun) c.requires.serves.whole;
       some = omega (arith, one);
       room = omega (arith, one);
-      few = subst (λ l. natural l ≤ 4096) (ap (λ l. l.stages) c.limits-limits.ensures.limits)
+      bounded = subst (λ l. natural l ≤ 4096) (ap (λ l. l.stages) c.limits-limits.ensures.limits)
           (natural_most _ 4096 c.limits-limits.ensures.in_range.stages.1);
     }
 
@@ -74,7 +74,7 @@ loop-nodes-preserved c =
       whole = subst (λ (l : Log). IsWhole l.cells) (sym entered) c.in_ok-end.ensures.whole;
       some = omega (arith, longer);
       room = omega (arith, longer, more, within, s.invariant.room);
-      few = s.invariant.few;
+      bounded = s.invariant.bounded;
     }
 
 pub returns-in-Ended-clause-ran : goal.returns-in-Ended-clause-ran

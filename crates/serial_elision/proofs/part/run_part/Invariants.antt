@@ -26,7 +26,7 @@ invariant-loop-nodes l =
       some : 0 < length l.nodes;
       room : length l.nodes + (natural l.prepared.code.now.limits.stages - l.machine.run.state.stage.count) ≤ natural
           l.prepared.code.now.limits.stages + 1;
-      few : natural l.prepared.code.now.limits.stages ≤ natural MOST_STAGES;
+      bounded : natural l.prepared.code.now.limits.stages ≤ natural MOST_STAGES;
     }
 
 abbrev pub decreases-loop-nodes : goal.decreases-loop-nodes

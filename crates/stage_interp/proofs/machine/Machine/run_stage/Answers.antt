@@ -14,7 +14,7 @@ invariant_of-self g c =
     record {
       slots = subst (λ n. MOST_LOCALS ≤ n) (sym c.run_stage-end.ensures.stays.slots) was.slots;
       left = c.run_stage-end.ensures.left;
-      budget = c.run_stage-end.ensures.few;
+      budget = c.run_stage-end.ensures.bounded;
     }
 
 pub returns-clause-ran : goal.returns-clause-ran
