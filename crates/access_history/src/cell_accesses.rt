@@ -37,7 +37,7 @@ pub fn history_of<O: Orders>(accesses: &[CellAccess], orders: &mut O) -> History
         → ReportsFirst down right (noted_accesses accesses.now) result.report }
     ensures down { KeepsOrder (O.down_first orders.old) (O.down_first orders.new) }
     ensures right { KeepsOrder (O.right_first orders.old) (O.right_first orders.new) }
-    ensures same { O.identity orders.new ≡ O.identity orders.old }
+    ensures unchanged { O.identity orders.new ≡ O.identity orders.old }
 {
     let mut history = History::new();
     for access in accesses {

@@ -83,7 +83,7 @@ fn is_same_or_before<O: Orders>(y: &Who, x: &Who, joined: Option<u32>, orders: &
         → result ≡ is_ordered down right y.now.node x.now.node }
     ensures down { KeepsOrder (O.down_first orders.old) (O.down_first orders.new) }
     ensures right { KeepsOrder (O.right_first orders.old) (O.right_first orders.new) }
-    ensures same { O.identity orders.new ≡ O.identity orders.old }
+    ensures unchanged { O.identity orders.new ≡ O.identity orders.old }
 {
     let same = y.node.iteration == x.node.iteration && y.node.index == x.node.index;
     if same || is_known_before(joined, x.node, y.node) {
@@ -111,7 +111,7 @@ fn compare<O: Orders>(
         → earlier_access result ≡ race_with down right x.now.node kind (node_of kept.now) None }
     ensures down { KeepsOrder (O.down_first orders.old) (O.down_first orders.new) }
     ensures right { KeepsOrder (O.right_first orders.old) (O.right_first orders.new) }
-    ensures same { O.identity orders.new ≡ O.identity orders.old }
+    ensures unchanged { O.identity orders.new ≡ O.identity orders.old }
 {
     match kept {
         Some(y) => {
@@ -141,7 +141,7 @@ fn compare_readers<O: Orders>(
         (race_with down right x.now.node Read (node_of history.now.downmost) None) }
     ensures down { KeepsOrder (O.down_first orders.old) (O.down_first orders.new) }
     ensures right { KeepsOrder (O.right_first orders.old) (O.right_first orders.new) }
-    ensures same { O.identity orders.new ≡ O.identity orders.old }
+    ensures unchanged { O.identity orders.new ≡ O.identity orders.old }
 {
     match compare(&history.rightmost, AccessKind::Read, x, joined, orders) {
         Verdict::Clean => compare(&history.downmost, AccessKind::Read, x, joined, orders),
@@ -165,7 +165,7 @@ fn check<O: Orders>(
         → earlier_access result ≡ check_access down right (kept_of history.now) x.now.node kind }
     ensures down { KeepsOrder (O.down_first orders.old) (O.down_first orders.new) }
     ensures right { KeepsOrder (O.right_first orders.old) (O.right_first orders.new) }
-    ensures same { O.identity orders.new ≡ O.identity orders.old }
+    ensures unchanged { O.identity orders.new ≡ O.identity orders.old }
 {
     match (
         compare(&history.writer, AccessKind::Write, x, joined, orders),
@@ -188,7 +188,7 @@ fn later_in_down<O: Orders>(kept: &Option<Who>, x: &Who, joined: Option<u32>, or
     ensures either { IsEither kept.now x.now result }
     ensures down { KeepsOrder (O.down_first orders.old) (O.down_first orders.new) }
     ensures right { KeepsOrder (O.right_first orders.old) (O.right_first orders.new) }
-    ensures same { O.identity orders.new ≡ O.identity orders.old }
+    ensures unchanged { O.identity orders.new ≡ O.identity orders.old }
 {
     match kept {
         Some(y) => {
@@ -221,7 +221,7 @@ fn later_in_right<O: Orders>(
     ensures either { IsEither kept.now x.now result }
     ensures down { KeepsOrder (O.down_first orders.old) (O.down_first orders.new) }
     ensures right { KeepsOrder (O.right_first orders.old) (O.right_first orders.new) }
-    ensures same { O.identity orders.new ≡ O.identity orders.old }
+    ensures unchanged { O.identity orders.new ≡ O.identity orders.old }
 {
     match kept {
         Some(y) => {
@@ -277,7 +277,7 @@ impl History {
         ensures each { KeepsAmong self.old who self.new }
         ensures down { KeepsOrder (O.down_first orders.old) (O.down_first orders.new) }
         ensures right { KeepsOrder (O.right_first orders.old) (O.right_first orders.new) }
-        ensures same { O.identity orders.new ≡ O.identity orders.old }
+        ensures unchanged { O.identity orders.new ≡ O.identity orders.old }
     {
         match kind {
             AccessKind::Read => {
@@ -324,7 +324,7 @@ impl History {
         ensures in_lists { KeptAreIn (O.down_first orders.new) (O.right_first orders.new) self.new }
         ensures down { KeepsOrder (O.down_first orders.old) (O.down_first orders.new) }
         ensures right { KeepsOrder (O.right_first orders.old) (O.right_first orders.new) }
-        ensures same { O.identity orders.new ≡ O.identity orders.old }
+        ensures unchanged { O.identity orders.new ≡ O.identity orders.old }
     {
         let verdict = check(self, &who, joined, kind, orders);
         self.keep(who, joined, kind, orders);
@@ -359,7 +359,7 @@ impl History {
         ensures in_lists { KeptAreIn (O.down_first orders.new) (O.right_first orders.new) self.new }
         ensures down { KeepsOrder (O.down_first orders.old) (O.down_first orders.new) }
         ensures right { KeepsOrder (O.right_first orders.old) (O.right_first orders.new) }
-        ensures same { O.identity orders.new ≡ O.identity orders.old }
+        ensures unchanged { O.identity orders.new ≡ O.identity orders.old }
     {
         self.note_joined(who, None, kind, orders)
     }

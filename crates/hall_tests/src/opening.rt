@@ -45,7 +45,7 @@ fn payloads<B: RunCode>(
     count: u32,
 ) -> Result<Vec<Carried<B>>, NoMemory>
     requires code { code.now ≡ B.code }
-    ensures same { passes.new ≡ passes.old }
+    ensures unchanged { passes.new ≡ passes.old }
     ensures count { IfOk result (λ payloads. length payloads.items ≡ count) }
     ensures made { IfOk result (λ payloads. All (λ x. HasMachine x.machine (IsMadeFor B.code)) payloads.items) }
     ensures passes { IfOk result (λ payloads. All (λ x. x.passes ≡ passes.old) payloads.items) }

@@ -39,7 +39,7 @@ pub fn note_met<R: Wait>(
     who: Who,
     kind: AccessKind,
 ) -> Verdict
-    requires same { AreSameLists passes.old own.old }
+    requires same_lists { AreSameLists passes.old own.old }
     requires kept { KeptAreIn (list_of_log passes.old.down_log) (list_of_log passes.old.right_log) history.old }
     requires new { AreIn (list_of_log own.old.down_log) (list_of_log own.old.right_log) who.marks }
     ensures in_lists { KeptAreIn (list_of_log passes.new.down_log) (list_of_log passes.new.right_log) history.new }
