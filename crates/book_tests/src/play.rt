@@ -67,7 +67,7 @@ pub struct Play {
 }
 
 fn list(alloc: Global, capacity: u32) -> Result<OmList, NoMemory>
-    requires some { 0 < capacity }
+    requires positive { 0 < capacity }
     requires bounded { capacity ≤ MOST_ELEMENTS }
     ensures { IfOk result (λ l. (l.log ≡ []) × (l.capacity ≡ capacity)) }
 {

@@ -9,7 +9,7 @@ use std::thread::{Threads, join};
 
 /// Inserts elements after the first `among` elements in turn.
 pub fn insert_among(writer: &mut OmWriter, among: u32, times: u32)
-    requires some { 0 < among }
+    requires positive { 0 < among }
     requires there { among ≤ length writer.old.log + 1 }
     requires room { length writer.old.log + times < writer.old.capacity }
     ensures log { length writer.new.log ≡ length writer.old.log + times }

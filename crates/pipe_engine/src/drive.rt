@@ -46,7 +46,7 @@ fn drive_hall<
     seats: Vec<H>,
     gate: &G,
 ) -> Result<Driven<H>, NoMemory>
-    requires some { 0 < vec_len seats }
+    requires nonempty { 0 < vec_len seats }
     requires bounded { vec_len seats < 2 ^ 32 }
     requires named { All (λ seat. H.named seat ≡ J.named) seats.items }
     requires drives { CanDrive M.code J.named code.now input.now }

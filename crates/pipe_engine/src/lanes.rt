@@ -68,7 +68,7 @@ fn lend<
     H: Hall<M> + Drop + Send,
     G: Gate + Sync,
 >(rt: &R, code: &Code, input: &Numbers, lanes: &mut [Lane<J, M, H>], gate: &G)
-    requires some { 0 < length lanes.old }
+    requires nonempty { 0 < length lanes.old }
     requires named { All (λ lane. H.named (seat_in lane) ≡ J.named) lanes.old }
     requires drives { CanDrive M.code J.named code.now input.now }
     ensures length { length lanes.new ≡ length lanes.old }
@@ -100,7 +100,7 @@ pub fn work<
     H: Hall<M> + Drop + Send,
     G: Gate + Sync,
 >(rt: &R, code: &Code, input: &Numbers, lanes: &mut Vec<Lane<J, M, H>>, gate: &G)
-    requires some { 0 < vec_len lanes.old }
+    requires nonempty { 0 < vec_len lanes.old }
     requires named { All (λ lane. H.named (seat_in lane) ≡ J.named) lanes.old.items }
     requires drives { CanDrive M.code J.named code.now input.now }
     requires all { AreAllEnds (map ends_in lanes.old.items) }

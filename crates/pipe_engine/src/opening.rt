@@ -38,7 +38,7 @@ fn most_elements(limits: Limits) -> u32
 
 // Returns two order lists with room for this many elements each, and passes to them.
 fn orders(alloc: Global, capacity: u32) -> Result<(TwoOrders<OmWriter>, TwoPasses), NoMemory>
-    requires some { 0 < capacity }
+    requires positive { 0 < capacity }
     requires bounded { capacity ≤ 524291 }
     ensures logs { IfOk result (λ r. (r.0.down.log ≡ []) × (r.0.right.log ≡ [])) }
     ensures room { IfOk result (λ r. (r.0.down.capacity ≡ capacity) × (r.0.right.capacity ≡ capacity)) }

@@ -72,7 +72,7 @@ fn heaviest_path(
     columns: &[Nodes],
     weights: &[u64],
 ) -> Result<(u64, Vec<NodeId>), NoMemory>
-    requires some { 0 < length columns.now }
+    requires nonempty { 0 < length columns.now }
     requires columns { AreColumns columns.now }
     requires rising { (i : ℕ) → IsRising (nodes_at columns.now i) }
     requires weights { AreWeights weights.now }

@@ -25,7 +25,7 @@ fn first_heaviest(row: &[Entry]) -> usize
 /// order.
 pub fn heaviest_last(rows: &[Row]) -> NodeId
     requires bounded { AreFew rows.now }
-    requires some { 0 < length rows.now }
+    requires nonempty { 0 < length rows.now }
     requires full { (i : ℕ) → i < length rows.now → 0 < length (row_at rows.now i) }
     ensures { IsHeaviestLast rows.now result }
 {

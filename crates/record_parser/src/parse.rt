@@ -28,7 +28,7 @@ struct Divided<'a> {
 
 // Takes the first line from a text that is not empty.
 fn first_line(text: &[u8]) -> Divided<'_>
-    requires some { 0 < length text.now }
+    requires nonempty { 0 < length text.now }
     ensures lines { lines_of text.now ≡ result.line.now ∷ lines_of result.following.now }
     ensures shorter { length result.following.now < length text.now }
 {

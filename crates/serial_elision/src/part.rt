@@ -72,7 +72,7 @@ fn finish(log: Log, iteration: u32, end: ColumnEnd) -> Result<Log, NoMemory>
 
 // Returns the name of the last instance of an iteration.
 fn last_node(iteration: u32, nodes: &Nodes) -> NodeId
-    requires some { 0 < length nodes.now }
+    requires nonempty { 0 < length nodes.now }
     requires bounded { length nodes.now ≤ longest_column }
     ensures { result ≡ at iteration (length nodes.now - 1) }
 {
@@ -106,7 +106,7 @@ pub fn run_part(
         → steps.new ≡ steps.old ++ map pos (step_counts (store_of (tree_of prepared.now.checked.now)) before
         (natural (tree_of prepared.now.checked.now).limits.steps) (natural (tree_of prepared.now.checked.now).limits.steps)
         (interaction_in (tree_of prepared.now.checked.now) prepared.now.input.now part iteration))) }
-    ensures some { IfOk result (λ r. 0 < length r.0.nodes) }
+    ensures nonempty { IfOk result (λ r. 0 < length r.0.nodes) }
     ensures bounded { IfOk result (λ r. length r.0.nodes ≤ longest_column) }
     ensures made { IfOk result (λ r. (code : FlatCode) → IsMadeFor code machine.old → IsMadeFor code machine.new) }
     ensures serves { IfOk result (λ r. Serves (tree_of prepared.now.checked.now) r.1.cells) }

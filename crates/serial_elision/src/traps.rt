@@ -22,7 +22,7 @@ pub fn part_trap(place: TrapPlace, end: Option<ColumnEnd>) -> Option<TrapAt>
 
 // Returns the place of the last instance of an iteration.
 fn last_place(iteration: u32, column: &Column) -> TrapPlace
-    requires some { 0 < length column.now.nodes }
+    requires nonempty { 0 < length column.now.nodes }
     requires bounded { length column.now.nodes ≤ 4294967296 }
     ensures { result ≡ column_traps.last_place iteration column.now }
 {
@@ -38,7 +38,7 @@ fn last_place(iteration: u32, column: &Column) -> TrapPlace
 /// Returns the trap of iteration `iteration`, if its column ends with one. The column has an
 /// instance.
 pub fn column_trap(iteration: u32, column: &Column) -> Option<TrapAt>
-    requires some { 0 < length column.now.nodes }
+    requires nonempty { 0 < length column.now.nodes }
     requires bounded { length column.now.nodes ≤ 4294967296 }
     ensures { result ≡ column_traps.column_trap iteration column.now }
 {
@@ -49,7 +49,7 @@ pub fn column_trap(iteration: u32, column: &Column) -> Option<TrapAt>
 /// instance.
 pub fn least_trap(columns: &[Column]) -> Option<TrapAt>
     requires count { length columns.now ≤ 4294967296 }
-    requires some { All (λ column. 0 < length column.nodes) columns.now }
+    requires nonempty { All (λ column. 0 < length column.nodes) columns.now }
     requires bounded { All (λ column. length column.nodes ≤ 4294967296) columns.now }
     ensures { result ≡ column_traps.least_trap 0 columns.now }
 {

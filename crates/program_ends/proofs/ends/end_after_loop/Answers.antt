@@ -23,8 +23,8 @@ least_trap-trap-requires-clause-count c =
     (columns_are_small (tree_of c.args.prepared.now.checked.now) c.args.prepared.now.input.now run.0 c.args.run_log.now.events accepted
     run.1).count
 
-pub least_trap-trap-requires-clause-some : goal.least_trap-trap-requires-clause-some
-least_trap-trap-requires-clause-some c =
+pub least_trap-trap-requires-clause-nonempty : goal.least_trap-trap-requires-clause-nonempty
+least_trap-trap-requires-clause-nonempty c =
     let accepted = c.requires.accepted in
     let run = c.requires.run in
     subst (λ l. All (λ (column : Column). 0 < length column.nodes) l) (sym (c.as_slice.ensures ∙ c.requires.columns))

@@ -35,7 +35,7 @@ loop-nodes-init c =
       made = c.reset.ensures.made;
       shard = ap (λ (l : Log). l.cells.shard) begun;
       whole = subst (λ (l : Log). IsWhole l.cells) (sym begun) c.requires.serves.whole;
-      some = omega (arith, one);
+      nonempty = omega (arith, one);
       room = omega (arith, one);
       bounded = subst (λ l. natural l ≤ 4096) (ap (λ l. l.stages) c.limits-limits.ensures.limits)
           (natural_most _ 4096 c.limits-limits.ensures.in_range.stages.1);
@@ -72,7 +72,7 @@ loop-nodes-preserved c =
       made = λ k h. c.run_instance.ensures.made k (s.invariant.made k h);
       shard = ap (λ (l : Log). l.cells.shard) entered ∙ c.in_ok-end.ensures.shard ∙ s.invariant.shard;
       whole = subst (λ (l : Log). IsWhole l.cells) (sym entered) c.in_ok-end.ensures.whole;
-      some = omega (arith, longer);
+      nonempty = omega (arith, longer);
       room = omega (arith, longer, more, within, s.invariant.room);
       bounded = s.invariant.bounded;
     }

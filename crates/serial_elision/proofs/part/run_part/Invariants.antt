@@ -23,7 +23,7 @@ invariant-loop-nodes l =
       made : (code : FlatCode) → IsMadeFor code l.fn.machine → IsMadeFor code l.machine;
       shard : l.log.cells.shard ≡ l.fn.log.cells.shard;
       whole : IsWhole l.log.cells;
-      some : 0 < length l.nodes;
+      nonempty : 0 < length l.nodes;
       room : length l.nodes + (natural l.prepared.code.now.limits.stages - l.machine.run.state.stage.count) ≤ natural
           l.prepared.code.now.limits.stages + 1;
       bounded : natural l.prepared.code.now.limits.stages ≤ natural MOST_STAGES;
