@@ -13,7 +13,7 @@ ghost use Rattle.schedule_play.specs.ScheduleStates.{IsScheduleOf, goes_on};
 ghost use Rattle.schedule_play.specs.Turns.{turn_event};
 
 use crate::changes::{Change, change_each, passes_left};
-use crate::turns::{Alive, Standing, Turn, choose, has_next};
+use crate::turns::{Alive, Readiness, Turn, choose, has_next};
 use pipe_model::column::ColumnEnd;
 use pipe_model::event::Event;
 use pipe_model::memory::NoMemory;
@@ -111,7 +111,7 @@ impl Schedule {
         self.alive.push_reserved(Alive {
             iteration: self.begun,
             number: 0,
-            standing: Standing::Running,
+            readiness: Readiness::Running,
         });
         self.begun += 1;
         self.continues = false;
