@@ -38,7 +38,7 @@ use Rattle.run_laws.proofs.RunStates.IterationCounts.{runs_keep_rules}
 use Rattle.stage_code.specs.declared.instr.Part.TheVariants as parts
 use Rattle.stage_code.specs.FlatCode.{FlatCode}
 use Rattle.stage_code.specs.LimitRanges.{HasRangesOfLimits}
-use Rattle.stage_interp.specs.Standing.{IsCodeOf}
+use Rattle.stage_interp.specs.RemainingBehaviour.{IsCodeOf}
 use Rattle.stage_interp.specs.TreeRuns.{interaction_in}
 use Rattle.serial_elision.specs.ElisionSteps.{iteration_steps, program_steps, step_counts, steps_from}
 use Rattle.pipe_span.specs.Entries.{most_entries, most_weight}

@@ -6,7 +6,7 @@ ghost use Rattle.pipe_model.specs.Language.SyntaxTree.{tree_of};
 ghost use Rattle.pipe_model.specs.Pipelines.WholePrograms.{program_columns};
 ghost use Rattle.pipe_model.specs.Races.Columns.{AreColumns, IsRising, nodes_at};
 ghost use Rattle.serial_elision.specs.ElisionSteps.{program_steps};
-ghost use Rattle.stage_interp.specs.Standing.{IsCodeOf};
+ghost use Rattle.stage_interp.specs.RemainingBehaviour.{IsCodeOf};
 ghost use Rattle.pipe_span.specs.Entries.{most_entries};
 ghost use Rattle.pipe_span.specs.HeaviestPaths.{instances_before};
 ghost use Rattle.pipe_span.specs.WorkAndSpan.{AreSteps, node_columns};

@@ -6,7 +6,7 @@ use Rattle.pipe_model.specs.Language.Programs.{pipeline_of, store_of}
 use Rattle.pipe_model.specs.Language.SyntaxTree.{SyntaxTree}
 use Rattle.stage_code.specs.FlatCode.{FlatCode}
 use Rattle.stage_interp.specs.MachineState.{IsMadeFor, MachineState}
-use Rattle.stage_interp.specs.Standing.{IsCodeOf, StandsFor}
+use Rattle.stage_interp.specs.RemainingBehaviour.{IsCodeOf, Represents}
 
 -- how many cells a program has
 abbrev pub cells_of : SyntaxTree → ℕ
@@ -21,7 +21,7 @@ pub record CanRun (code : FlatCode) (tree : SyntaxTree) (m : MachineState) : Typ
 pub record IsAtInstance (code : FlatCode) (tree : SyntaxTree) (input : List ℤ) (m : MachineState) (i : ℕ)
     (replies : List (List ℤ)) : Type 0 where
   pub can : CanRun code tree m
-  pub stands : StandsFor code (cells_of tree) input m.run (after_instances ((pipeline_of tree input).behaviour i) replies)
+  pub stands : Represents code (cells_of tree) input m.run (after_instances ((pipeline_of tree input).behaviour i) replies)
 
 -- there is a machine, and this holds of it
 abbrev pub HasMachine : Option MachineState → (MachineState → Type 0) → Type 0

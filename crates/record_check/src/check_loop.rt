@@ -11,7 +11,7 @@ ghost use Rattle.pipe_model.specs.declared.event.Event.TheVariants as plain;
 ghost use Rattle.record_check.specs.CheckedLoops.{IsFirstStop, IsLoopAnswer, kind_of, with_stop};
 ghost use Rattle.schedule_play.specs.OneAccess.{HasAllCells};
 ghost use Rattle.schedule_play.specs.PlayStates.{IsPlay, pipeline_played};
-ghost use Rattle.stage_interp.specs.Standing.{IsCodeOf};
+ghost use Rattle.stage_interp.specs.RemainingBehaviour.{IsCodeOf};
 
 use crate::answer::{RecordAnswer, RunKind};
 use crate::follow::follow;

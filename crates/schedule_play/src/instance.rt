@@ -10,7 +10,7 @@ ghost use Rattle.schedule_play.specs.OneAccess.{HasAllCells, IsNextAccess};
 ghost use Rattle.stage_code.specs.FlatCode.{FlatCode};
 ghost use Rattle.stage_interp.specs.Executions.{Counts};
 ghost use Rattle.stage_interp.specs.MachineState.{IsMadeFor};
-ghost use Rattle.stage_interp.specs.Standing.{IsStopped, RanInstance, StandsFor};
+ghost use Rattle.stage_interp.specs.RemainingBehaviour.{IsStopped, RanInstance, Represents};
 
 use crate::one_access::{CellsBefore, NoAccess, OneAccess};
 use cell_store::cells::Cells;
@@ -25,9 +25,9 @@ use std::marker::Brand;
 /// how the machine has come to rest: `Stopped` if an access is pending, and otherwise the instance's
 /// end. It does not allocate.
 pub fn run_to_access(machine: &mut Machine, code: &Code, input: &Numbers, cells: &Cells) -> StageEnd
-    requires before { (t : Behaviour) × StandsFor code.now cells.now.shard.cells input.now machine.old.run t }
+    requires before { (t : Behaviour) × Represents code.now cells.now.shard.cells input.now machine.old.run t }
     requires bounded { cells.now.shard.cells ≤ 4294967296 }
-    ensures ran { (t : Behaviour) → StandsFor code.now cells.now.shard.cells input.now machine.old.run t
+    ensures ran { (t : Behaviour) → Represents code.now cells.now.shard.cells input.now machine.old.run t
         → RanInstance code.now cells.now.shard.cells input.now t [] [] machine.new.run result }
     ensures made { (c : FlatCode) → IsMadeFor c machine.old → IsMadeFor c machine.new }
     ensures counts { Counts (Some result) machine.old.run.state.stage.count machine.new.run.state.stage.count

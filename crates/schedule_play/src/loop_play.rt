@@ -11,7 +11,7 @@ ghost use Rattle.pipe_model.specs.Pipelines.WholePrograms.{init_accesses};
 ghost use Rattle.schedule_play.specs.LoopPlays.{IsEndOf, IsLoopPlay};
 ghost use Rattle.schedule_play.specs.OneAccess.{HasAllCells};
 ghost use Rattle.schedule_play.specs.PlayStates.{IsPlay};
-ghost use Rattle.stage_interp.specs.Standing.{IsCodeOf};
+ghost use Rattle.stage_interp.specs.RemainingBehaviour.{IsCodeOf};
 
 use crate::play::play_turns;
 use crate::player::Player;

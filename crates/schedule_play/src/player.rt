@@ -10,7 +10,7 @@ ghost use Rattle.pipe_model.specs.Language.ProgramsOfTrees.{whole_of};
 ghost use Rattle.pipe_model.specs.Language.CheckingRules.{BreaksNoRule};
 ghost use Rattle.pipe_model.specs.Language.SyntaxTree.{tree_of};
 ghost use Rattle.pipe_model.specs.Pipelines.WholePrograms.{init_accesses};
-ghost use Rattle.stage_interp.specs.Standing.{IsCodeOf};
+ghost use Rattle.stage_interp.specs.RemainingBehaviour.{IsCodeOf};
 ghost use Rattle.schedule_play.specs.OneAccess.{HasAllCells};
 ghost use Rattle.pipe_model.specs.declared.event.Event.{Event as PlainEvent};
 ghost use Rattle.pipe_model.specs.declared.event.Event.TheVariants as events;

@@ -25,7 +25,7 @@ ghost use Rattle.schedule_play.specs.ProgramPlays.{played_events};
 ghost use Rattle.serial_elision.specs.PartRuns.{Serves};
 ghost use Rattle.stage_code.specs.LimitRanges.{HasRangesOfLimits};
 ghost use Rattle.stage_interp.specs.MachineState.{IsMadeFor};
-ghost use Rattle.stage_interp.specs.Standing.{IsCodeOf};
+ghost use Rattle.stage_interp.specs.RemainingBehaviour.{IsCodeOf};
 
 use crate::loop_play::{LoopPlay, PlayLimits, play_loop};
 use cell_store::cells::Cells;

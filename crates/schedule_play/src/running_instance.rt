@@ -11,7 +11,7 @@ ghost use Rattle.schedule_play.specs.OneAccess.{HasAllCells};
 ghost use Rattle.schedule_play.specs.RunningInstances.{IsUnderWay, action_at, next_of};
 ghost use Rattle.stage_code.specs.FlatCode.{FlatCode};
 ghost use Rattle.stage_interp.specs.MachineState.{IsMadeFor};
-ghost use Rattle.stage_interp.specs.Standing.{StandsFor};
+ghost use Rattle.stage_interp.specs.RemainingBehaviour.{Represents};
 
 use crate::instance::{make_access, run_to_access};
 use cell_store::cells::Cells;
@@ -66,9 +66,9 @@ impl RunningInstance {
         input: &Numbers,
         cells: &Cells,
     ) -> Self
-        requires before { (t : Behaviour) × StandsFor code.now cells.now.shard.cells input.now machine.old.run t }
+        requires before { (t : Behaviour) × Represents code.now cells.now.shard.cells input.now machine.old.run t }
         requires bounded { cells.now.shard.cells ≤ 4294967296 }
-        ensures begun { (t : Behaviour) → StandsFor code.now cells.now.shard.cells input.now machine.old.run t
+        ensures begun { (t : Behaviour) → Represents code.now cells.now.shard.cells input.now machine.old.run t
             → IsUnderWay code.now cells.now.shard.cells input.now t machine.new.run [] result.next }
         ensures empty { result.trace.items ≡ [] }
         ensures made { (c : FlatCode) → IsMadeFor c machine.old → IsMadeFor c machine.new }

@@ -9,7 +9,7 @@ ghost use Rattle.pipe_model.specs.Language.SyntaxTree.{tree_of};
 ghost use Rattle.pipe_model.specs.Pipelines.SerialElision.{serial_traces};
 ghost use Rattle.pipe_model.specs.Pipelines.WholePrograms.{init_accesses, loop_after_init};
 ghost use Rattle.stage_interp.specs.MachineState.{IsMadeFor};
-ghost use Rattle.stage_interp.specs.Standing.{IsCodeOf};
+ghost use Rattle.stage_interp.specs.RemainingBehaviour.{IsCodeOf};
 ghost use Rattle.serial_elision.specs.ElisionSteps.{steps_from};
 ghost use Rattle.serial_elision.specs.LoopRuns.{LoopRan};
 ghost use Rattle.serial_elision.specs.PartRuns as part_runs;

@@ -10,7 +10,7 @@ ghost use Rattle.pipe_model.specs.Pipelines.SerialElision.{serial_trace};
 ghost use Rattle.pipe_model.specs.Races.Columns.{at, no_node};
 ghost use Rattle.stage_code.specs.FlatCode.{FlatCode};
 ghost use Rattle.stage_interp.specs.MachineState.{IsMadeFor};
-ghost use Rattle.stage_interp.specs.Standing.{IsCodeOf, behaviour_in};
+ghost use Rattle.stage_interp.specs.RemainingBehaviour.{IsCodeOf, behaviour_in};
 ghost use Rattle.stage_interp.specs.TreeRuns.{interaction_in};
 ghost use Rattle.serial_elision.specs.ElisionSteps.{step_counts};
 ghost use Rattle.serial_elision.specs.PartRuns.{PartRan, Serves, longest_column};

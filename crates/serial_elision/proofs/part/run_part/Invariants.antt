@@ -4,7 +4,7 @@ use Rattle.pipe_model.specs.Language.Programs.{natural, store_of}
 use Rattle.pipe_model.specs.Language.SyntaxTree.{tree_of}
 use Rattle.stage_code.specs.FlatCode.{FlatCode}
 use Rattle.stage_interp.specs.MachineState.{IsMadeFor}
-use Rattle.stage_interp.specs.Standing.{behaviour_in}
+use Rattle.stage_interp.specs.RemainingBehaviour.{behaviour_in}
 use Rattle.stage_interp.specs.TreeRuns.{interaction_in}
 use Rattle.serial_elision.proofs.PartRuns.{Left}
 use Rattle.serial_elision.proofs.StepCounts.{StepsLeft}
