@@ -1,6 +1,7 @@
 //! Halls of programs.
 
 ghost use Rattle.std.specs.Prelude.{◌≡◌, ◌<◌, ◌≤◌, ◌+◌, ◌*◌, [], All, IfOk, length};
+ghost use Rattle.order_2d.specs.declared.starts.TheConstants.{MOST_STARTS};
 ghost use Rattle.pipe_engine.specs.OpenedHalls.{IsOpenedFor};
 ghost use Rattle.pipe_hall.specs.ShardParts.{HaveIdentities};
 ghost use Rattle.pipe_hall.specs.WorkerSeats.{hall_name};
@@ -29,7 +30,7 @@ use std::alloc::Global;
 // first, and two for each instance.
 fn most_elements(limits: Limits) -> u32
     requires ranges { HasRangesOfLimits limits }
-    requires bounded { natural limits.iterations * natural limits.stages + 1 ≤ 262145 }
+    requires bounded { natural limits.iterations * natural limits.stages + 1 ≤ MOST_STARTS }
     ensures { result ≡ 2 * (natural limits.iterations * natural limits.stages + 1) + 1 }
 {
     let instances = limits.iterations as u64 * limits.stages as u64 + 1;
@@ -39,7 +40,7 @@ fn most_elements(limits: Limits) -> u32
 // Returns two order lists with room for this many elements each, and passes to them.
 fn orders(alloc: Global, capacity: u32) -> Result<(TwoOrders<OmWriter>, TwoPasses), NoMemory>
     requires positive { 0 < capacity }
-    requires bounded { capacity ≤ 524291 }
+    requires bounded { capacity ≤ 2 * MOST_STARTS + 1 }
     ensures logs { IfOk result (λ r. (r.0.down.log ≡ []) × (r.0.right.log ≡ [])) }
     ensures room { IfOk result (λ r. (r.0.down.capacity ≡ capacity) × (r.0.right.capacity ≡ capacity)) }
     ensures lists { IfOk result (λ r. (r.1.down ≡ r.0.down.identity) × (r.1.right ≡ r.0.right.identity)) }

@@ -5,6 +5,7 @@ use Rattle.pipe_frame.specs.Ties.{HallName}
 use Rattle.pipe_model.specs.Language.Programs.{pipeline_of, store_of}
 use Rattle.pipe_model.specs.Language.SyntaxTree.{SyntaxTree}
 use Rattle.stage_code.specs.FlatCode.{FlatCode}
+use Rattle.stage_interp.specs.CellNumbers.{most_cell_ids}
 use Rattle.stage_interp.specs.MachineState.{IsMadeFor, MachineState}
 use Rattle.stage_interp.specs.RemainingBehaviour.{IsCodeOf, Represents}
 
@@ -38,4 +39,4 @@ ready_whole code tree input (Some m) i replies h = h.can
 pub record CanDrive (own : FlatCode) (h : HallName) (code : FlatCode) (input : List ℤ) : Type 0 where
   pub code_is : code ≡ own
   pub input_is : input ≡ h.input
-  pub bounded : cells_of h.tree ≤ 4294967296
+  pub bounded : cells_of h.tree ≤ most_cell_ids

@@ -6,6 +6,7 @@ ghost use Rattle.pipe_model.specs.Language.Interaction.{Interaction};
 ghost use Rattle.pipe_model.specs.Language.Programs.{natural};
 ghost use Rattle.pipe_model.specs.Pipelines.Behaviour.{Behaviour};
 ghost use Rattle.stage_code.specs.FlatCode.{FlatCode};
+ghost use Rattle.stage_interp.specs.CellNumbers.{most_cell_ids};
 ghost use Rattle.stage_interp.specs.MachineState.{IsMadeFor};
 ghost use Rattle.stage_interp.specs.RemainingBehaviour.{Represents};
 ghost use Rattle.stage_interp.specs.TreeRuns.{RepresentsTree};
@@ -55,7 +56,7 @@ fn run_from<B: Beginning>(
     requires log { log ≡ B.log }
     requires node { node ≡ B.node }
     requires whole { IsWhole log.cells }
-    requires bounded { log.cells.shard.cells ≤ 4294967296 }
+    requires bounded { log.cells.shard.cells ≤ most_cell_ids }
     requires before { (t : Behaviour) × Represents prepared.now.code.now log.cells.shard.cells prepared.now.input.now machine.old.run t }
     ensures ran { IfOk result (λ r. (t : Behaviour) → Represents prepared.now.code.now log.cells.shard.cells prepared.now.input.now
         machine.old.run t
@@ -90,7 +91,7 @@ pub fn run_instance(
     log: Log,
 ) -> Result<(InstanceEnd, Log), NoMemory>
     requires whole { IsWhole log.cells }
-    requires bounded { log.cells.shard.cells ≤ 4294967296 }
+    requires bounded { log.cells.shard.cells ≤ most_cell_ids }
     requires before { (t : Behaviour) × Represents prepared.now.code.now log.cells.shard.cells prepared.now.input.now machine.old.run t }
     ensures ran { IfOk result (λ r. (t : Behaviour) → Represents prepared.now.code.now log.cells.shard.cells prepared.now.input.now
         machine.old.run t

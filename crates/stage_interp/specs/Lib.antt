@@ -1,5 +1,6 @@
 pub mod StackState
 pub mod Results
+pub mod CellNumbers
 pub mod MachineState
 pub mod RemainingBehaviour
 pub mod TreeRuns

@@ -8,6 +8,7 @@ ghost use Rattle.pipe_model.specs.Language.Programs.{natural};
 ghost use Rattle.pipe_model.specs.Language.SyntaxTree.{SyntaxTree};
 ghost use Rattle.pipe_model.specs.Pipelines.Behaviour.{Behaviour};
 ghost use Rattle.stage_code.specs.FlatCode.{FlatCode};
+ghost use Rattle.stage_interp.specs.CellNumbers.{most_cell_ids};
 ghost use Rattle.stage_interp.specs.Executions.{Counts, StopsOnly};
 ghost use Rattle.stage_interp.specs.MachineState.{IsMadeFor, iteration_in, start_in, steps_of};
 ghost use Rattle.stage_interp.specs.RemainingBehaviour.{IsCodeOf, IsStopped, RanInstance, Represents, behaviour_in};
@@ -113,7 +114,7 @@ impl Machine {
     #[inline(never)]
     pub fn run_stage<M: Memory>(&mut self, code: &Code, input: &Numbers, memory: &mut M) -> StageEnd
         requires before { (t : Behaviour) × Represents code.now (M.served memory.old) input.now self.old.run t }
-        requires bounded { M.served memory.old ≤ 4294967296 }
+        requires bounded { M.served memory.old ≤ most_cell_ids }
         ensures ran { (t : Behaviour) → Represents code.now (M.served memory.old) input.now self.old.run t
             → RanInstance code.now (M.served memory.old) input.now t (M.made memory.old) (M.made memory.new) self.new.run result }
         ensures tree { (d : Interaction ColumnEnd) → RepresentsTree code.now (M.served memory.old) input.now self.old.run d
@@ -144,7 +145,7 @@ impl Machine {
     #[inline(never)]
     pub fn go_on<M: Memory>(&mut self, code: &Code, input: &Numbers, memory: &mut M) -> StageEnd
         requires before { (t : Behaviour) × IsStopped code.now (M.served memory.old) input.now self.old.run t }
-        requires bounded { M.served memory.old ≤ 4294967296 }
+        requires bounded { M.served memory.old ≤ most_cell_ids }
         ensures ran { (t : Behaviour) → IsStopped code.now (M.served memory.old) input.now self.old.run t
             → RanInstance code.now (M.served memory.old) input.now t (M.made memory.old) (M.made memory.new) self.new.run result }
         ensures tree { (d : Interaction ColumnEnd) → IsStoppedTree code.now (M.served memory.old) input.now self.old.run d
