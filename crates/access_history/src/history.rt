@@ -74,7 +74,12 @@ fn is_known_before(joined: Option<u32>, x: NodeId, y: NodeId) -> bool
 }
 
 // Whether `y` is `x`, or before it in both orders.
-fn is_same_or_before<O: Orders>(y: &MarkedNode, x: &MarkedNode, joined: Option<u32>, orders: &mut O) -> bool
+fn is_same_or_before<O: Orders>(
+    y: &MarkedNode,
+    x: &MarkedNode,
+    joined: Option<u32>,
+    orders: &mut O,
+) -> bool
     requires first { AreIn (O.down_first orders.old) (O.right_first orders.old) y.now.marks }
     requires second { AreIn (O.down_first orders.old) (O.right_first orders.old) x.now.marks }
     ensures ordered { (down right : PlainNodeId → ℕ)
@@ -178,7 +183,12 @@ fn check<O: Orders>(
 }
 
 // The later of the kept reader and `x` in down-first.
-fn later_in_down<O: Orders>(kept: &Option<MarkedNode>, x: &MarkedNode, joined: Option<u32>, orders: &mut O) -> MarkedNode
+fn later_in_down<O: Orders>(
+    kept: &Option<MarkedNode>,
+    x: &MarkedNode,
+    joined: Option<u32>,
+    orders: &mut O,
+) -> MarkedNode
     requires kept { IfSome kept.now (λ y. AreIn (O.down_first orders.old) (O.right_first orders.old) y.marks) }
     requires new { AreIn (O.down_first orders.old) (O.right_first orders.old) x.now.marks }
     ensures later { (down right : PlainNodeId → ℕ)
@@ -266,7 +276,13 @@ impl History {
     }
 
     // Keeps an access of `who`.
-    fn keep<O: Orders>(&mut self, who: MarkedNode, joined: Option<u32>, kind: AccessKind, orders: &mut O)
+    fn keep<O: Orders>(
+        &mut self,
+        who: MarkedNode,
+        joined: Option<u32>,
+        kind: AccessKind,
+        orders: &mut O,
+    )
         requires kept { KeptAreIn (O.down_first orders.old) (O.right_first orders.old) self.old }
         requires new { AreIn (O.down_first orders.old) (O.right_first orders.old) who.marks }
         ensures kept { (down right : PlainNodeId → ℕ)

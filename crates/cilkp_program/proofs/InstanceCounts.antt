@@ -62,7 +62,7 @@ elision_is_small size tree numbers some bounded form =
     let small = run_is_small tree numbers 1 (elision_log tree numbers).events (state_after (elision_log tree numbers).events)
     (record { obeys = form.obeys }) h.run.run in
     let tree_is : tree ≡ generated_tree size =
-        one_accepted (source_text size) tree (generated_tree size) form (accepted size some bounded) in
+    one_accepted (source_text size) tree (generated_tree size) form (accepted size some bounded) in
     let columns : instances_in (elision_columns tree numbers) ≤ most_instances tree = subst (λ cs. instances_in cs ≤ most_instances tree)
     h.columns small in
     let most : most_instances tree ≡ size * 6 + 1 = ap most_instances tree_is in

@@ -277,7 +277,7 @@ nested_more {us} {ts} a b p m = record {
 both_more : {us ts vs ws : List Symbol} → NoMore us ts → NoMore vs ws → NoMore (us ++ vs) (ts ++ ws)
 both_more {us} {ts} {vs} {ws} m k = record {
   bounded =
-    (let f = m.bounded in let g = k.bounded in let x = length-append us vs in let y = length-append ts ws in omega (arith, f, g, x, y));
+      (let f = m.bounded in let g = k.bounded in let x = length-append us vs in let y = length-append ts ws in omega (arith, f, g, x, y));
   deep = both_deep m.deep k.deep;
 }
 
