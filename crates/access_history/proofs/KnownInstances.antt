@@ -2,11 +2,12 @@
 use Rattle.std.proofs.Common.{◌≡◌, ◌<◌, ℕ, Bool, true, false, Option, Some, None, IfSome, arith, refl}
 use Rattle.std.proofs.lemmas.Bool.{false≢true}
 use Rattle.access_history.specs.declared.history.History.{History}
-use Rattle.access_history.specs.declared.history.Who.{Who}
+use Rattle.access_history.specs.declared.history.MarkedNode.{MarkedNode}
 use Rattle.access_history.specs.KnownOrder.{AgreeOnKnown, AgreeOnKnownKept}
 use Rattle.pipe_model.specs.declared.node.NodeId.{NodeId}
 
-nothing_known_of : (down right : NodeId → ℕ) (x : NodeId) (kept : Option Who) → IfSome kept (λ y. AgreeOnKnown None down right x y.node)
+nothing_known_of : (down right : NodeId → ℕ) (x : NodeId) (kept : Option MarkedNode)
+    → IfSome kept (λ y. AgreeOnKnown None down right x y.node)
 nothing_known_of down right x None = tt
 nothing_known_of down right x (Some y) = λ e. absurd (false≢true e)
 

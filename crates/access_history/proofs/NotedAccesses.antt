@@ -9,7 +9,7 @@ use Rattle.access_history.specs.CellAccesses.{AgreeOnAll, IsAmong, noted_accesse
 use Rattle.access_history.specs.KeptInstances.{AgreeOn, AgreeOnKept, AllKept, IsEither, IsHistoryAfter, KeepsAmong, KeptAreIn, nothing_kept}
 use Rattle.access_history.specs.declared.cell_accesses.CellAccess.{CellAccess}
 use Rattle.access_history.specs.declared.history.History.{History}
-use Rattle.access_history.specs.declared.history.Who.{Who}
+use Rattle.access_history.specs.declared.history.MarkedNode.{MarkedNode}
 use Rattle.pipe_model.specs.declared.node.NodeId.{NodeId}
 use Rattle.pipe_model.specs.Orders.GrowingLists.{AreIn, KeepsOrder}
 use Rattle.pipe_model.specs.Races.CellRaces.{NotedAccess, noted_access}
@@ -48,7 +48,7 @@ pub noting_begins : (d r : List ℕ) (accesses : List CellAccess) (h : History) 
 noting_begins d r accesses h none = subst (λ k. IsNoting d r d r accesses 0 k) (sym none) (nothing_noted d r accesses)
 
 -- an instance that was kept before, or makes the new access, is among the accesses
-among_one : (accesses : List CellAccess) (x : CellAccess) (before after : Option Who) → Contains accesses x
+among_one : (accesses : List CellAccess) (x : CellAccess) (before after : Option MarkedNode) → Contains accesses x
     → IfSome before (IsAmong accesses) → IfSome after (IsEither before x.who) → IfSome after (IsAmong accesses)
 among_one accesses x before None listed a e = tt
 among_one accesses x before (Some y) listed a (inl same) = record { access = x; listed = listed; same = sym same }
@@ -57,7 +57,7 @@ among_one accesses x before (Some y) listed a (inr kept) = subst (λ o. IfSome o
 module _ (d r d' r' : List ℕ) (accesses : List CellAccess)
     (all_in : All (λ (a : CellAccess). AreIn d r a.who.marks) accesses) where
   -- the orders agree with the longer lists on an instance among the accesses
-  agree_one : (down right : NodeId → ℕ) (x : CellAccess) (o : Option Who) → KeepsOrder d d' → KeepsOrder r r'
+  agree_one : (down right : NodeId → ℕ) (x : CellAccess) (o : Option MarkedNode) → KeepsOrder d d' → KeepsOrder r r'
       → AgreeOnAll d r down right accesses → Contains accesses x → IfSome o (IsAmong accesses)
       → IfSome o (AgreeOn d' r' down right x.who)
   agree_one down right x None grown grown' agree listed a = tt

@@ -2,7 +2,7 @@
 use Rattle.std.specs.Prelude.{◌≡◌, ℕ, List, Option, map, Contains}
 use Rattle.access_history.specs.declared.cell_accesses.CellAccess.{CellAccess}
 use Rattle.access_history.specs.declared.history.Found.{Found}
-use Rattle.access_history.specs.declared.history.Who.{Who}
+use Rattle.access_history.specs.declared.history.MarkedNode.{MarkedNode}
 use Rattle.access_history.specs.KeptInstances.{AgreeOn, report_of_race}
 use Rattle.pipe_model.specs.declared.node.NodeId.{NodeId}
 use Rattle.pipe_model.specs.Orders.AccessHistory.{FoundRace}
@@ -14,7 +14,7 @@ abbrev pub noted_accesses : List CellAccess → List NotedAccess
 noted_accesses accesses = map (λ a. noted_access a.who.node a.kind) accesses
 
 -- the instance makes one of the accesses
-pub record IsAmong (accesses : List CellAccess) (w : Who) : Type 0 where
+pub record IsAmong (accesses : List CellAccess) (w : MarkedNode) : Type 0 where
   pub access : CellAccess
   pub listed : Contains accesses access
   pub same : access.who ≡ w

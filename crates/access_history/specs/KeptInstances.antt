@@ -4,7 +4,7 @@ use Rattle.access_history.specs.declared.history.Found.{Found}
 use Rattle.access_history.specs.declared.history.History.{History}
 use Rattle.access_history.specs.declared.history.Verdict.{Verdict}
 use Rattle.access_history.specs.declared.history.Verdict.TheVariants.{Clean, Race}
-use Rattle.access_history.specs.declared.history.Who.{Who}
+use Rattle.access_history.specs.declared.history.MarkedNode.{MarkedNode}
 use Rattle.pipe_model.specs.declared.access.AccessKind.{AccessKind}
 use Rattle.pipe_model.specs.declared.node.NodeId.{NodeId}
 use Rattle.pipe_model.specs.Orders.AccessHistory.{AccessHistory, FoundRace}
@@ -18,7 +18,7 @@ abbrev pub nothing_kept : History
 nothing_kept = record { writer = None; rightmost = None; downmost = None; report = None }
 
 -- the fact holds of each kept instance
-pub record AllKept (P : Who → Type 0) (h : History) : Type 0 where
+pub record AllKept (P : MarkedNode → Type 0) (h : History) : Type 0 where
   pub writer : IfSome h.writer P
   pub rightmost : IfSome h.rightmost P
   pub downmost : IfSome h.downmost P
@@ -28,26 +28,26 @@ abbrev pub KeptAreIn : List ℕ → List ℕ → History → Type 0
 KeptAreIn down_first right_first h = AllKept (λ w. AreIn down_first right_first w.marks) h
 
 -- the instance is the new one, or the one that was kept, with the same marks
-abbrev pub IsEither : Option Who → Who → Who → Type 0
+abbrev pub IsEither : Option MarkedNode → MarkedNode → MarkedNode → Type 0
 IsEither kept x y = (y ≡ x) ⊎ (kept ≡ Some y)
 
 -- each kept instance of the new history is the new one, or was kept in the same role, with the same marks
-pub record KeepsAmong (h : History) (x : Who) (h' : History) : Type 0 where
+pub record KeepsAmong (h : History) (x : MarkedNode) (h' : History) : Type 0 where
   pub writer : IfSome h'.writer (IsEither h.writer x)
   pub rightmost : IfSome h'.rightmost (IsEither h.rightmost x)
   pub downmost : IfSome h'.downmost (IsEither h.downmost x)
 
 -- y is before x in each order exactly if y's element is before x's element in the list
-pub record AgreeOn (down_first right_first : List ℕ) (down right : NodeId → ℕ) (x y : Who) : Type 0 where
+pub record AgreeOn (down_first right_first : List ℕ) (down right : NodeId → ℕ) (x y : MarkedNode) : Type 0 where
   pub in_down : StandsBefore down_first y.marks.down_first x.marks.down_first ↔ (down y.node < down x.node)
   pub in_right : StandsBefore right_first y.marks.right_first x.marks.right_first ↔ (right y.node < right x.node)
 
 -- the orders agree with the lists on x and each kept instance
-abbrev pub AgreeOnKept : List ℕ → List ℕ → (NodeId → ℕ) → (NodeId → ℕ) → Who → History → Type 0
+abbrev pub AgreeOnKept : List ℕ → List ℕ → (NodeId → ℕ) → (NodeId → ℕ) → MarkedNode → History → Type 0
 AgreeOnKept down_first right_first down right x h = AllKept (AgreeOn down_first right_first down right x) h
 
 -- a kept instance without its marks
-abbrev pub node_of : Option Who → Option NodeId
+abbrev pub node_of : Option MarkedNode → Option NodeId
 node_of kept = option_map (λ w. w.node) kept
 
 -- what a history keeps, without marks

@@ -8,7 +8,7 @@ ghost use Rattle.pipe_model.specs.Orders.GrowingLists.{AreIn, KeepsOrder};
 ghost use Rattle.pipe_model.specs.declared.node.NodeId.{NodeId as PlainNodeId};
 ghost use Rattle.run_laws.specs.OrderRaces.{AreOrders};
 
-use crate::history::{History, Who};
+use crate::history::{History, MarkedNode};
 use pipe_model::access::AccessKind;
 use pipe_model::orders::Orders;
 
@@ -16,7 +16,7 @@ use pipe_model::orders::Orders;
 #[derive(Clone, Copy, PartialEq, Eq, Debug)]
 pub struct CellAccess {
     /// The instance that makes it.
-    pub who: Who,
+    pub who: MarkedNode,
     /// Whether it reads or writes.
     pub kind: AccessKind,
 }
@@ -37,7 +37,7 @@ pub fn history_of<O: Orders>(accesses: &[CellAccess], orders: &mut O) -> History
         → ReportsFirst down right (noted_accesses accesses.now) result.report }
     ensures down { KeepsOrder (O.down_first orders.old) (O.down_first orders.new) }
     ensures right { KeepsOrder (O.right_first orders.old) (O.right_first orders.new) }
-    ensures same { O.identity orders.new ≡ O.identity orders.old }
+    ensures unchanged { O.identity orders.new ≡ O.identity orders.old }
 {
     let mut history = History::new();
     for access in accesses {

@@ -18,7 +18,7 @@ use pipe_model::orders::Orders;
 
 /// A stage instance, with its elements of the two order lists.
 #[derive(Clone, Copy, PartialEq, Eq, Debug)]
-pub struct Who {
+pub struct MarkedNode {
     /// Its name.
     pub node: NodeId,
     /// Its elements.
@@ -51,11 +51,11 @@ pub enum Verdict {
 #[derive(Clone, Copy, PartialEq, Eq, Debug)]
 pub struct History {
     /// The last writer.
-    pub writer: Option<Who>,
+    pub writer: Option<MarkedNode>,
     /// The reader that is last in down-first.
-    pub rightmost: Option<Who>,
+    pub rightmost: Option<MarkedNode>,
     /// The reader that is last in right-first.
-    pub downmost: Option<Who>,
+    pub downmost: Option<MarkedNode>,
     /// The first race.
     pub report: Option<Found>,
 }
@@ -74,7 +74,12 @@ fn is_known_before(joined: Option<u32>, x: NodeId, y: NodeId) -> bool
 }
 
 // Whether `y` is `x`, or before it in both orders.
-fn is_same_or_before<O: Orders>(y: &Who, x: &Who, joined: Option<u32>, orders: &mut O) -> bool
+fn is_same_or_before<O: Orders>(
+    y: &MarkedNode,
+    x: &MarkedNode,
+    joined: Option<u32>,
+    orders: &mut O,
+) -> bool
     requires first { AreIn (O.down_first orders.old) (O.right_first orders.old) y.now.marks }
     requires second { AreIn (O.down_first orders.old) (O.right_first orders.old) x.now.marks }
     ensures ordered { (down right : PlainNodeId → ℕ)
@@ -83,7 +88,7 @@ fn is_same_or_before<O: Orders>(y: &Who, x: &Who, joined: Option<u32>, orders: &
         → result ≡ is_ordered down right y.now.node x.now.node }
     ensures down { KeepsOrder (O.down_first orders.old) (O.down_first orders.new) }
     ensures right { KeepsOrder (O.right_first orders.old) (O.right_first orders.new) }
-    ensures same { O.identity orders.new ≡ O.identity orders.old }
+    ensures unchanged { O.identity orders.new ≡ O.identity orders.old }
 {
     let same = y.node.iteration == x.node.iteration && y.node.index == x.node.index;
     if same || is_known_before(joined, x.node, y.node) {
@@ -97,9 +102,9 @@ fn is_same_or_before<O: Orders>(y: &Who, x: &Who, joined: Option<u32>, orders: &
 
 // Compares an access of `x` with a kept one of this kind.
 fn compare<O: Orders>(
-    kept: &Option<Who>,
+    kept: &Option<MarkedNode>,
     kind: AccessKind,
-    x: &Who,
+    x: &MarkedNode,
     joined: Option<u32>,
     orders: &mut O,
 ) -> Verdict
@@ -111,7 +116,7 @@ fn compare<O: Orders>(
         → earlier_access result ≡ race_with down right x.now.node kind (node_of kept.now) None }
     ensures down { KeepsOrder (O.down_first orders.old) (O.down_first orders.new) }
     ensures right { KeepsOrder (O.right_first orders.old) (O.right_first orders.new) }
-    ensures same { O.identity orders.new ≡ O.identity orders.old }
+    ensures unchanged { O.identity orders.new ≡ O.identity orders.old }
 {
     match kept {
         Some(y) => {
@@ -128,7 +133,7 @@ fn compare<O: Orders>(
 // Compares a write of `x` with the kept reads.
 fn compare_readers<O: Orders>(
     history: &History,
-    x: &Who,
+    x: &MarkedNode,
     joined: Option<u32>,
     orders: &mut O,
 ) -> Verdict
@@ -141,7 +146,7 @@ fn compare_readers<O: Orders>(
         (race_with down right x.now.node Read (node_of history.now.downmost) None) }
     ensures down { KeepsOrder (O.down_first orders.old) (O.down_first orders.new) }
     ensures right { KeepsOrder (O.right_first orders.old) (O.right_first orders.new) }
-    ensures same { O.identity orders.new ≡ O.identity orders.old }
+    ensures unchanged { O.identity orders.new ≡ O.identity orders.old }
 {
     match compare(&history.rightmost, AccessKind::Read, x, joined, orders) {
         Verdict::Clean => compare(&history.downmost, AccessKind::Read, x, joined, orders),
@@ -152,7 +157,7 @@ fn compare_readers<O: Orders>(
 // Compares an access of `x` with the kept accesses.
 fn check<O: Orders>(
     history: &History,
-    x: &Who,
+    x: &MarkedNode,
     joined: Option<u32>,
     kind: AccessKind,
     orders: &mut O,
@@ -165,7 +170,7 @@ fn check<O: Orders>(
         → earlier_access result ≡ check_access down right (kept_of history.now) x.now.node kind }
     ensures down { KeepsOrder (O.down_first orders.old) (O.down_first orders.new) }
     ensures right { KeepsOrder (O.right_first orders.old) (O.right_first orders.new) }
-    ensures same { O.identity orders.new ≡ O.identity orders.old }
+    ensures unchanged { O.identity orders.new ≡ O.identity orders.old }
 {
     match (
         compare(&history.writer, AccessKind::Write, x, joined, orders),
@@ -178,7 +183,12 @@ fn check<O: Orders>(
 }
 
 // The later of the kept reader and `x` in down-first.
-fn later_in_down<O: Orders>(kept: &Option<Who>, x: &Who, joined: Option<u32>, orders: &mut O) -> Who
+fn later_in_down<O: Orders>(
+    kept: &Option<MarkedNode>,
+    x: &MarkedNode,
+    joined: Option<u32>,
+    orders: &mut O,
+) -> MarkedNode
     requires kept { IfSome kept.now (λ y. AreIn (O.down_first orders.old) (O.right_first orders.old) y.marks) }
     requires new { AreIn (O.down_first orders.old) (O.right_first orders.old) x.now.marks }
     ensures later { (down right : PlainNodeId → ℕ)
@@ -188,7 +198,7 @@ fn later_in_down<O: Orders>(kept: &Option<Who>, x: &Who, joined: Option<u32>, or
     ensures either { IsEither kept.now x.now result }
     ensures down { KeepsOrder (O.down_first orders.old) (O.down_first orders.new) }
     ensures right { KeepsOrder (O.right_first orders.old) (O.right_first orders.new) }
-    ensures same { O.identity orders.new ≡ O.identity orders.old }
+    ensures unchanged { O.identity orders.new ≡ O.identity orders.old }
 {
     match kept {
         Some(y) => {
@@ -207,11 +217,11 @@ fn later_in_down<O: Orders>(kept: &Option<Who>, x: &Who, joined: Option<u32>, or
 
 // The later of the kept reader and `x` in right-first.
 fn later_in_right<O: Orders>(
-    kept: &Option<Who>,
-    x: &Who,
+    kept: &Option<MarkedNode>,
+    x: &MarkedNode,
     joined: Option<u32>,
     orders: &mut O,
-) -> Who
+) -> MarkedNode
     requires kept { IfSome kept.now (λ y. AreIn (O.down_first orders.old) (O.right_first orders.old) y.marks) }
     requires new { AreIn (O.down_first orders.old) (O.right_first orders.old) x.now.marks }
     ensures later { (down right : PlainNodeId → ℕ)
@@ -221,7 +231,7 @@ fn later_in_right<O: Orders>(
     ensures either { IsEither kept.now x.now result }
     ensures down { KeepsOrder (O.down_first orders.old) (O.down_first orders.new) }
     ensures right { KeepsOrder (O.right_first orders.old) (O.right_first orders.new) }
-    ensures same { O.identity orders.new ≡ O.identity orders.old }
+    ensures unchanged { O.identity orders.new ≡ O.identity orders.old }
 {
     match kept {
         Some(y) => {
@@ -252,7 +262,7 @@ impl History {
     }
 
     // Keeps a race, unless one was found before.
-    fn report_first(&mut self, who: Who, kind: AccessKind, verdict: Verdict)
+    fn report_first(&mut self, who: MarkedNode, kind: AccessKind, verdict: Verdict)
         ensures { self.new ≡ record self.old { report = report_after self.old.report who.node kind verdict } }
     {
         if let (None, Verdict::Race(earlier, earlier_kind)) = (self.report, verdict) {
@@ -266,7 +276,13 @@ impl History {
     }
 
     // Keeps an access of `who`.
-    fn keep<O: Orders>(&mut self, who: Who, joined: Option<u32>, kind: AccessKind, orders: &mut O)
+    fn keep<O: Orders>(
+        &mut self,
+        who: MarkedNode,
+        joined: Option<u32>,
+        kind: AccessKind,
+        orders: &mut O,
+    )
         requires kept { KeptAreIn (O.down_first orders.old) (O.right_first orders.old) self.old }
         requires new { AreIn (O.down_first orders.old) (O.right_first orders.old) who.marks }
         ensures kept { (down right : PlainNodeId → ℕ)
@@ -277,7 +293,7 @@ impl History {
         ensures each { KeepsAmong self.old who self.new }
         ensures down { KeepsOrder (O.down_first orders.old) (O.down_first orders.new) }
         ensures right { KeepsOrder (O.right_first orders.old) (O.right_first orders.new) }
-        ensures same { O.identity orders.new ≡ O.identity orders.old }
+        ensures unchanged { O.identity orders.new ≡ O.identity orders.old }
     {
         match kind {
             AccessKind::Read => {
@@ -296,7 +312,7 @@ impl History {
     /// precedes `who`. The clauses hold for orders in which it is right. Does not allocate.
     pub fn note_joined<O: Orders>(
         &mut self,
-        who: Who,
+        who: MarkedNode,
         joined: Option<u32>,
         kind: AccessKind,
         orders: &mut O,
@@ -324,7 +340,7 @@ impl History {
         ensures in_lists { KeptAreIn (O.down_first orders.new) (O.right_first orders.new) self.new }
         ensures down { KeepsOrder (O.down_first orders.old) (O.down_first orders.new) }
         ensures right { KeepsOrder (O.right_first orders.old) (O.right_first orders.new) }
-        ensures same { O.identity orders.new ≡ O.identity orders.old }
+        ensures unchanged { O.identity orders.new ≡ O.identity orders.old }
     {
         let verdict = check(self, &who, joined, kind, orders);
         self.keep(who, joined, kind, orders);
@@ -338,7 +354,7 @@ impl History {
     /// instances that agree with the lists on `who` and the kept instances. The first race is kept as
     /// the report. The elements of `who` and of the kept instances must be in the lists, and those of
     /// the instances that are kept afterwards are. Does not allocate.
-    pub fn note<O: Orders>(&mut self, who: Who, kind: AccessKind, orders: &mut O) -> Verdict
+    pub fn note<O: Orders>(&mut self, who: MarkedNode, kind: AccessKind, orders: &mut O) -> Verdict
         requires kept { KeptAreIn (O.down_first orders.old) (O.right_first orders.old) self.old }
         requires new { AreIn (O.down_first orders.old) (O.right_first orders.old) who.marks }
         ensures race { (down right : PlainNodeId → ℕ)
@@ -359,7 +375,7 @@ impl History {
         ensures in_lists { KeptAreIn (O.down_first orders.new) (O.right_first orders.new) self.new }
         ensures down { KeepsOrder (O.down_first orders.old) (O.down_first orders.new) }
         ensures right { KeepsOrder (O.right_first orders.old) (O.right_first orders.new) }
-        ensures same { O.identity orders.new ≡ O.identity orders.old }
+        ensures unchanged { O.identity orders.new ≡ O.identity orders.old }
     {
         self.note_joined(who, None, kind, orders)
     }

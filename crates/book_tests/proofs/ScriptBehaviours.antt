@@ -143,7 +143,7 @@ sources_are_planned s small tree same input =
     record {
       planned = subst (λ (t : SyntaxTree). IsPlanned (pipeline_of t input)
           (replicate (natural t.limits.iterations) (natural t.limits.stages) ++ 1 ∷ [])) (sym same) (planned s small input);
-      few = subst (λ (t : SyntaxTree). most_instances t ≤ 262145) (sym same) (omega (arith, all));
+      bounded = subst (λ (t : SyntaxTree). most_instances t ≤ 262145) (sym same) (omega (arith, all));
       some_iterations = subst (λ z. pos 0 ≤ℤ z) (sym iterations) (grind (arith, ints));
       some_stages = subst (λ z. pos 0 ≤ℤ z) (sym stages) (grind (arith, ints));
     }

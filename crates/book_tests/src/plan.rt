@@ -51,7 +51,7 @@ impl Plan {
     fn pass(&mut self) -> StageEnd
         ensures performs { Performs (left_in self.old) (stage_end_actions result) }
         ensures next { NamesNextStage result → after_instance (left_in self.old) [] ≡ left_in self.new }
-        ensures same { (self.new.turns ≡ self.old.turns) × (self.new.waits ≡ self.old.waits) × (self.new.stages ≡ self.old.stages) }
+        ensures unchanged { (self.new.turns ≡ self.old.turns) × (self.new.waits ≡ self.old.waits) × (self.new.stages ≡ self.old.stages) }
     {
         if !self.going {
             return StageEnd::Closed;
@@ -72,7 +72,7 @@ impl Plan {
     pub fn ends_by(&mut self, end: StageEnd, stopped: bool) -> bool
         ensures performs { IsTrue result → Performs (left_in self.old) (stage_end_actions end) }
         ensures next { IsTrue result → NamesNextStage end → after_instance (left_in self.old) [] ≡ left_in self.new }
-        ensures same { (self.new.turns ≡ self.old.turns) × (self.new.waits ≡ self.old.waits) × (self.new.stages ≡ self.old.stages) }
+        ensures unchanged { (self.new.turns ≡ self.old.turns) × (self.new.waits ≡ self.old.waits) × (self.new.stages ≡ self.old.stages) }
         ensures stopped { IsTrue result → end ≡ StageEnd.Stopped → stopped ≡ true }
     {
         if end == StageEnd::Stopped {

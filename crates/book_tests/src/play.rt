@@ -67,8 +67,8 @@ pub struct Play {
 }
 
 fn list(alloc: Global, capacity: u32) -> Result<OmList, NoMemory>
-    requires some { 0 < capacity }
-    requires few { capacity ≤ MOST_ELEMENTS }
+    requires positive { 0 < capacity }
+    requires bounded { capacity ≤ MOST_ELEMENTS }
     ensures { IfOk result (λ l. (l.log ≡ []) × (l.capacity ≡ capacity)) }
 {
     Ok(OmList::new(alloc, capacity)?)

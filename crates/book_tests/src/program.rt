@@ -47,7 +47,7 @@ impl Source {
     pub fn capacity(&self) -> u32
         requires { IsSmall self.now }
         ensures room { 2 * most_instances (tree_of_source self.now) < result }
-        ensures few { result ≤ MOST_ELEMENTS }
+        ensures bounded { result ≤ MOST_ELEMENTS }
     {
         2 * (self.iterations * self.stages + 1) + 1
     }

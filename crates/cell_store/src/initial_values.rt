@@ -14,7 +14,7 @@ use std::alloc::Global;
 // The number of cells of a declaration of this size.
 fn declared_cells(size: Option<i64>) -> usize
     requires sign { HasNoNegativeSize size }
-    requires few { declared_size size ≤ MOST_CELLS }
+    requires bounded { declared_size size ≤ MOST_CELLS }
     ensures { result ≡ declared_size size }
 {
     size.unwrap_or(1) as usize
@@ -24,7 +24,7 @@ fn declared_cells(size: Option<i64>) -> usize
 /// declared values. Returns an error only if memory runs out.
 pub(crate) fn initial_values(alloc: Global, cells: &[Declaration]) -> Result<Vec<i64>, NoMemory>
     requires signs { All (λ (d : Declared). HasNoNegativeSize d.size) cells.now }
-    requires few { cell_total cells.now ≤ MOST_CELLS }
+    requires bounded { cell_total cells.now ≤ MOST_CELLS }
     ensures values { IfOk result (λ values. values.items ≡ pos 0 ∷ (pos 0 ∷ declared_values cells.now)) }
     ensures len { IfOk result (λ values. length values.items ≡ cell_total cells.now + 2) }
 {

@@ -41,19 +41,19 @@ use Rattle.cilkp_program.specs.TakenText.{HasTaken}
 pub source_is_accepted : (size : ℕ) (bytes : List ℕ) (source : Source) → 1 ≤ size → size ≤ MOST_SIZE → bytes ≡ source_text size
     → IsLoadOf bytes source
     → ((checked : Program) (places : List ℤ) → source ≡ sources.Accepted checked places → ⊥) → ⊥
-source_is_accepted size bytes (sources.Accepted checked places) some few e loaded other = other checked places refl
-source_is_accepted size bytes (sources.Refused line) some few e loaded other =
-    refused_not_accepted (generated_tree size) (rw e at loaded.refused) (accepted size some few)
-source_is_accepted size bytes sources.Failed some few e loaded other = loaded
+source_is_accepted size bytes (sources.Accepted checked places) some bounded e loaded other = other checked places refl
+source_is_accepted size bytes (sources.Refused line) some bounded e loaded other =
+    refused_not_accepted (generated_tree size) (rw e at loaded.refused) (accepted size some bounded)
+source_is_accepted size bytes sources.Failed some bounded e loaded other = loaded
 
 -- a generated input is loaded as its numbers
 pub input_is_read : (seed size : ℕ) (bytes : List ℕ) (input : Input) → size ≤ MOST_SIZE → bytes ≡ input_text seed size
     → IsReadOf bytes input
     → ((numbers : List ℤ) → input ≡ inputs.Accepted numbers → ⊥) → ⊥
-input_is_read seed size bytes (inputs.Accepted numbers) few e loaded other = other numbers refl
-input_is_read seed size bytes (inputs.Refused line) few e loaded other =
-    numbers_have_no_fault (rw e at loaded.faulty) (inputs_are_read seed size few)
-input_is_read seed size bytes inputs.Failed few e loaded other = loaded
+input_is_read seed size bytes (inputs.Accepted numbers) bounded e loaded other = other numbers refl
+input_is_read seed size bytes (inputs.Refused line) bounded e loaded other =
+    numbers_have_no_fault (rw e at loaded.faulty) (inputs_are_read seed size bounded)
+input_is_read seed size bytes inputs.Failed bounded e loaded other = loaded
 
 -- the loaded program and numbers are the generated ones
 pub is_generated : (seed size : ℕ) (source input : List ℕ) (checked : Program) (places numbers : List ℤ) → source ≡ source_text size
@@ -79,7 +79,7 @@ same_summary seed size tree other numbers others text g e h =
 -- the columns of the elision have as many instances as it has
 pub counts_are_few : (tree : SyntaxTree) (numbers : List ℤ) (columns : List Column) → columns ≡ program_columns (whole_of tree numbers)
     → instances_in (elision_columns tree numbers) ≤ MOST_COUNTED_INSTANCES → instances_in (node_columns columns) ≤ MOST_COUNTED_INSTANCES
-counts_are_few tree numbers columns is few = rw (given_columns tree numbers columns is) few
+counts_are_few tree numbers columns is bounded = rw (given_columns tree numbers columns is) bounded
 
 -- what is measured of columns and an output that are the elision's
 pub measures_the_elision : (tree : SyntaxTree) (numbers : List ℤ) (columns : List Column) (workers : ℕ) (output : List ℤ) (m : Measured)

@@ -57,12 +57,13 @@ run_is_small tree numbers limit events s form (OfLoop free r) = program_instance
 -- the elision of a generated program has at most six instances an item, and one more
 pub elision_is_small : (size : ℕ) (tree : SyntaxTree) (numbers : List ℤ) → 1 ≤ size → size ≤ MOST_SIZE → IsAccepted (source_text size) tree
     → instances_in (elision_columns tree numbers) ≤ MOST_COUNTED_INSTANCES
-elision_is_small size tree numbers some few form =
+elision_is_small size tree numbers some bounded form =
     let h = serial_log tree numbers 1 (record { obeys = form.obeys }) (omega arith) in
     let small = run_is_small tree numbers 1 (elision_log tree numbers).events (state_after (elision_log tree numbers).events)
     (record { obeys = form.obeys }) h.run.run in
-    let tree_is : tree ≡ generated_tree size = one_accepted (source_text size) tree (generated_tree size) form (accepted size some few) in
+    let tree_is : tree ≡ generated_tree size =
+    one_accepted (source_text size) tree (generated_tree size) form (accepted size some bounded) in
     let columns : instances_in (elision_columns tree numbers) ≤ most_instances tree = subst (λ cs. instances_in cs ≤ most_instances tree)
     h.columns small in
     let most : most_instances tree ≡ size * 6 + 1 = ap most_instances tree_is in
-    omega (arith, columns, most, few)
+    omega (arith, columns, most, bounded)

@@ -85,7 +85,7 @@ fn measured_run<R: Threads + Wait + Sync, G: Gate + Sync>(
     gate: &G,
 ) -> Result<Measured, NoMemory>
     requires accepted { BreaksNoRule (tree_of checked.now) }
-    requires few { instances_in (elision_columns (tree_of checked.now) input.now) ≤ bounds.MOST_COUNTED_INSTANCES }
+    requires bounded { instances_in (elision_columns (tree_of checked.now) input.now) ≤ bounds.MOST_COUNTED_INSTANCES }
     requires workers { 1 ≤ workers }
     requires throttle { (1 ≤ throttle) × (throttle ≤ ranges.MOST_THROTTLE) }
     ensures { IfOk result (λ m. m ≡ record {

@@ -146,7 +146,7 @@ fn result_of_events(
 ) -> Result<CommandResult, NoMemory>
     requires accepted { BreaksNoRule (tree_of checked.now) }
     requires throttle { 1 ≤ throttle }
-    requires few { length events.now ≤ bounds.LONGEST_RECORD }
+    requires bounded { length events.now ≤ bounds.LONGEST_RECORD }
     ensures { IfOk result (λ a. (name : List ℕ) (file : Option (List ℕ)) → IsRecordOf (tree_of checked.now) file events.now
         → RecordResult (tree_of checked.now) input.now throttle name file a.status a.text a.run_log a.reports) }
 {

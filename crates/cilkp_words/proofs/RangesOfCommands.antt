@@ -46,9 +46,9 @@ workers_between rows workers is = option_between DEFAULT_WORKERS 1 MOST_WORKERS 
 throttle_between : (rows : List Row) (workers throttle : ℕ) → (1 ≤ workers) × (workers ≤ MOST_WORKERS)
     → throttle_of workers rows ≡ Some throttle
     → (1 ≤ throttle) × (throttle ≤ MOST_THROTTLE)
-throttle_between rows workers throttle (some, few) is =
+throttle_between rows workers throttle (some, bounded) is =
     option_between (THROTTLE_PER_WORKER * workers) 1 MOST_THROTTLE (first_of (codes "throttle") rows) throttle (omega (arith, some))
-    (omega (arith, few)) is
+    (omega (arith, bounded)) is
 
 seed_between : (rows : List Row) (seed : ℕ) → seed_of rows ≡ Some seed → seed ≤ MOST_SEED
 seed_between rows seed is = (option_between DEFAULT_SEED 0 MOST_SEED (first_of (codes "seed") rows) seed (omega arith) (omega arith) is).1

@@ -38,7 +38,7 @@ fn workers<'a>(matches: &ArgMatches<'a>) -> Option<u32>
 
 // The throttling limit, with the default for this many workers.
 fn throttle<'a>(workers: u32, matches: &ArgMatches<'a>) -> Option<u32>
-    requires few { workers ≤ ranges.MOST_WORKERS }
+    requires bounded { workers ≤ ranges.MOST_WORKERS }
     ensures { result ≡ throttle_of workers (rows_of (found_of matches.now)) }
 {
     let default = THROTTLE_PER_WORKER * workers;

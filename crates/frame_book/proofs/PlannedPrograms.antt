@@ -48,7 +48,7 @@ no_limit_out None rest h = refl
 no_limit_out (Some which) rest h = absurd (cc)
 
 record HasPlannedLimits (iterations stages : ℤ) : Type 0 where
-  few : natural iterations * natural stages ≤ 262144
+  bounded : natural iterations * natural stages ≤ 262144
   some_iterations : pos 0 ≤ℤ iterations
   some_stages : pos 0 ≤ℤ stages
   one_stage : 1 ≤ natural stages
@@ -56,7 +56,7 @@ record HasPlannedLimits (iterations stages : ℤ) : Type 0 where
 limits_planned : (iterations stages most more : ℤ) → is_between (pos 1) most iterations ≡ true → is_between (pos 1) more stages ≡ true
     → int_lt (pos 262144) (iterations *ℤ stages) ≡ false → HasPlannedLimits iterations stages
 limits_planned (pos n) (pos (suc m)) most more a b c = record {
-  few = grind (arith, nat_tests);
+  bounded = grind (arith, nat_tests);
   some_iterations = grind (arith, ints);
   some_stages = grind (arith, ints);
   one_stage = omega arith;
@@ -82,7 +82,7 @@ accepted_programs_are_planned tree input accepted = record {
     room = λ i within. room i (cases_lt i n) (subst (λ k. i < k) (length-append (replicate n stages) (1 ∷ []) ∙ ap (λ k. k + 1) long)
         within);
   };
-  few = (let few = limits.few in omega (arith, few));
+  bounded = (let bounded = limits.bounded in omega (arith, bounded));
   some_iterations = limits.some_iterations;
   some_stages = limits.some_stages;
 }

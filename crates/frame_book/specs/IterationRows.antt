@@ -99,7 +99,7 @@ WaitsAt k i = (k ≡ kinds.Wait) × (0 < i)
 -- stage numbers that can be searched
 pub record IsSearchable (numbers : List ℤ) : Type 0 where
   pub rises : AreRising numbers
-  pub few : length numbers < 2 ^ 32
+  pub bounded : length numbers < 2 ^ 32
 
 -- the running instance has ended with this trace, and the iteration goes on at a stage; its token is kept
 abbrev pub suspended_row : {M : Type 0} → List Entry → Kind → ℤ → FrameToken M → IterationRow M → IterationRow M

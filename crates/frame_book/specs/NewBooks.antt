@@ -4,6 +4,7 @@ use Rattle.pipe_model.specs.declared.tree.Program.{Program}
 use Rattle.pipe_model.specs.Language.Programs.{natural, pipeline_of}
 use Rattle.pipe_model.specs.Language.CheckingRules.{BreaksNoRule}
 use Rattle.pipe_model.specs.Language.SyntaxTree.{SyntaxTree}
+use Rattle.order_2d.specs.declared.starts.TheConstants.{MOST_STARTS}
 use Rattle.pipe_frame.specs.Ties.{ListIdentities}
 use Rattle.program_laws.specs.WorkBounds.{most_instances}
 use Rattle.frame_book.specs.BookStates.{BookState}
@@ -12,7 +13,7 @@ use Rattle.frame_book.specs.Rooms.{IsPlanned}
 -- the limits are in their ranges, and the iterations keep to them
 pub record IsPlannedProgram (tree : SyntaxTree) (input : List ℤ) : Type 0 where
   pub planned : IsPlanned (pipeline_of tree input) (replicate (natural tree.limits.iterations) (natural tree.limits.stages) ++ 1 ∷ [])
-  pub few : most_instances tree ≤ 262145
+  pub bounded : most_instances tree ≤ MOST_STARTS
   pub some_iterations : pos 0 ≤ℤ tree.limits.iterations
   pub some_stages : pos 0 ≤ℤ tree.limits.stages
 

@@ -39,7 +39,7 @@ IsFresh r = r ≡ empty_row r.room
 pub record IsSized {M : Type 0} (p : Pipeline) (rows spare : List (IterationRow M)) (down right log : ℕ) : Type 0 where
   pub planned : IsPlanned p (rooms_of rows spare)
   pub fresh : All IsFresh spare
-  pub few : room_in rows spare < 2 ^ 31
+  pub bounded : room_in rows spare < 2 ^ 31
   pub down_room : 2 * room_in rows spare < down
   pub right_room : 2 * room_in rows spare < right
   pub log_room : log ≡ 2 * room_in rows spare + 1

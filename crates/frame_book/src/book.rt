@@ -647,7 +647,7 @@ impl<M: Payload<OmWriter>> Book<M, OmWriter> {
     /// Shows the passes all elements of the two order lists. They must be of these lists.
     pub fn confirm(&mut self, passes: &mut TwoPasses)
         requires { AreOfLists passes.old self.old.lists.down self.old.lists.right }
-        ensures same { self.new ≡ self.old }
+        ensures unchanged { self.new ≡ self.old }
         ensures down { passes.new.down_log ≡ down_first_log (starts_of (events_of self.old.log)) }
         ensures right { passes.new.right_log ≡ right_first_log (columns_after (events_of self.old.log))
             (starts_of (events_of self.old.log)) }

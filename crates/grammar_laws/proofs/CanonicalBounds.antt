@@ -257,7 +257,7 @@ expression_lifts Iter = plain_lifts _ (record { no_opening = refl; no_closing = 
 
 -- `us` has at most as many symbols as `ts`, and never more brackets open
 pub record NoMore (us ts : List Symbol) : Type 0 where
-  pub few : length us ≤ length ts
+  pub bounded : length us ≤ length ts
   pub deep : NoDeeper us ts
 
 -- the canonical symbols of an expression at a given level are at most as many as `ts`
@@ -266,26 +266,27 @@ pub record Least (level : ℕ) (ts : List Symbol) (e : Expression) : Type 0 wher
   pub no_more : NoMore (symbols_at_level level (level_in e) (expression_symbols e)) ts
 
 plain_more : {us ts : List Symbol} (t : Symbol) → IsUnjoined t → NoMore us ts → NoMore (t ∷ us) (t ∷ ts)
-plain_more t p m = record { few = (let f = m.few in omega (arith, f)); deep = plain_deep t t p p m.deep }
+plain_more t p m = record { bounded = (let f = m.bounded in omega (arith, f)); deep = plain_deep t t p p m.deep }
 
 nested_more : {us ts : List Symbol} (a b : Symbol) → IsPair a b → NoMore us ts → NoMore (a ∷ (us ++ b ∷ [])) (a ∷ (ts ++ b ∷ []))
 nested_more {us} {ts} a b p m = record {
-  few = (let f = m.few in let x = length-append us (b ∷ []) in let y = length-append ts (b ∷ []) in omega (arith, f, x, y));
+  bounded = (let f = m.bounded in let x = length-append us (b ∷ []) in let y = length-append ts (b ∷ []) in omega (arith, f, x, y));
   deep = nested_deep a b p m.deep;
 }
 
 both_more : {us ts vs ws : List Symbol} → NoMore us ts → NoMore vs ws → NoMore (us ++ vs) (ts ++ ws)
 both_more {us} {ts} {vs} {ws} m k = record {
-  few = (let f = m.few in let g = k.few in let x = length-append us vs in let y = length-append ts ws in omega (arith, f, g, x, y));
+  bounded =
+      (let f = m.bounded in let g = k.bounded in let x = length-append us vs in let y = length-append ts ws in omega (arith, f, g, x, y));
   deep = both_deep m.deep k.deep;
 }
 
 none_more : NoMore [] []
-none_more = record { few = omega arith; deep = none_deep }
+none_more = record { bounded = omega arith; deep = none_deep }
 
 fewer_more : {us ts : List Symbol} (a b : Symbol) → IsPair a b → Lifts us → NoMore us ts → NoMore us (a ∷ (ts ++ b ∷ []))
 fewer_more {us} {ts} a b p l m = record {
-  few = (let f = m.few in let y = length-append ts (b ∷ []) in omega (arith, f, y));
+  bounded = (let f = m.bounded in let y = length-append ts (b ∷ []) in omega (arith, f, y));
   deep = fewer_deep a b p l m.deep;
 }
 
@@ -318,7 +319,7 @@ unbracketed_deep {us} {ts} a b p l d = record { deep = inside }
 
 unbracketed : {us ts : List Symbol} (a b : Symbol) → IsPair a b → Lifts us → NoMore (a ∷ (us ++ b ∷ [])) ts → NoMore us ts
 unbracketed {us} {ts} a b p l m = record {
-  few = (let f = m.few in let y = length-append us (b ∷ []) in omega (arith, f, y));
+  bounded = (let f = m.bounded in let y = length-append us (b ∷ []) in omega (arith, f, y));
   deep = unbracketed_deep a b p l m.deep;
 }
 

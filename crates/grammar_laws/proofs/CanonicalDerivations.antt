@@ -2,6 +2,7 @@
 use Rattle.std.proofs.Common.{◌≡◌, ℕ, zero, suc, ◌+◌, ◌≤◌, ℤ, pos, negsuc, List, [], ◌∷◌, ◌++◌, refl, arith, subst, Bool, true, false}
 use Rattle.std.proofs.Common.{nat_le, if◌then◌else◌, inl, inr, ◌⊎◌, Option, Some, None, ◌==◌}
 use Rattle.std.proofs.lemmas.Bool.Decides.{nat_tests}
+use Rattle.pipe_model.specs.declared.sign_bytes.TheConstants as signs
 use Rattle.pipe_model.specs.declared.tree.StageKind.{StageKind}
 use Rattle.pipe_model.specs.declared.tree.StageKind.TheVariants as kinds
 use Rattle.pipe_model.specs.declared.symbol.Symbol.{Symbol}
@@ -57,7 +58,7 @@ level_from Iter h = omega arith
 
 bracketed_by : (b : Bool) (needed own : ℕ) (e : Expression) (ts : List Symbol) → (b ≡ true → needed ≤ own) → needed ≤ operand_level
     → 1 ≤ own → Derives own ts e
-    → Derives needed (if b then ts else symbols.Sign 40 ∷ (ts ++ symbols.Sign 41 ∷ [])) e
+    → Derives needed (if b then ts else symbols.Sign signs.OPEN_ROUND ∷ (ts ++ symbols.Sign signs.CLOSE_ROUND ∷ [])) e
 bracketed_by true needed own e ts h k l d = looser needed (h refl) d
 bracketed_by false needed own e ts h k l d = looser needed k (Bracketed (looser any_expression l d))
 

@@ -5,6 +5,9 @@ use Rattle.std.proofs.Common.{nat_le, if◌then◌else◌, replicate}
 use Rattle.std.specs.Fmt.{decimal, signed_decimal}
 use Rattle.std.specs.List.{flat_map}
 use Rattle.std.proofs.lemmas.Int.{ints}
+use Rattle.pipe_model.specs.declared.operator_codes.TheConstants as operator_codes
+use Rattle.pipe_model.specs.declared.sign_bytes.TheConstants as signs
+use Rattle.pipe_model.specs.declared.word_codes.TheConstants as words
 use Rattle.pipe_model.specs.declared.tree.StageKind.{StageKind}
 use Rattle.pipe_model.specs.declared.tree.StageKind.TheVariants as kinds
 use Rattle.pipe_model.specs.declared.symbol.Symbol.{Symbol}
@@ -107,28 +110,28 @@ sign b t closed slash = record {
 }
 
 round : Writing Any (codes "(") (open_round ∷ [])
-round = sign 40 refl (λ c more. refl) refl
+round = sign signs.OPEN_ROUND refl (λ c more. refl) refl
 
 round_end : Writing Any (codes ")") (close_round ∷ [])
-round_end = sign 41 refl (λ c more. refl) refl
+round_end = sign signs.CLOSE_ROUND refl (λ c more. refl) refl
 
 end : Writing Any (codes ";") (semicolon ∷ [])
-end = sign 59 refl (λ c more. refl) refl
+end = sign signs.SEMICOLON refl (λ c more. refl) refl
 
 comma_sign : Writing Any (codes ",") (comma ∷ [])
-comma_sign = sign 44 refl (λ c more. refl) refl
+comma_sign = sign signs.COMMA refl (λ c more. refl) refl
 
 index : Writing Any (codes "[") (open_square ∷ [])
-index = sign 91 refl (λ c more. refl) refl
+index = sign signs.OPEN_SQUARE refl (λ c more. refl) refl
 
 index_end : Writing Any (codes "]") (close_square ∷ [])
-index_end = sign 93 refl (λ c more. refl) refl
+index_end = sign signs.CLOSE_SQUARE refl (λ c more. refl) refl
 
 brace : Writing Any (codes "{") (open_brace ∷ [])
-brace = sign 123 refl (λ c more. refl) refl
+brace = sign signs.OPEN_BRACE refl (λ c more. refl) refl
 
 brace_end : Writing Any (codes "}") (close_brace ∷ [])
-brace_end = sign 125 refl (λ c more. refl) refl
+brace_end = sign signs.CLOSE_BRACE refl (λ c more. refl) refl
 
 minus_sign : Writing Any (codes "-") (minus ∷ [])
 minus_sign = record { writes = λ rest found h d. Puts (45 ∷ []) minus (closed_token 45 rest minus refl (λ c more. refl) refl) tt d }
@@ -205,7 +208,8 @@ expression_opens (Binary code a b) h rest = sides_open code (level_in a) (level_
     (expression_opens a h.2)
 expression_opens (Unary code a) h rest = by_code code h.0
   where
-    by_code : (k : ℕ) → (k ≡ 1) ⊎ (k ≡ 2) → Opens ((unary_text k ++ at_level operand_level (level_in a) (expression_text a)) ++ rest)
+    by_code : (k : ℕ) → (k ≡ operator_codes.NEGATIVE) ⊎ (k ≡ operator_codes.NOT)
+        → Opens ((unary_text k ++ at_level operand_level (level_in a) (expression_text a)) ++ rest)
     by_code k (inl e) = rw e refl
     by_code k (inr e) = rw e refl
 expression_opens More h rest = refl
@@ -217,7 +221,8 @@ one_sided : (code : ℕ) (text : List ℕ) (ts : List Symbol) → (code ≡ 1) �
     → Writing SymbolEdge (unary_text code ++ text) (unary_symbol code ∷ ts)
 one_sided code text ts (inl e) w o = rw e (next minus_sign w)
 one_sided code text ts (inr e) w o = rw e (record {
-  writes = λ rest found h d. Puts (33 ∷ []) (symbols.Sign 33) (not_token (text ++ rest) (o rest)) tt (w.writes rest found h d);
+  writes = λ rest found h d. Puts (33 ∷ []) (symbols.Sign signs.EXCLAMATION) (not_token (text ++ rest) (o rest)) tt
+      (w.writes rest found h d);
 })
 
 call : (text : List ℕ) (k : ℕ) → begins_letter text ≡ true → symbol_of text ≡ Some (symbols.Word k)
@@ -290,7 +295,7 @@ else_writing : (n : ℕ) (b : Statements) (text : List ℕ) (ps : List Piece) �
     → Writing Any (else_text n b text ++ line n (codes "}")) (close_brace ∷ flat (part_pieces 14 b ps))
 else_writing n Empty text ps w = closing_line n
 else_writing n (Then s ss) text ps w =
-    same (ap (λ x. close_brace ∷ symbols.Word 14 ∷ open_brace ∷ x) (sym (flat_append ps (Single close_brace ∷ []))))
+    same (ap (λ x. close_brace ∷ symbols.Word words.ELSE ∷ open_brace ∷ x) (sym (flat_append ps (Single close_brace ∷ []))))
     (next (next (line_writing n (any_edge (next brace_end (next space (word_then (codes "else") 14 refl refl brace))))) w) (closing_line n))
 
 -- the symbols of an `if`

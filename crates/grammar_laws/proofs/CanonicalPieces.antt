@@ -38,7 +38,7 @@ full : {us ps : List Piece} {ts : List Symbol} {e : Expression} → Derives any_
     → Leaner (FullExpression (expression_symbols e) ∷ us) (FullExpression ts ∷ ps)
 full d l =
     let m = full_least d in
-    record { short = λ h. (let x = h.0 in let y = m.few in omega (arith, x, y), l.short h.1); deep = both_deep m.deep l.deep }
+    record { short = λ h. (let x = h.0 in let y = m.bounded in omega (arith, x, y), l.short h.1); deep = both_deep m.deep l.deep }
 
 both : {us ps vs qs : List Piece} → Leaner us ps → Leaner vs qs → Leaner (us ++ vs) (ps ++ qs)
 both {us} {ps} {vs} {qs} l m = record {

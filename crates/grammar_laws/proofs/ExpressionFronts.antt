@@ -2,6 +2,9 @@
 use Rattle.std.proofs.Common.{◌≡◌, ℕ, ◌≤◌, List, [], ◌∷◌, ◌++◌, refl, sym, ap, ◌∙◌, append_assoc, append-nil, arith, subst, ◌⊎◌, inl, inr}
 use Rattle.std.proofs.Common.{Option, Some, None, Bool, true, false, ◌==◌, pos, if◌then◌else◌}
 use Rattle.std.proofs.lemmas.Bool.{cases_eq}
+use Rattle.pipe_model.specs.declared.operator_codes.TheConstants as operator_codes
+use Rattle.pipe_model.specs.declared.sign_bytes.TheConstants as signs
+use Rattle.pipe_model.specs.declared.word_codes.TheConstants as words
 use Rattle.pipe_model.specs.declared.symbol.Symbol.{Symbol}
 use Rattle.pipe_model.specs.declared.symbol.Symbol.TheVariants as symbols
 use Rattle.pipe_model.specs.Language.SyntaxTree.{Expression}
@@ -20,7 +23,7 @@ pub data Completes : List Want → List Symbol → Type 0 where
       → Completes (Operand ∷ wants) (us ++ ts)
   OfNoIndex : {wants : List Want} {ts : List Symbol} → Completes wants ts → Completes (Index ∷ wants) ts
   OfIndex : {wants : List Want} {us ts : List Symbol} {e : Expression} → Derives any_expression us e → Completes wants ts
-      → Completes (Index ∷ wants) (symbols.Sign 91 ∷ (us ++ symbols.Sign 93 ∷ ts))
+      → Completes (Index ∷ wants) (symbols.Sign signs.OPEN_SQUARE ∷ (us ++ symbols.Sign signs.CLOSE_SQUARE ∷ ts))
   OfNoTail : {wants : List Want} {ts : List Symbol} → Completes wants ts → Completes (Tail ∷ wants) ts
   OfTail : {wants : List Want} {us ts : List Symbol} {e : Expression} (code : ℕ) → is_operator code ≡ true → Derives operand_level us e
       → Completes (Tail ∷ wants) ts
@@ -126,40 +129,44 @@ closed_by inside {e = e} d h (OfSign {ts = rest} sign s) =
 closed_first : {wants : List Want} {sign : ℕ} {ts : List Symbol} → Completes (Operand ∷ Tail ∷ Sign sign ∷ wants) ts → Closed wants sign ts
 closed_first s = let w = first s in closed_by w.taken w.derived w.split w.completes
 
-bracket_back : {wants : List Want} {ts : List Symbol} → Closed wants 41 ts → Completes (Operand ∷ wants) (symbols.Sign 40 ∷ ts)
+bracket_back : {wants : List Want} {ts : List Symbol} → Closed wants signs.CLOSE_ROUND ts
+    → Completes (Operand ∷ wants) (symbols.Sign signs.OPEN_ROUND ∷ ts)
 bracket_back c =
-    moved (ap (λ x. symbols.Sign 40 ∷ x) (c.split ∙ sym (append_assoc c.inside (symbols.Sign 41 ∷ []) c.rest)))
+    moved (ap (λ x. symbols.Sign signs.OPEN_ROUND ∷ x) (c.split ∙ sym (append_assoc c.inside (symbols.Sign signs.CLOSE_ROUND ∷ []) c.rest)))
     (OfOperand (Bracketed c.derived) c.completes)
 
-index_back : {wants : List Want} {ts : List Symbol} → Closed wants 93 ts → Completes (Index ∷ wants) (symbols.Sign 91 ∷ ts)
-index_back c = moved (ap (λ x. symbols.Sign 91 ∷ x) c.split) (OfIndex c.derived c.completes)
+index_back : {wants : List Want} {ts : List Symbol} → Closed wants signs.CLOSE_SQUARE ts
+    → Completes (Index ∷ wants) (symbols.Sign signs.OPEN_SQUARE ∷ ts)
+index_back c = moved (ap (λ x. symbols.Sign signs.OPEN_SQUARE ∷ x) c.split) (OfIndex c.derived c.completes)
 
 name_back : {wants : List Want} {ts : List Symbol} (name : List ℕ) → Completes (Index ∷ wants) ts
     → Completes (Operand ∷ wants) (symbols.Name name ∷ ts)
 name_back name (OfNoIndex s) = OfOperand (Named name) s
 name_back name (OfIndex {us = us} {ts = ts} d s) =
-    moved (ap (λ x. symbols.Name name ∷ symbols.Sign 91 ∷ x) (sym (append_assoc us (symbols.Sign 93 ∷ []) ts)))
+    moved (ap (λ x. symbols.Name name ∷ symbols.Sign signs.OPEN_SQUARE ∷ x) (sym (append_assoc us
+    (symbols.Sign signs.CLOSE_SQUARE ∷ []) ts)))
     (OfOperand (Indexed name d) s)
 
 negative_back : {wants : List Want} {ts : List Symbol} → Completes (Operand ∷ wants) ts → Completes (Operand ∷ wants)
-    (symbols.Operator 10 ∷ ts)
+    (symbols.Operator operator_codes.MINUS ∷ ts)
 negative_back (OfOperand d s) = OfOperand (Negative d) s
 
-not_back : {wants : List Want} {ts : List Symbol} → Completes (Operand ∷ wants) ts → Completes (Operand ∷ wants) (symbols.Sign 33 ∷ ts)
+not_back : {wants : List Want} {ts : List Symbol} → Completes (Operand ∷ wants) ts
+    → Completes (Operand ∷ wants) (symbols.Sign signs.EXCLAMATION ∷ ts)
 not_back (OfOperand d s) = OfOperand (Not d) s
 
 tail_back : {wants : List Want} {ts : List Symbol} (code : ℕ) → is_operator code ≡ true → Completes (Operand ∷ Tail ∷ wants) ts
     → Completes (Tail ∷ wants) (symbols.Operator code ∷ ts)
 tail_back code h (OfOperand d s) = OfTail code h d s
 
-call_back : {wants : List Want} {ts : List Symbol} (word : ℕ) → ((word ≡ 17) ⊎ ((word ≡ 18) ⊎ (word ≡ 19)))
-    → Completes (Sign 40 ∷ Sign 41 ∷ wants) ts
+call_back : {wants : List Want} {ts : List Symbol} (word : ℕ) → ((word ≡ words.MORE) ⊎ ((word ≡ words.TAKE) ⊎ (word ≡ words.ITER)))
+    → Completes (Sign signs.OPEN_ROUND ∷ Sign signs.CLOSE_ROUND ∷ wants) ts
     → Completes (Operand ∷ wants) (symbols.Word word ∷ ts)
 call_back word (inl h) (OfSign sign (OfSign sign' s)) = rw h (OfOperand CallsMore s)
 call_back word (inr (inl h)) (OfSign sign (OfSign sign' s)) = rw h (OfOperand CallsTake s)
 call_back word (inr (inr h)) (OfSign sign (OfSign sign' s)) = rw h (OfOperand CallsIter s)
 
-which_call : (word : ℕ) → is_call word ≡ true → (word ≡ 17) ⊎ ((word ≡ 18) ⊎ (word ≡ 19))
+which_call : (word : ℕ) → is_call word ≡ true → (word ≡ words.MORE) ⊎ ((word ≡ words.TAKE) ⊎ (word ≡ words.ITER))
 which_call word h =
     elim (cases_eq word 17) [
       | inl e ↦ inl e
@@ -183,10 +190,11 @@ either false x y want t f g = g refl
 
 operand_sign_back : (b : ℕ) → MovesBack (move Operand (symbols.Sign b)) Operand (symbols.Sign b)
 operand_sign_back b =
-    either (b == 40) (Takes (Operand ∷ Tail ∷ Sign 41 ∷ [])) (if b == 33 then Takes (Operand ∷ []) else Refuses) Operand (symbols.Sign b)
-    (λ h wants ts s. let e : b ≡ 40 = grind (arith, h) in rw e (bracket_back (closed_first s)))
-    (λ h. either (b == 33) (Takes (Operand ∷ [])) Refuses Operand (symbols.Sign b)
-    (λ i wants ts s. let e : b ≡ 33 = grind (arith, i) in rw e (not_back s)) (λ i. tt))
+    either (b == signs.OPEN_ROUND) (Takes (Operand ∷ Tail ∷ Sign signs.CLOSE_ROUND ∷ [])) (if b == signs.EXCLAMATION then Takes
+    (Operand ∷ []) else Refuses) Operand (symbols.Sign b)
+    (λ h wants ts s. let e : b ≡ signs.OPEN_ROUND = grind (arith, h) in rw e (bracket_back (closed_first s)))
+    (λ h. either (b == signs.EXCLAMATION) (Takes (Operand ∷ [])) Refuses Operand (symbols.Sign b)
+    (λ i wants ts s. let e : b ≡ signs.EXCLAMATION = grind (arith, i) in rw e (not_back s)) (λ i. tt))
 
 -- each entry of the table is sound
 back : (want : Want) (t : Symbol) → MovesBack (move want t) want t
@@ -199,16 +207,16 @@ back (Sign sign) (symbols.Operator code) = tt
 back Operand (symbols.Number n) = λ wants ts s. OfOperand (Numeral n) s
 back Operand (symbols.Name name) = λ wants ts s. name_back name s
 back Operand (symbols.Word word) =
-    either (is_call word) (Takes (Sign 40 ∷ Sign 41 ∷ [])) Refuses Operand (symbols.Word word)
+    either (is_call word) (Takes (Sign signs.OPEN_ROUND ∷ Sign signs.CLOSE_ROUND ∷ [])) Refuses Operand (symbols.Word word)
     (λ h wants ts s. call_back word (which_call word h) s)
     (λ h. tt)
 back Operand (symbols.Operator code) =
-    either (code == 10) (Takes (Operand ∷ [])) Refuses Operand (symbols.Operator code)
-    (λ h wants ts s. let e : code ≡ 10 = grind (arith, h) in rw e (negative_back s)) (λ h. tt)
+    either (code == operator_codes.MINUS) (Takes (Operand ∷ [])) Refuses Operand (symbols.Operator code)
+    (λ h wants ts s. let e : code ≡ operator_codes.MINUS = grind (arith, h) in rw e (negative_back s)) (λ h. tt)
 back Operand (symbols.Sign b) = operand_sign_back b
 back Index (symbols.Sign b) =
-    either (b == 91) (Takes (Operand ∷ Tail ∷ Sign 93 ∷ [])) Skips Index (symbols.Sign b)
-    (λ h wants ts s. let e : b ≡ 91 = grind (arith, h) in rw e (index_back (closed_first s))) (λ h wants ts s. OfNoIndex s)
+    either (b == signs.OPEN_SQUARE) (Takes (Operand ∷ Tail ∷ Sign signs.CLOSE_SQUARE ∷ [])) Skips Index (symbols.Sign b)
+    (λ h wants ts s. let e : b ≡ signs.OPEN_SQUARE = grind (arith, h) in rw e (index_back (closed_first s))) (λ h wants ts s. OfNoIndex s)
 back Index (symbols.Name name) = λ wants ts s. OfNoIndex s
 back Index (symbols.Word word) = λ wants ts s. OfNoIndex s
 back Index (symbols.Number n) = λ wants ts s. OfNoIndex s

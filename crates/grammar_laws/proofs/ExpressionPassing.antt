@@ -1,5 +1,6 @@
 -- The machine of expressions passes each expression that is read.
 use Rattle.std.proofs.Common.{◌≡◌, ℕ, suc, ◌<◌, ◌≤◌, List, [], ◌∷◌, refl, ◌∙◌, arith, subst, true, false}
+use Rattle.pipe_model.specs.declared.sign_bytes.TheConstants as signs
 use Rattle.pipe_model.specs.declared.symbol.Symbol.{Symbol}
 use Rattle.pipe_model.specs.declared.symbol.Symbol.TheVariants as symbols
 use Rattle.pipe_model.specs.Language.SyntaxTree.{Expression}
@@ -9,13 +10,13 @@ use Rattle.grammar_laws.specs.Reading.{ReadsNot, ReadsBracketed, ReadsChain, Ext
 use Rattle.grammar_laws.proofs.ExpressionReading.{level_at_front, no_next_level}
 use Rattle.grammar_laws.specs.ExpressionMachine.{Want, Sign, Operand, Index, Tail, ending, is_operator}
 
-no_index : (ts : List Symbol) (wants : List Want) → NoSign 91 ts → ending ts (Index ∷ wants) ≡ ending ts wants
+no_index : (ts : List Symbol) (wants : List Want) → NoSign signs.OPEN_SQUARE ts → ending ts (Index ∷ wants) ≡ ending ts wants
 no_index [] wants h = refl
 no_index (symbols.Name n ∷ ts) wants h = refl
 no_index (symbols.Word n ∷ ts) wants h = refl
 no_index (symbols.Number n ∷ ts) wants h = refl
 no_index (symbols.Operator n ∷ ts) wants h = refl
-no_index (symbols.Sign n ∷ ts) wants h = let e : (n == 91) ≡ false = grind (arith, h) in rw e refl
+no_index (symbols.Sign n ∷ ts) wants h = let e : (n == signs.OPEN_SQUARE) ≡ false = grind (arith, h) in rw e refl
 
 -- a level of at least 1 belongs to an operator
 pub is_op : (code level : ℕ) → level_of code ≡ level → 1 ≤ level → is_operator code ≡ true
@@ -39,13 +40,13 @@ mutual
   passes_at : {level : ℕ} {ts rest : List Symbol} {e : Expression} → Reads level ts e rest → Passes level ts rest
   passes_at (ReadsNumeral n rest) = operand_passes (λ wants. refl)
   passes_at (ReadsName n rest h) = operand_passes (λ wants. no_index rest wants h)
-  passes_at (ReadsElement name r) = operand_passes (λ wants. (passes_at r).chain (omega arith) (Sign 93 ∷ wants))
+  passes_at (ReadsElement name r) = operand_passes (λ wants. (passes_at r).chain (omega arith) (Sign signs.CLOSE_SQUARE ∷ wants))
   passes_at (ReadsMore rest) = operand_passes (λ wants. refl)
   passes_at (ReadsTake rest) = operand_passes (λ wants. refl)
   passes_at (ReadsIter rest) = operand_passes (λ wants. refl)
   passes_at (ReadsNegative r) = operand_passes ((passes_at r).operand refl)
   passes_at (ReadsNot r) = operand_passes ((passes_at r).operand refl)
-  passes_at (ReadsBracketed r) = operand_passes (λ wants. (passes_at r).chain (omega arith) (Sign 41 ∷ wants))
+  passes_at (ReadsBracketed r) = operand_passes (λ wants. (passes_at r).chain (omega arith) (Sign signs.CLOSE_ROUND ∷ wants))
   passes_at (ReadsChain {level} {ts} {mid} {a = a} r g) = record {
     operand = λ e. absurd (no_next_level (subst (λ x. Reads (suc x) ts a mid) e r));
     chain = λ l wants. (passes_at r).chain (omega (arith, l)) wants ∙ passes_extension g wants l;

@@ -1,5 +1,6 @@
 -- A reader of expressions finds what the whole grammar derives, and nothing else, and in one way.
 use Rattle.std.proofs.Common.{◌≡◌, ◌≢◌, ℕ, suc, ◌<◌, List, [], ◌∷◌, ◌++◌, refl, sym, ap, ◌∙◌, append_assoc, append-nil, arith, subst}
+use Rattle.pipe_model.specs.declared.sign_bytes.TheConstants as signs
 use Rattle.pipe_model.specs.declared.symbol.Symbol.{Symbol}
 use Rattle.pipe_model.specs.declared.symbol.Symbol.TheVariants as symbols
 use Rattle.pipe_model.specs.Language.SyntaxTree.{Expression, Element, Unary, binary_expression}
@@ -112,7 +113,7 @@ no_next_level r = no_level_above r (omega arith)
 
 -- the symbols do not begin with an index, nor with an operator of the level or a higher one
 abbrev pub Loose : ℕ → List Symbol → Type 0
-Loose level rest = NoSign 91 rest × (next_level rest < level)
+Loose level rest = NoSign signs.OPEN_SQUARE rest × (next_level rest < level)
 
 -- the symbols are read and then extended by what follows, if that is no index and no operator of a higher level
 abbrev Found : ℕ → List Symbol → Expression → Type 0
@@ -154,7 +155,7 @@ found_joined level left right a b code h f g rest whole end loose goes =
     (Joins code h (found_alone (suc level) right b g rest loose) goes))
 
 -- a sign other than `[` ends an expression
-pub loose_sign : (sign : ℕ) (rest : List Symbol) → sign ≢ 91 → Loose any_expression (symbols.Sign sign ∷ rest)
+pub loose_sign : (sign : ℕ) (rest : List Symbol) → sign ≢ signs.OPEN_SQUARE → Loose any_expression (symbols.Sign sign ∷ rest)
 loose_sign sign rest h = (h, omega arith)
 
 -- the end of the symbols ends an expression
@@ -162,14 +163,14 @@ pub loose_end : Loose any_expression []
 loose_end = (tt, omega arith)
 
 -- an expression that is found is read before a sign that closes it
-found_closed : (sign : ℕ) (inside rest : List Symbol) (e : Expression) → Found any_expression inside e → sign ≢ 91
+found_closed : (sign : ℕ) (inside rest : List Symbol) (e : Expression) → Found any_expression inside e → sign ≢ signs.OPEN_SQUARE
     → Reads any_expression ((inside ++ symbols.Sign sign ∷ []) ++ rest) e (symbols.Sign sign ∷ rest)
 found_closed sign inside rest e f h =
     moved any_expression (symbols.Sign sign ∷ rest) (sym (append_assoc inside (symbols.Sign sign ∷ []) rest))
     (found_alone any_expression inside e f (symbols.Sign sign ∷ rest) (loose_sign sign rest h))
 
 -- an operand is read if no index follows
-operand_alone : (ts : List Symbol) (e : Expression) → Found operand_level ts e → (rest : List Symbol) → NoSign 91 rest
+operand_alone : (ts : List Symbol) (e : Expression) → Found operand_level ts e → (rest : List Symbol) → NoSign signs.OPEN_SQUARE rest
     → Reads operand_level (ts ++ rest) e rest
 operand_alone ts e f rest h = found_alone operand_level ts e f rest (h, level_at_front rest)
 
@@ -178,19 +179,20 @@ pub found : {level : ℕ} {ts : List Symbol} {e : Expression} → Derives level 
 found (Numeral n) = λ rest whole end loose goes. unextended (ReadsNumeral n rest) goes
 found (Named name) = λ rest whole end loose goes. unextended (ReadsName name rest loose.0) goes
 found (Indexed {inside} {e} name d) = λ rest whole end loose goes.
-    unextended (ReadsElement name (found_closed 93 inside rest e (found d) (λ x. absurd (omega (arith, x))))) goes
+    unextended (ReadsElement name (found_closed signs.CLOSE_SQUARE inside rest e (found d) (λ x. absurd (omega (arith, x))))) goes
 found CallsMore = λ rest whole end loose goes. unextended (ReadsMore rest) goes
 found CallsTake = λ rest whole end loose goes. unextended (ReadsTake rest) goes
 found CallsIter = λ rest whole end loose goes. unextended (ReadsIter rest) goes
 found (Negative {ts} {e} d) = λ rest whole end loose goes. unextended (ReadsNegative (operand_alone ts e (found d) rest loose.0)) goes
 found (Not {ts} {e} d) = λ rest whole end loose goes. unextended (ReadsNot (operand_alone ts e (found d) rest loose.0)) goes
 found (Bracketed {inside} {e} d) = λ rest whole end loose goes.
-    unextended (ReadsBracketed (found_closed 41 inside rest e (found d) (λ x. absurd (omega (arith, x))))) goes
+    unextended (ReadsBracketed (found_closed signs.CLOSE_ROUND inside rest e (found d) (λ x. absurd (omega (arith, x))))) goes
 found (Tighter {level} {ts} {e} d) = λ rest whole end loose goes. ReadsChain (found_alone (suc level) ts e (found d) rest loose) goes
 found (Joined {level} {left} {right} {a} {b} code h d d') = found_joined level left right a b code h (found d) (found d')
 
 -- they are read before a sign other than `[`
-pub found_before_sign : {ts : List Symbol} {e : Expression} (sign : ℕ) (rest : List Symbol) → sign ≢ 91 → Derives any_expression ts e
+pub found_before_sign : {ts : List Symbol} {e : Expression} (sign : ℕ) (rest : List Symbol) → sign ≢ signs.OPEN_SQUARE
+    → Derives any_expression ts e
     → Reads any_expression (ts ++ symbols.Sign sign ∷ rest) e (symbols.Sign sign ∷ rest)
 found_before_sign {ts} {e} sign rest h d = found_alone any_expression ts e (found d) (symbols.Sign sign ∷ rest) (loose_sign sign rest h)
 

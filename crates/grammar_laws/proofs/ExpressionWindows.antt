@@ -2,6 +2,7 @@
 -- follow.
 use Rattle.std.proofs.Common.{◌≡◌, ◌≢◌, ℕ, ◌+◌, ◌<◌, List, [], ◌∷◌, ◌++◌, length, length-append, refl, sym, ap, ◌∙◌, arith, Option, Some}
 use Rattle.std.proofs.Common.{None, Bool, true, false}
+use Rattle.pipe_model.specs.declared.sign_bytes.TheConstants as signs
 use Rattle.pipe_model.specs.declared.symbol.Symbol.{Symbol}
 use Rattle.pipe_model.specs.declared.symbol.Symbol.TheVariants as symbols
 use Rattle.pipe_model.specs.Language.SyntaxTree.{Expression}
@@ -9,7 +10,7 @@ use Rattle.grammar_laws.specs.Reading.{Reads, ReadsNumeral, ReadsName, ReadsElem
 use Rattle.grammar_laws.specs.Reading.{ReadsNot, ReadsBracketed, ReadsChain, Extends, Ends, Joins, NoSign, next_level}
 use Rattle.grammar_laws.specs.ExpressionMachine.{Want, step, may_end, Stuck, ended, ending, ending_on, IsStuck}
 
-sign_window : (ts more : List Symbol) → ts ≢ [] → NoSign 91 ts → NoSign 91 (ts ++ more)
+sign_window : (ts more : List Symbol) → ts ≢ [] → NoSign signs.OPEN_SQUARE ts → NoSign signs.OPEN_SQUARE (ts ++ more)
 sign_window [] more n h = absurd (n refl)
 sign_window (symbols.Name x ∷ ts) more n h = tt
 sign_window (symbols.Word x ∷ ts) more n h = tt
@@ -38,13 +39,14 @@ mutual
       → Reads level (ts ++ more) e (rest ++ more)
   reads_more (ReadsNumeral n rest) k more = ReadsNumeral n (rest ++ more)
   reads_more (ReadsName n rest h) k more = ReadsName n (rest ++ more) (sign_window rest more k h)
-  reads_more (ReadsElement {rest = rest} name r) k more = ReadsElement name (reads_more r (some (symbols.Sign 93) rest) more)
+  reads_more (ReadsElement {rest = rest} name r) k more = ReadsElement name (reads_more r (some
+      (symbols.Sign signs.CLOSE_SQUARE) rest) more)
   reads_more (ReadsMore rest) k more = ReadsMore (rest ++ more)
   reads_more (ReadsTake rest) k more = ReadsTake (rest ++ more)
   reads_more (ReadsIter rest) k more = ReadsIter (rest ++ more)
   reads_more (ReadsNegative r) k more = ReadsNegative (reads_more r k more)
   reads_more (ReadsNot r) k more = ReadsNot (reads_more r k more)
-  reads_more (ReadsBracketed {rest = rest} r) k more = ReadsBracketed (reads_more r (some (symbols.Sign 41) rest) more)
+  reads_more (ReadsBracketed {rest = rest} r) k more = ReadsBracketed (reads_more r (some (symbols.Sign signs.CLOSE_ROUND) rest) more)
   reads_more (ReadsChain r g) k more = ReadsChain (reads_more r (begins g k) more) (extends_more g k more)
 
   extends_more : {level : ℕ} {ts rest : List Symbol} {a e : Expression} → Extends level a ts e rest → rest ≢ [] → (more : List Symbol)

@@ -2,6 +2,7 @@
 use Rattle.std.proofs.Common.{◌≡◌, ◌≢◌, ℕ, suc, ◌<◌, ◌≤◌, List, [], ◌∷◌, ◌++◌, length, refl, sym, ap, ◌∙◌, append_assoc, append-nil}
 use Rattle.std.proofs.Common.{length-append, arith, subst, ◌⊎◌, inl, inr, Option, Some, None, Bool, true, false, nat_le, if◌then◌else◌}
 use Rattle.std.proofs.lemmas.Bool.{cases_lt}
+use Rattle.pipe_model.specs.declared.sign_bytes.TheConstants as signs
 use Rattle.pipe_model.specs.declared.symbol.Symbol.{Symbol}
 use Rattle.pipe_model.specs.declared.symbol.Symbol.TheVariants as symbols
 use Rattle.pipe_model.specs.Language.SyntaxTree.{Expression, SyntaxTree}
@@ -49,7 +50,8 @@ swapped (inl h) = inr h
 swapped (inr h) = inl h
 
 -- no expression begins with a closing bracket
-derived_begins : {level : ℕ} {ts : List Symbol} {e : Expression} → Derives level ts e → (rest : List Symbol) → NoSign 41 (ts ++ rest)
+derived_begins : {level : ℕ} {ts : List Symbol} {e : Expression} → Derives level ts e → (rest : List Symbol)
+    → NoSign signs.CLOSE_ROUND (ts ++ rest)
 derived_begins (Numeral n) rest = tt
 derived_begins (Named name) rest = tt
 derived_begins (Indexed name d) rest = tt
@@ -61,10 +63,11 @@ derived_begins (Not d) rest = λ h. absurd (omega (arith, h))
 derived_begins (Bracketed d) rest = λ h. absurd (omega (arith, h))
 derived_begins (Tighter d) rest = derived_begins d rest
 derived_begins (Joined {left = left} {right = right} code h d d') rest =
-    subst (NoSign 41) (sym (append_assoc left (symbols.Operator code ∷ right) rest))
+    subst (NoSign signs.CLOSE_ROUND) (sym (append_assoc left (symbols.Operator code ∷ right) rest))
     (derived_begins d (symbols.Operator code ∷ (right ++ rest)))
 
-front_begins : (inside more rest : List Symbol) → inside ≢ [] → NoSign 41 (inside ++ more) → NoSign 41 (inside ++ rest)
+front_begins : (inside more rest : List Symbol) → inside ≢ [] → NoSign signs.CLOSE_ROUND (inside ++ more)
+    → NoSign signs.CLOSE_ROUND (inside ++ rest)
 front_begins [] more rest n h = absurd (n refl)
 front_begins (symbols.Name name ∷ ts) more rest n h = tt
 front_begins (symbols.Word k ∷ ts) more rest n h = tt
@@ -73,9 +76,9 @@ front_begins (symbols.Operator code ∷ ts) more rest n h = tt
 front_begins (symbols.Sign b ∷ ts) more rest n h = h
 
 -- a stage number, read as a full expression
-stage_then : {rest : List Symbol} (longest : ℕ) (ts : List Symbol) (wants : List Want) → NoSign 41 ts
-    → FindsTooLong longest ts (machine.FullExpression ∷ Sign 41 ∷ wants) rest
-    → FindsTooLong longest ts (machine.StageNumber ∷ Sign 41 ∷ wants) rest
+stage_then : {rest : List Symbol} (longest : ℕ) (ts : List Symbol) (wants : List Want) → NoSign signs.CLOSE_ROUND ts
+    → FindsTooLong longest ts (machine.FullExpression ∷ Sign signs.CLOSE_ROUND ∷ wants) rest
+    → FindsTooLong longest ts (machine.StageNumber ∷ Sign signs.CLOSE_ROUND ∷ wants) rest
 stage_then longest ts wants h f = record { left = f.left; verdict = stage_number longest ts wants h ∙ f.verdict; more = f.more }
 
 some_inside : (inside : List Symbol) (n : ℕ) → length inside ≡ suc n → inside ≢ []
@@ -124,17 +127,18 @@ finds_too_long longest inside more after rest h (OverStage {wants = wants} {ts =
     let same : ts ≡ inside ++ more = cc (s) in
     let d = subst (λ x. Derives any_expression x e) same d in
     stage_then longest (inside ++ rest) wants
-    (front_begins inside more rest (some_inside inside longest h) (subst (NoSign 41) (append-nil (inside ++ more)) (derived_begins d [])))
-    (too_long_here longest inside more rest (Sign 41 ∷ wants) d h)
+    (front_begins inside more rest (some_inside inside longest h) (subst (NoSign signs.CLOSE_ROUND) (append-nil (inside ++ more))
+    (derived_begins d [])))
+    (too_long_here longest inside more rest (Sign signs.CLOSE_ROUND ∷ wants) d h)
 finds_too_long longest inside more after rest h (OverStage d w) (p ∷ []) s = absurd (cc (s))
 finds_too_long longest inside more after rest h (OverStage {wants = wants} {ts = ts} {ps = ps} d w) (p ∷ q ∷ before) s =
     let first : p ≡ FullExpression ts = cc (s) in
-    let second : q ≡ Single (symbols.Sign 41) = cc (s) in
+    let second : q ≡ Single (symbols.Sign signs.CLOSE_ROUND) = cc (s) in
     let tail : ps ≡ before ++ FullExpression (inside ++ more) ∷ after = cc (s) in
-    rw (first, second) (finds_moved (passed_split ts 41 before (inside ++ rest))
-    (stage_then longest (ts ++ symbols.Sign 41 ∷ (flat before ++ (inside ++ rest))) wants
-    (derived_begins d (symbols.Sign 41 ∷ (flat before ++ (inside ++ rest))))
-    (over_or_past longest ts 41 (flat before ++ (inside ++ rest)) rest wants d (λ x. absurd (omega (arith, x)))
+    rw (first, second) (finds_moved (passed_split ts signs.CLOSE_ROUND before (inside ++ rest))
+    (stage_then longest (ts ++ symbols.Sign signs.CLOSE_ROUND ∷ (flat before ++ (inside ++ rest))) wants
+    (derived_begins d (symbols.Sign signs.CLOSE_ROUND ∷ (flat before ++ (inside ++ rest))))
+    (over_or_past longest ts signs.CLOSE_ROUND (flat before ++ (inside ++ rest)) rest wants d (λ x. absurd (omega (arith, x)))
     (swapped (cases_lt longest (length ts)))
     (after_more before inside rest) (finds_too_long longest inside more after rest h w before tail))))
 

@@ -2,6 +2,7 @@
 use Rattle.std.proofs.Common.{◌≡◌, ℕ, suc, ◌<◌, ◌≤◌, ◌+◌, List, [], ◌∷◌, ◌++◌, length, refl, sym, ap, ◌∙◌, length-append, arith, Option}
 use Rattle.std.proofs.Common.{Some, None, true, false, nat_le, ◌⊎◌, inl, inr, ◌==◌}
 use Rattle.std.proofs.lemmas.Bool.{cases_lt}
+use Rattle.pipe_model.specs.declared.sign_bytes.TheConstants as signs
 use Rattle.pipe_model.specs.declared.symbol.Symbol.{Symbol}
 use Rattle.pipe_model.specs.declared.symbol.Symbol.TheVariants as symbols
 use Rattle.pipe_model.specs.Language.SyntaxTree.{Expression}
@@ -142,17 +143,18 @@ over_full longest before rest left wants h l =
 -- ---- a stage number, which may be missing
 
 -- if the symbols do not begin with a closing bracket, a stage number is read as a full expression
-pub stage_number : (longest : ℕ) (ts : List Symbol) (wants : List Want) → NoSign 41 ts
-    → judge longest ts (Outside (StageNumber ∷ Sign 41 ∷ wants)) ≡ judge longest ts (Outside (FullExpression ∷ Sign 41 ∷ wants))
+pub stage_number : (longest : ℕ) (ts : List Symbol) (wants : List Want) → NoSign signs.CLOSE_ROUND ts
+    → judge longest ts (Outside (StageNumber ∷ Sign signs.CLOSE_ROUND ∷ wants))
+    ≡ judge longest ts (Outside (FullExpression ∷ Sign signs.CLOSE_ROUND ∷ wants))
 stage_number longest [] wants h = refl
 stage_number longest (symbols.Name name ∷ ts) wants h = refl
 stage_number longest (symbols.Word k ∷ ts) wants h = refl
 stage_number longest (symbols.Number n ∷ ts) wants h = refl
 stage_number longest (symbols.Operator code ∷ ts) wants h = refl
-stage_number longest (symbols.Sign b ∷ ts) wants h = let e : (b == 41) ≡ false = grind (arith, h) in rw e refl
+stage_number longest (symbols.Sign b ∷ ts) wants h = let e : (b == signs.CLOSE_ROUND) ≡ false = grind (arith, h) in rw e refl
 
 -- no expression begins with a closing bracket
-pub begins_open : {level : ℕ} {ts rest : List Symbol} {e : Expression} → Reads level ts e rest → NoSign 41 ts
+pub begins_open : {level : ℕ} {ts rest : List Symbol} {e : Expression} → Reads level ts e rest → NoSign signs.CLOSE_ROUND ts
 begins_open (ReadsNumeral n rest) = tt
 begins_open (ReadsName name rest h) = tt
 begins_open (ReadsElement name r) = tt
@@ -166,5 +168,7 @@ begins_open (ReadsChain r g) = begins_open r
 
 -- a stage number is passed
 pub passes_stage_number : {longest : ℕ} {ts rest : List Symbol} {e : Expression} → ReadsFull longest ts e rest → (wants : List Want)
-    → judge longest ts (Outside (StageNumber ∷ Sign 41 ∷ wants)) ≡ judge longest rest (Outside (Sign 41 ∷ wants))
-passes_stage_number {longest} {ts} r wants = stage_number longest ts wants (begins_open r.read) ∙ passes_full r (Sign 41 ∷ wants)
+    → judge longest ts (Outside (StageNumber ∷ Sign signs.CLOSE_ROUND ∷ wants))
+    ≡ judge longest rest (Outside (Sign signs.CLOSE_ROUND ∷ wants))
+passes_stage_number {longest} {ts} r wants = stage_number longest ts wants (begins_open r.read)
+    ∙ passes_full r (Sign signs.CLOSE_ROUND ∷ wants)

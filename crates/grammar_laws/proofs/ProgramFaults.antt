@@ -3,6 +3,7 @@ use Rattle.std.proofs.Common.{◌≡◌, ◌≢◌, ℕ, suc, ◌<◌, ◌≤◌
 use Rattle.std.proofs.Common.{append-nil, length-append, arith, subst, ◌⊎◌, inl, inr, Option, Some, None, Bool, true, false, ◌==◌, nat_le}
 use Rattle.std.proofs.Common.{if◌then◌else◌}
 use Rattle.std.proofs.lemmas.List.{take-append-drop, length-take}
+use Rattle.pipe_model.specs.declared.sign_bytes.TheConstants as signs
 use Rattle.pipe_model.specs.declared.symbol.Symbol.{Symbol}
 use Rattle.pipe_model.specs.declared.symbol.Symbol.TheVariants as symbols
 use Rattle.pipe_model.specs.Language.SyntaxTree.{Expression, SyntaxTree}
@@ -263,7 +264,7 @@ too_long_here longest inside more rest wants d h =
 
 -- the machine passes a full expression on the way, or finds that it is too long
 pub over_or_past : {e : Expression} (longest : ℕ) (ts : List Symbol) (sign : ℕ) (following rest : List Symbol) (wants : List Want)
-    → Derives any_expression ts e → sign ≢ 91
+    → Derives any_expression ts e → sign ≢ signs.OPEN_SQUARE
     → (length ts ≤ longest) ⊎ (longest < length ts) → length rest ≤ length following
     → FindsTooLong longest following wants rest
     → FindsTooLong longest (ts ++ symbols.Sign sign ∷ following) (machine.FullExpression ∷ Sign sign ∷ wants) rest

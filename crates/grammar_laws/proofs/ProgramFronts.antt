@@ -2,6 +2,9 @@
 use Rattle.std.proofs.Common.{◌≡◌, ℕ, ℤ, List, [], ◌∷◌, ◌++◌, refl, sym, ap, ◌∙◌, append_assoc, arith, subst, ◌⊎◌, inl, inr, Option, Some}
 use Rattle.std.proofs.Common.{None, Bool, true, false, ◌==◌, ◌||◌, pos, negsuc, if◌then◌else◌}
 use Rattle.std.proofs.lemmas.Bool.{cases_eq}
+use Rattle.pipe_model.specs.declared.operator_codes.TheConstants as operator_codes
+use Rattle.pipe_model.specs.declared.sign_bytes.TheConstants as signs
+use Rattle.pipe_model.specs.declared.word_codes.TheConstants as words
 use Rattle.pipe_model.specs.declared.symbol.Symbol.{Symbol}
 use Rattle.pipe_model.specs.declared.symbol.Symbol.TheVariants as symbols
 use Rattle.pipe_model.specs.declared.tree.Declaration.{Declaration}
@@ -124,7 +127,8 @@ record Block (wants : List Want) (ps : List Piece) : Type 0 where
   split : ps ≡ inside ++ rest
   completes : Completes wants rest
 
-block_first : {wants : List Want} {ps : List Piece} → Completes (Sign 123 ∷ machine.Statements ∷ Sign 125 ∷ wants) ps → Block wants ps
+block_first : {wants : List Want} {ps : List Piece} → Completes
+    (Sign signs.OPEN_BRACE ∷ machine.Statements ∷ Sign signs.CLOSE_BRACE ∷ wants) ps → Block wants ps
 block_first (OfSign b (OfStatements {ps = ps} {ss = ss} d (OfSign {ps = rest} b' c))) = record {
   inside = Single open_brace ∷ (ps ++ Single close_brace ∷ []);
   rest = rest;
@@ -135,7 +139,7 @@ block_first (OfSign b (OfStatements {ps = ps} {ss = ss} d (OfSign {ps = rest} b'
 }
 
 let_back : {wants : List Want} {ps : List Piece}
-    → Completes (AnyName ∷ Sign 61 ∷ machine.FullExpression ∷ Sign 59 ∷ machine.Statements ∷ wants) ps
+    → Completes (AnyName ∷ Sign signs.EQUALS ∷ machine.FullExpression ∷ Sign signs.SEMICOLON ∷ machine.Statements ∷ wants) ps
     → Completes (machine.Statements ∷ wants) (Single word_let ∷ ps)
 let_back (OfName name (OfSign b (OfFull d (OfSign b' c)))) = one_statement_more (LetIs name d) c
 
@@ -144,29 +148,33 @@ assign_back : {wants : List Want} {ps : List Piece} (name : List ℕ) → Comple
 assign_back name (OfAssign d c) = one_statement_more (AssignIs name d) c
 assign_back name (OfAssignElement d d' c) = one_statement_more (AssignElementIs name d d') c
 
-emit_back : {wants : List Want} {ps : List Piece} → Completes (machine.FullExpression ∷ Sign 59 ∷ machine.Statements ∷ wants) ps
+emit_back : {wants : List Want} {ps : List Piece} → Completes
+    (machine.FullExpression ∷ Sign signs.SEMICOLON ∷ machine.Statements ∷ wants) ps
     → Completes (machine.Statements ∷ wants) (Single word_emit ∷ ps)
 emit_back (OfFull d (OfSign b c)) = one_statement_more (EmitIs d) c
 
-wait_back : {wants : List Want} {ps : List Piece} → Completes (Sign 40 ∷ StageNumber ∷ Sign 41 ∷ Sign 59 ∷ machine.Statements ∷ wants) ps
+wait_back : {wants : List Want} {ps : List Piece} → Completes
+    (Sign signs.OPEN_ROUND ∷ StageNumber ∷ Sign signs.CLOSE_ROUND ∷ Sign signs.SEMICOLON ∷ machine.Statements ∷ wants) ps
     → Completes (machine.Statements ∷ wants) (Single word_pipe_wait ∷ ps)
 wait_back (OfSign b (OfNoStage (OfSign b' (OfSign b'' c)))) = one_statement_more WaitNextIs c
 wait_back (OfSign b (OfStage d (OfSign b' (OfSign b'' c)))) = one_statement_more (WaitIs d) c
 
-continue_back : {wants : List Want} {ps : List Piece} → Completes (Sign 40 ∷ StageNumber ∷ Sign 41 ∷ Sign 59 ∷ machine.Statements ∷ wants)
+continue_back : {wants : List Want} {ps : List Piece} → Completes
+    (Sign signs.OPEN_ROUND ∷ StageNumber ∷ Sign signs.CLOSE_ROUND ∷ Sign signs.SEMICOLON ∷ machine.Statements ∷ wants)
     ps
     → Completes (machine.Statements ∷ wants) (Single word_pipe_continue ∷ ps)
 continue_back (OfSign b (OfNoStage (OfSign b' (OfSign b'' c)))) = one_statement_more ContinueNextIs c
 continue_back (OfSign b (OfStage d (OfSign b' (OfSign b'' c)))) = one_statement_more (ContinueIs d) c
 
-stage_back : {wants : List Want} {ps : List Piece} (word : ℕ) → ((word ≡ 9) ⊎ (word ≡ 10))
-    → Completes (Sign 40 ∷ StageNumber ∷ Sign 41 ∷ Sign 59 ∷ machine.Statements ∷ wants) ps
+stage_back : {wants : List Want} {ps : List Piece} (word : ℕ) → ((word ≡ words.PIPE_WAIT) ⊎ (word ≡ words.PIPE_CONTINUE))
+    → Completes (Sign signs.OPEN_ROUND ∷ StageNumber ∷ Sign signs.CLOSE_ROUND ∷ Sign signs.SEMICOLON ∷ machine.Statements ∷ wants) ps
     → Completes (machine.Statements ∷ wants) (Single (symbols.Word word) ∷ ps)
 stage_back word (inl h) c = rw h (wait_back c)
 stage_back word (inr h) c = rw h (continue_back c)
 
 while_back : {wants : List Want} {ps : List Piece}
-    → Completes (Sign 40 ∷ machine.FullExpression ∷ Sign 41 ∷ Sign 123 ∷ machine.Statements ∷ Sign 125 ∷ machine.Statements ∷ wants) ps
+    → Completes (Sign signs.OPEN_ROUND ∷ machine.FullExpression ∷ Sign signs.CLOSE_ROUND ∷ Sign signs.OPEN_BRACE ∷ machine.Statements ∷
+    Sign signs.CLOSE_BRACE ∷ machine.Statements ∷ wants) ps
     → Completes (machine.Statements ∷ wants) (Single word_while ∷ ps)
 while_back (OfSign b (OfFull {ts = ts} d (OfSign b' c))) =
     let k = block_first c in
@@ -187,8 +195,8 @@ part_first (OfPart {ps = ps} {qs = qs} {ss = ss} word d c) =
     record { taken = ps; rest = qs; ss = ss; derived = d; split = refl; completes = c }
 
 if_back : {wants : List Want} {ps : List Piece}
-    → Completes (Sign 40 ∷ machine.FullExpression ∷ Sign 41 ∷ Sign 123 ∷ machine.Statements ∷ Sign 125 ∷ Part
-    14 ∷ machine.Statements ∷ wants) ps
+    → Completes (Sign signs.OPEN_ROUND ∷ machine.FullExpression ∷ Sign signs.CLOSE_ROUND ∷ Sign signs.OPEN_BRACE ∷ machine.Statements ∷
+    Sign signs.CLOSE_BRACE ∷ Part words.ELSE ∷ machine.Statements ∷ wants) ps
     → Completes (machine.Statements ∷ wants) (Single word_if ∷ ps)
 if_back (OfSign b (OfFull {ts = ts} d (OfSign b' c))) =
     let k = block_first c in
@@ -197,7 +205,8 @@ if_back (OfSign b (OfFull {ts = ts} d (OfSign b' c))) =
     (k.split ∙ ap (λ x. k.inside ++ x) m.split ∙ sym (append_assoc k.inside m.taken m.rest)))
     (one_statement_more (IfIs d k.derived m.derived) m.completes)
 
-part_back : {wants : List Want} {ps : List Piece} (word : ℕ) → Completes (Sign 123 ∷ machine.Statements ∷ Sign 125 ∷ wants) ps
+part_back : {wants : List Want} {ps : List Piece} (word : ℕ) → Completes
+    (Sign signs.OPEN_BRACE ∷ machine.Statements ∷ Sign signs.CLOSE_BRACE ∷ wants) ps
     → Completes (Part word ∷ wants) (Single (symbols.Word word) ∷ ps)
 part_back word c = let k = block_first c in moved (ap (λ x. Single (symbols.Word word) ∷ x) k.split)
     (OfPart word (PartIs k.derived) k.completes)
@@ -209,24 +218,26 @@ cells_split ps qs rs rest =
     ap (λ x. ps ++ Single equals ∷ x) (sym (append_assoc qs (Single semicolon ∷ rs) rest))
     ∙ sym (append_assoc ps (Single equals ∷ (qs ++ Single semicolon ∷ rs)) rest)
 
-cell_back : {wants : List Want} {ps : List Piece} → Completes (AnyName ∷ Size ∷ Sign 61 ∷ Value ∷ Sign 59 ∷ Cells ∷ wants) ps
+cell_back : {wants : List Want} {ps : List Piece} → Completes
+    (AnyName ∷ Size ∷ Sign signs.EQUALS ∷ Value ∷ Sign signs.SEMICOLON ∷ Cells ∷ wants) ps
     → Completes (Cells ∷ wants) (Single word_cell ∷ ps)
 cell_back (OfName name (OfSize {ps = ps} s (OfSign b (OfValue {ps = qs} v (OfSign b' (OfCells {ps = rs} {qs = rest} d c)))))) =
     moved (ap (λ x. Single word_cell ∷ Single (symbols.Name name) ∷ x) (cells_split ps qs rs rest)) (OfCells (CellIs name s v d) c)
 
-size_back : {wants : List Want} {ps : List Piece} → Completes (AnyNumber ∷ Sign 93 ∷ wants) ps
+size_back : {wants : List Want} {ps : List Piece} → Completes (AnyNumber ∷ Sign signs.CLOSE_SQUARE ∷ wants) ps
     → Completes (Size ∷ wants) (Single open_square ∷ ps)
 size_back (OfNumber n (OfSign b c)) = OfSize (SizeIs n) c
 
 value_back : {wants : List Want} {ps : List Piece} → Completes (Natural ∷ wants) ps → Completes (Value ∷ wants) (Single minus ∷ ps)
 value_back (OfNatural n c) = OfValue (NegativeValueIs n) c
 
-target_back : {wants : List Want} {ps : List Piece} → Completes (machine.FullExpression ∷ Sign 59 ∷ wants) ps
+target_back : {wants : List Want} {ps : List Piece} → Completes (machine.FullExpression ∷ Sign signs.SEMICOLON ∷ wants) ps
     → Completes (Target ∷ wants) (Single equals ∷ ps)
 target_back (OfFull d (OfSign b c)) = OfAssign d c
 
 element_back : {wants : List Want} {ps : List Piece}
-    → Completes (machine.FullExpression ∷ Sign 93 ∷ Sign 61 ∷ machine.FullExpression ∷ Sign 59 ∷ wants) ps
+    → Completes (machine.FullExpression ∷ Sign signs.CLOSE_SQUARE ∷ Sign signs.EQUALS ∷ machine.FullExpression ∷ Sign signs.SEMICOLON ∷
+    wants) ps
     → Completes (Target ∷ wants) (Single open_square ∷ ps)
 element_back (OfFull d (OfSign b (OfSign b' (OfFull d' (OfSign b'' c))))) = OfAssignElement d d' c
 
@@ -239,11 +250,12 @@ same_word : (word k : ℕ) → (k == word) ≡ true → {wants : List Want} {ps 
 same_word word k h c = let e : k ≡ word = grind (arith, h) in rw e (OfWord word c)
 
 same_part : (word k : ℕ) → (k == word) ≡ true → {wants : List Want} {ps : List Piece} → Completes
-    (Sign 123 ∷ machine.Statements ∷ Sign 125 ∷ wants) ps
+    (Sign signs.OPEN_BRACE ∷ machine.Statements ∷ Sign signs.CLOSE_BRACE ∷ wants) ps
     → Completes (Part word ∷ wants) (Single (symbols.Word k) ∷ ps)
 same_part word k h c = let e : k ≡ word = grind (arith, h) in rw e (part_back word c)
 
-which_stage : (word : ℕ) → ((word == 9) || (word == 10)) ≡ true → (word ≡ 9) ⊎ (word ≡ 10)
+which_stage : (word : ℕ) → ((word == words.PIPE_WAIT) || (word == words.PIPE_CONTINUE)) ≡ true
+    → (word ≡ words.PIPE_WAIT) ⊎ (word ≡ words.PIPE_CONTINUE)
 which_stage word h = elim (cases_eq word 9) [ inl e ↦ inl e | inr e ↦ inr (grind (arith, e, h)) ]
 
 -- if pieces complete the wants after the move, then `t` and these pieces complete the wants before it
@@ -263,21 +275,24 @@ either false x y want t f g = g refl
 
 statement_back : (word : ℕ) → MovesBack (statement_move word) machine.Statements (symbols.Word word)
 statement_back word =
-    either (word == 12) _ _ machine.Statements (symbols.Word word)
-    (λ h wants ps c. let e : word ≡ 12 = grind (arith, h) in rw e (let_back c)) (λ h.
-    either (word == 13) _ _ machine.Statements (symbols.Word word)
-    (λ h wants ps c. let e : word ≡ 13 = grind (arith, h) in rw e (if_back c)) (λ h.
-    either (word == 15) _ _ machine.Statements (symbols.Word word)
-    (λ h wants ps c. let e : word ≡ 15 = grind (arith, h) in rw e (while_back c)) (λ h.
-    either (word == 16) _ _ machine.Statements (symbols.Word word)
-    (λ h wants ps c. let e : word ≡ 16 = grind (arith, h) in rw e (emit_back c)) (λ h.
-    either ((word == 9) || (word == 10)) _ _ machine.Statements (symbols.Word word) (λ h wants ps c. stage_back word (which_stage word h) c)
+    either (word == words.LET) _ _ machine.Statements (symbols.Word word)
+    (λ h wants ps c. let e : word ≡ words.LET = grind (arith, h) in rw e (let_back c)) (λ h.
+    either (word == words.IF) _ _ machine.Statements (symbols.Word word)
+    (λ h wants ps c. let e : word ≡ words.IF = grind (arith, h) in rw e (if_back c)) (λ h.
+    either (word == words.WHILE) _ _ machine.Statements (symbols.Word word)
+    (λ h wants ps c. let e : word ≡ words.WHILE = grind (arith, h) in rw e (while_back c)) (λ h.
+    either (word == words.EMIT) _ _ machine.Statements (symbols.Word word)
+    (λ h wants ps c. let e : word ≡ words.EMIT = grind (arith, h) in rw e (emit_back c)) (λ h.
+    either ((word == words.PIPE_WAIT) || (word == words.PIPE_CONTINUE)) _ _ machine.Statements (symbols.Word word)
+    (λ h wants ps c. stage_back word (which_stage word h) c)
     (λ h wants ps c. OfStatements NoStatement c)))))
 
 target_sign_back : (b : ℕ) → MovesBack (move Target (symbols.Sign b)) Target (symbols.Sign b)
 target_sign_back b =
-    either (b == 61) _ _ Target (symbols.Sign b) (λ h wants ps c. let e : b ≡ 61 = grind (arith, h) in rw e (target_back c)) (λ h.
-    either (b == 91) _ _ Target (symbols.Sign b) (λ h wants ps c. let e : b ≡ 91 = grind (arith, h) in rw e (element_back c)) (λ h. tt))
+    either (b == signs.EQUALS) _ _ Target (symbols.Sign b) (λ h wants ps c.
+    let e : b ≡ signs.EQUALS = grind (arith, h) in rw e (target_back c)) (λ h.
+    either (b == signs.OPEN_SQUARE) _ _ Target (symbols.Sign b) (λ h wants ps c.
+    let e : b ≡ signs.OPEN_SQUARE = grind (arith, h) in rw e (element_back c)) (λ h. tt))
 
 natural_back : (n : ℤ) → MovesBack (natural_move n) Natural (symbols.Number n)
 natural_back (pos n) = λ wants ps c. OfNatural n c
@@ -314,7 +329,8 @@ back Natural (symbols.Operator code) = tt
 back Natural (symbols.Sign b) = tt
 back machine.FullExpression t = λ wants ts e ps d c. OfFull d c
 back StageNumber (symbols.Sign b) =
-    either (b == 41) Skips Enters StageNumber (symbols.Sign b) (λ h wants ps c. OfNoStage c) (λ h wants ts e ps d c. OfStage d c)
+    either (b == signs.CLOSE_ROUND) Skips Enters StageNumber (symbols.Sign b) (λ h wants ps c. OfNoStage c)
+    (λ h wants ts e ps d c. OfStage d c)
 back StageNumber (symbols.Name name) = λ wants ts e ps d c. OfStage d c
 back StageNumber (symbols.Word k) = λ wants ts e ps d c. OfStage d c
 back StageNumber (symbols.Number n) = λ wants ts e ps d c. OfStage d c
@@ -337,14 +353,16 @@ back (Part word) (symbols.Number n) = λ wants ps c. OfPart word NoPart c
 back (Part word) (symbols.Operator code) = λ wants ps c. OfPart word NoPart c
 back (Part word) (symbols.Sign b) = λ wants ps c. OfPart word NoPart c
 back Cells (symbols.Word k) =
-    either (k == 6) _ Skips Cells (symbols.Word k) (λ h wants ps c. let e : k ≡ 6 = grind (arith, h) in rw e (cell_back c))
+    either (k == words.CELL) _ Skips Cells (symbols.Word k) (λ h wants ps c.
+    let e : k ≡ words.CELL = grind (arith, h) in rw e (cell_back c))
     (λ h wants ps c. OfCells NoCell c)
 back Cells (symbols.Name name) = λ wants ps c. OfCells NoCell c
 back Cells (symbols.Number n) = λ wants ps c. OfCells NoCell c
 back Cells (symbols.Operator code) = λ wants ps c. OfCells NoCell c
 back Cells (symbols.Sign b) = λ wants ps c. OfCells NoCell c
 back Size (symbols.Sign b) =
-    either (b == 91) _ Skips Size (symbols.Sign b) (λ h wants ps c. let e : b ≡ 91 = grind (arith, h) in rw e (size_back c))
+    either (b == signs.OPEN_SQUARE) _ Skips Size (symbols.Sign b) (λ h wants ps c.
+    let e : b ≡ signs.OPEN_SQUARE = grind (arith, h) in rw e (size_back c))
     (λ h wants ps c. OfSize NoSize c)
 back Size (symbols.Name name) = λ wants ps c. OfSize NoSize c
 back Size (symbols.Word k) = λ wants ps c. OfSize NoSize c
@@ -352,8 +370,8 @@ back Size (symbols.Number n) = λ wants ps c. OfSize NoSize c
 back Size (symbols.Operator code) = λ wants ps c. OfSize NoSize c
 back Value (symbols.Number n) = λ wants ps c. OfValue (ValueIs n) c
 back Value (symbols.Operator code) =
-    either (code == 10) _ Refuses Value (symbols.Operator code)
-    (λ h wants ps c. let e : code ≡ 10 = grind (arith, h) in rw e (value_back c)) (λ h. tt)
+    either (code == operator_codes.MINUS) _ Refuses Value (symbols.Operator code)
+    (λ h wants ps c. let e : code ≡ operator_codes.MINUS = grind (arith, h) in rw e (value_back c)) (λ h. tt)
 back Value (symbols.Name name) = tt
 back Value (symbols.Word k) = tt
 back Value (symbols.Sign b) = tt

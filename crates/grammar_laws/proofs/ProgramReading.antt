@@ -1,5 +1,7 @@
 -- A reader of cells and programs finds what the whole grammar derives, and nothing else; so symbols derive at most one program.
 use Rattle.std.proofs.Common.{◌≡◌, ◌≤◌, ℕ, ℤ, pos, List, [], ◌∷◌, ◌++◌, length, refl, sym, ap, ◌∙◌, append-nil, arith, subst, Option}
+use Rattle.pipe_model.specs.declared.sign_bytes.TheConstants as signs
+use Rattle.pipe_model.specs.declared.word_codes.TheConstants as words
 use Rattle.pipe_model.specs.declared.symbol.Symbol.{Symbol}
 use Rattle.pipe_model.specs.declared.symbol.Symbol.TheVariants as symbols
 use Rattle.pipe_model.specs.declared.tree.Declaration.{Declaration}
@@ -117,7 +119,7 @@ sound_program {longest} (ReadsAll {cs = xs} {is = ys} {ts = ts} {us = us} {vs = 
 
 -- ---- what is derived is read
 
-found_size : {ps : List Piece} {size : Option ℤ} → DerivesSize ps size → (rest : List Symbol) → NoSign 91 rest
+found_size : {ps : List Piece} {size : Option ℤ} → DerivesSize ps size → (rest : List Symbol) → NoSign signs.OPEN_SQUARE rest
     → ReadsSize (flat ps ++ rest) size rest
 found_size NoSize rest h = ReadsNoSize rest h
 found_size (SizeIs n) rest h = ReadsSizeIs n rest
@@ -148,7 +150,7 @@ found_cells (CellIs {ps} {qs} {rs} name s v ds) rest h =
     (found_cells ds rest h)
 
 -- neither `init` nor the loop begins a declaration
-begins_no_cell : {ps : List Piece} {ss : Statements} → DerivesPart (symbols.Word 7) ps ss → (rest : List Symbol)
+begins_no_cell : {ps : List Piece} {ss : Statements} → DerivesPart (symbols.Word words.INIT) ps ss → (rest : List Symbol)
     → NoWord 6 (flat ps ++ word_pipe_while ∷ rest)
 begins_no_cell NoPart rest = λ x. absurd (omega (arith, x))
 begins_no_cell (PartIs b) rest = λ x. absurd (omega (arith, x))
@@ -185,7 +187,7 @@ found_program {longest} (ProgramIs {cs} {is} {bs} {ls} {ts} iterations stages st
     (found_part i (short_front longest is loop (short_back longest cs (is ++ loop) a))
     (word_pipe_while ∷ open_round ∷ loop_symbols ts bs ls)
     (λ x. absurd (omega (arith, x))))
-    (found_full 41 (flat bs ++ flat ls) (λ x. absurd (omega (arith, x))) e following.0)
+    (found_full signs.CLOSE_ROUND (flat bs ++ flat ls) (λ x. absurd (omega (arith, x))) e following.0)
     (found_block b (short_front longest bs ls following.1) (flat ls))
     (part_at_end ls (found_part l (short_back longest bs ls following.1) [] tt)))
 

@@ -1,6 +1,8 @@
 -- The machine of programs walks over the pieces of a program, and so counts the symbols of each full expression.
 use Rattle.std.proofs.Common.{◌≡◌, ◌≢◌, ℕ, ℤ, List, [], ◌∷◌, ◌++◌, refl, sym, ap, ◌∙◌, append_assoc, append-nil, arith, subst, Option, true}
 use Rattle.std.proofs.Common.{false, ◌==◌}
+use Rattle.pipe_model.specs.declared.sign_bytes.TheConstants as signs
+use Rattle.pipe_model.specs.declared.word_codes.TheConstants as words
 use Rattle.pipe_model.specs.declared.symbol.Symbol.{Symbol}
 use Rattle.pipe_model.specs.declared.symbol.Symbol.TheVariants as symbols
 use Rattle.pipe_model.specs.declared.tree.Declaration.{Declaration}
@@ -22,11 +24,12 @@ pub data Walks : List Want → List Piece → Type 0 where
       → Walks (want ∷ wants) (Single t ∷ ps)
   LeavesOut : {want : Want} {wants : List Want} {t : Symbol} {ps : List Piece} → move want t ≡ Skips → Walks wants (Single t ∷ ps)
       → Walks (want ∷ wants) (Single t ∷ ps)
-  OverFull : {wants : List Want} {ts : List Symbol} {e : Expression} {ps : List Piece} (sign : ℕ) → sign ≢ 91 → Derives any_expression ts e
+  OverFull : {wants : List Want} {ts : List Symbol} {e : Expression} {ps : List Piece} (sign : ℕ) → sign ≢ signs.OPEN_SQUARE
+      → Derives any_expression ts e
       → Walks wants ps
       → Walks (machine.FullExpression ∷ Sign sign ∷ wants) (FullExpression ts ∷ Single (symbols.Sign sign) ∷ ps)
   OverStage : {wants : List Want} {ts : List Symbol} {e : Expression} {ps : List Piece} → Derives any_expression ts e → Walks wants ps
-      → Walks (StageNumber ∷ Sign 41 ∷ wants) (FullExpression ts ∷ Single close_round ∷ ps)
+      → Walks (StageNumber ∷ Sign signs.CLOSE_ROUND ∷ wants) (FullExpression ts ∷ Single close_round ∷ ps)
 
 -- the pieces begin with a symbol that is not this word, or there are none
 abbrev BeginsWithout : ℕ → List Piece → Type 0
@@ -83,18 +86,18 @@ statements_begin (OneMore {ps} {qs = ps'} d ds) qs =
 
 abbrev before_semicolon : {wants : List Want} {ts : List Symbol} {e : Expression} {ps : List Piece} → Derives any_expression ts e
     → Walks wants ps
-    → Walks (machine.FullExpression ∷ Sign 59 ∷ wants) (FullExpression ts ∷ Single semicolon ∷ ps)
-before_semicolon d w = OverFull 59 (λ x. absurd (omega (arith, x))) d w
+    → Walks (machine.FullExpression ∷ Sign signs.SEMICOLON ∷ wants) (FullExpression ts ∷ Single semicolon ∷ ps)
+before_semicolon d w = OverFull signs.SEMICOLON (λ x. absurd (omega (arith, x))) d w
 
 abbrev before_round : {wants : List Want} {ts : List Symbol} {e : Expression} {ps : List Piece} → Derives any_expression ts e
     → Walks wants ps
-    → Walks (machine.FullExpression ∷ Sign 41 ∷ wants) (FullExpression ts ∷ Single close_round ∷ ps)
-before_round d w = OverFull 41 (λ x. absurd (omega (arith, x))) d w
+    → Walks (machine.FullExpression ∷ Sign signs.CLOSE_ROUND ∷ wants) (FullExpression ts ∷ Single close_round ∷ ps)
+before_round d w = OverFull signs.CLOSE_ROUND (λ x. absurd (omega (arith, x))) d w
 
 abbrev before_square : {wants : List Want} {ts : List Symbol} {e : Expression} {ps : List Piece} → Derives any_expression ts e
     → Walks wants ps
-    → Walks (machine.FullExpression ∷ Sign 93 ∷ wants) (FullExpression ts ∷ Single (symbols.Sign 93) ∷ ps)
-before_square d w = OverFull 93 (λ x. absurd (omega (arith, x))) d w
+    → Walks (machine.FullExpression ∷ Sign signs.CLOSE_SQUARE ∷ wants) (FullExpression ts ∷ Single (symbols.Sign signs.CLOSE_SQUARE) ∷ ps)
+before_square d w = OverFull signs.CLOSE_SQUARE (λ x. absurd (omega (arith, x))) d w
 
 mutual
   walks_statement : {ps : List Piece} {s : Statement} → DerivesStatement ps s → (wants : List Want) (qs : List Piece) → BeginsWithout 14 qs
@@ -107,7 +110,7 @@ mutual
   walks_statement (EmitIs d) wants qs h w = Begins refl (before_semicolon d w)
   walks_statement (IfIs {ts} {ps} {qs = qs'} d a b) wants qs h w =
       Begins refl (comes refl (before_round d (moved (append_assoc ps qs' qs)
-      (walks_block a (Part 14 ∷ machine.Statements ∷ wants) (qs' ++ qs) (walks_part b (machine.Statements ∷ wants) qs h w)))))
+      (walks_block a (Part words.ELSE ∷ machine.Statements ∷ wants) (qs' ++ qs) (walks_part b (machine.Statements ∷ wants) qs h w)))))
   walks_statement (WhileIs d a) wants qs h w =
       Begins refl (comes refl (before_round d (walks_block a (machine.Statements ∷ wants) qs w)))
   walks_statement (WaitIs d) wants qs h w = Begins refl (comes refl (OverStage d (comes refl w)))
@@ -126,10 +129,10 @@ mutual
       (walks_statement d wants (ps' ++ Single close_brace ∷ qs) (statements_begin ds qs) (walks_statements ds wants qs w))
 
   walks_block : {ps : List Piece} {ss : Statements} → DerivesBlock ps ss → (wants : List Want) (qs : List Piece) → Walks wants qs
-      → Walks (Sign 123 ∷ machine.Statements ∷ Sign 125 ∷ wants) (ps ++ qs)
+      → Walks (Sign signs.OPEN_BRACE ∷ machine.Statements ∷ Sign signs.CLOSE_BRACE ∷ wants) (ps ++ qs)
   walks_block (BlockIs {ps} d) wants qs w =
       comes refl (moved (append_assoc ps (Single close_brace ∷ []) qs)
-      (walks_statements d (Sign 125 ∷ wants) qs (LeavesOut refl (comes refl w))))
+      (walks_statements d (Sign signs.CLOSE_BRACE ∷ wants) qs (LeavesOut refl (comes refl w))))
 
   walks_part : {word : ℕ} {ps : List Piece} {ss : Statements} → DerivesPart (symbols.Word word) ps ss
       → (wants : List Want) (qs : List Piece)
@@ -163,26 +166,27 @@ walks_cells : {ps : List Piece} {ds : List Declaration} → DerivesCells ps ds �
 walks_cells NoCell wants qs w = w
 walks_cells (CellIs {ps} {qs = ps'} {rs} name s v ds) wants qs w =
     Begins refl (comes refl (moved (cells_split ps ps' rs qs)
-    (walks_size s (Sign 61 ∷ Value ∷ Sign 59 ∷ Cells ∷ wants) (ps' ++ Single semicolon ∷ (rs ++ qs)) (comes refl
-    (walks_value v (Sign 59 ∷ Cells ∷ wants) (Single semicolon ∷ (rs ++ qs)) (comes refl (walks_cells ds wants qs w)))))))
+    (walks_size s (Sign signs.EQUALS ∷ Value ∷ Sign signs.SEMICOLON ∷ Cells ∷ wants) (ps' ++ Single semicolon ∷ (rs ++ qs)) (comes refl
+    (walks_value v (Sign signs.SEMICOLON ∷ Cells ∷ wants) (Single semicolon ∷ (rs ++ qs)) (comes refl (walks_cells ds wants qs w)))))))
 
 -- the want for declarations is skipped before `init` and of the loop
-without_cells : {ps : List Piece} {ss : Statements} → DerivesPart (symbols.Word 7) ps ss → (wants : List Want) (qs : List Piece)
+without_cells : {ps : List Piece} {ss : Statements} → DerivesPart (symbols.Word words.INIT) ps ss → (wants : List Want) (qs : List Piece)
     → Walks wants (ps ++ Single word_pipe_while ∷ qs)
     → Walks (Cells ∷ wants) (ps ++ Single word_pipe_while ∷ qs)
 without_cells NoPart wants qs w = LeavesOut refl w
 without_cells (PartIs b) wants qs w = LeavesOut refl w
 
-walks_last : {ps : List Piece} {ss : Statements} → DerivesPart (symbols.Word 11) ps ss → Walks (Part 11 ∷ []) ps
+walks_last : {ps : List Piece} {ss : Statements} → DerivesPart (symbols.Word words.FINAL) ps ss → Walks (Part words.FINAL ∷ []) ps
 walks_last {ps} d = moved (sym (append-nil ps)) (walks_part d [] [] tt (Stays []))
 
 pub walks_program : {ps : List Piece} {p : SyntaxTree} → DerivesProgram ps p → Walks program ps
 walks_program (ProgramIs {cs} {is} {bs} {ls} {ts} iterations stages steps emits c i e b l) =
     let loop = Single open_round ∷ FullExpression ts ∷ Single close_round ∷ (bs ++ ls) in
-    let wants = Word 8 ∷ Sign 40 ∷ machine.FullExpression ∷ Sign 41 ∷ Sign 123 ∷ machine.Statements ∷ Sign 125 ∷ Part 11 ∷ [] in
-    let from_loop = comes refl (comes refl (before_round e (walks_block b (Part 11 ∷ []) ls (walks_last l)))) in
+    let wants = Word words.PIPE_WHILE ∷ Sign signs.OPEN_ROUND ∷ machine.FullExpression ∷ Sign signs.CLOSE_ROUND ∷ Sign signs.OPEN_BRACE ∷
+    machine.Statements ∷ Sign signs.CLOSE_BRACE ∷ Part words.FINAL ∷ [] in
+    let from_loop = comes refl (comes refl (before_round e (walks_block b (Part words.FINAL ∷ []) ls (walks_last l)))) in
     let from_cells =
-    walks_cells c (Part 7 ∷ wants) (is ++ Single word_pipe_while ∷ loop) (without_cells i (Part 7 ∷ wants) loop
+    walks_cells c (Part words.INIT ∷ wants) (is ++ Single word_pipe_while ∷ loop) (without_cells i (Part words.INIT ∷ wants) loop
     (walks_part i wants (Single word_pipe_while ∷ loop) (λ x. absurd (omega (arith, x))) from_loop)) in
     comes refl (comes refl (comes refl (comes refl (comes refl
     (comes refl (comes refl (comes refl (comes refl (comes refl (comes refl (comes refl

@@ -1,6 +1,8 @@
 -- A reader of statements finds what the whole grammar derives, and nothing else, and in one way.
 use Rattle.std.proofs.Common.{◌≡◌, ◌≢◌, ℕ, ◌≤◌, ◌+◌, List, [], ◌∷◌, ◌++◌, length, refl, sym, ap, ◌∙◌, append_assoc, length-append, arith}
 use Rattle.std.proofs.Common.{subst}
+use Rattle.pipe_model.specs.declared.sign_bytes.TheConstants as signs
+use Rattle.pipe_model.specs.declared.word_codes.TheConstants as words
 use Rattle.pipe_model.specs.declared.tree.StageKind.TheVariants as kinds
 use Rattle.pipe_model.specs.declared.symbol.Symbol.{Symbol}
 use Rattle.pipe_model.specs.declared.symbol.Symbol.TheVariants as symbols
@@ -91,7 +93,7 @@ took_element name us ts rest t u = record {
 }
 
 took_if : {longest : ℕ} {e : Expression} {a b : Statements} (ts us vs rest : List Symbol) → TookFull longest ts e (close_round ∷ us)
-    → TookPieces (λ ps. DerivesBlock ps a) longest us vs → TookPieces (λ ps. DerivesPart (symbols.Word 14) ps b) longest vs rest
+    → TookPieces (λ ps. DerivesBlock ps a) longest us vs → TookPieces (λ ps. DerivesPart (symbols.Word words.ELSE) ps b) longest vs rest
     → TookPieces (λ ps. DerivesStatement ps (If e a b)) longest (word_if ∷ open_round ∷ ts) rest
 took_if {longest} ts us vs rest t u v = record {
   taken = Single word_if ∷ Single open_round ∷ FullExpression t.taken ∷ Single close_round ∷ (u.taken ++ v.taken);
@@ -202,7 +204,8 @@ mutual
 -- ---- what is derived is read
 
 -- a full expression is read before a sign other than `[`
-pub found_full : {longest : ℕ} {ts : List Symbol} {e : Expression} (sign : ℕ) (rest : List Symbol) → sign ≢ 91 → Derives any_expression ts e
+pub found_full : {longest : ℕ} {ts : List Symbol} {e : Expression} (sign : ℕ) (rest : List Symbol) → sign ≢ signs.OPEN_SQUARE
+    → Derives any_expression ts e
     → length ts ≤ longest
     → ReadsFull longest (ts ++ symbols.Sign sign ∷ rest) e (symbols.Sign sign ∷ rest)
 found_full {longest} {ts} {e} sign rest h d l =
@@ -211,7 +214,7 @@ found_full {longest} {ts} {e} sign rest h d l =
     record { read = found_before_sign sign rest h d; short = omega (arith, many, l) }
 
 -- the same, whatever follows the sign
-found_here : {longest : ℕ} {ts : List Symbol} {e : Expression} (sign : ℕ) (close rest : List Symbol) → sign ≢ 91
+found_here : {longest : ℕ} {ts : List Symbol} {e : Expression} (sign : ℕ) (close rest : List Symbol) → sign ≢ signs.OPEN_SQUARE
     → Derives any_expression ts e
     → length ts ≤ longest
     → ReadsFull longest ((ts ++ symbols.Sign sign ∷ close) ++ rest) e (symbols.Sign sign ∷ (close ++ rest))
@@ -258,21 +261,23 @@ mutual
   pub found_statement : {longest : ℕ} {ps : List Piece} {s : Statement} → DerivesStatement ps s → AreShort longest ps
       → (rest : List Symbol) → NoWord 14 rest
       → ReadsStatement longest (flat ps ++ rest) s rest
-  found_statement (LetIs name d) a rest h = ReadsLet name (found_here 59 [] rest (λ x. absurd (omega (arith, x))) d a.0)
-  found_statement (AssignIs name d) a rest h = ReadsAssign name (found_here 59 [] rest (λ x. absurd (omega (arith, x))) d a.0)
+  found_statement (LetIs name d) a rest h = ReadsLet name (found_here signs.SEMICOLON [] rest (λ x. absurd (omega (arith, x))) d a.0)
+  found_statement (AssignIs name d) a rest h = ReadsAssign name (found_here signs.SEMICOLON [] rest (λ x. absurd (omega (arith, x))) d a.0)
   found_statement (AssignElementIs {us} {ts} name d d') a rest h =
-      ReadsAssignElement name (found_here 93 (equals ∷ (ts ++ semicolon ∷ [])) rest (λ x. absurd (omega (arith, x))) d a.0)
-      (found_here 59 [] rest (λ x. absurd (omega (arith, x))) d' a.1.0)
-  found_statement (EmitIs d) a rest h = ReadsEmit (found_here 59 [] rest (λ x. absurd (omega (arith, x))) d a.0)
+      ReadsAssignElement name (found_here signs.CLOSE_SQUARE (equals ∷ (ts ++ semicolon ∷ [])) rest (λ x. absurd (omega (arith, x))) d a.0)
+      (found_here signs.SEMICOLON [] rest (λ x. absurd (omega (arith, x))) d' a.1.0)
+  found_statement (EmitIs d) a rest h = ReadsEmit (found_here signs.SEMICOLON [] rest (λ x. absurd (omega (arith, x))) d a.0)
   found_statement {longest} (IfIs {ps = ps} {qs = qs} d b p) a rest h =
-      ReadsIf (found_here 41 (flat (ps ++ qs)) rest (λ x. absurd (omega (arith, x))) d a.0)
+      ReadsIf (found_here signs.CLOSE_ROUND (flat (ps ++ qs)) rest (λ x. absurd (omega (arith, x))) d a.0)
       (moved_block (flat_two ps qs rest) (found_block b (short_front longest ps qs a.1) (flat qs ++ rest)))
       (found_part p (short_back longest ps qs a.1) rest h)
   found_statement (WhileIs {ps = ps} d b) a rest h =
-      ReadsWhile (found_here 41 (flat ps) rest (λ x. absurd (omega (arith, x))) d a.0) (found_block b a.1 rest)
-  found_statement (WaitIs d) a rest h = ReadsWait (found_here 41 (semicolon ∷ []) rest (λ x. absurd (omega (arith, x))) d a.0)
+      ReadsWhile (found_here signs.CLOSE_ROUND (flat ps) rest (λ x. absurd (omega (arith, x))) d a.0) (found_block b a.1 rest)
+  found_statement (WaitIs d) a rest h = ReadsWait (found_here signs.CLOSE_ROUND (semicolon ∷ []) rest (λ x. absurd (omega
+      (arith, x))) d a.0)
   found_statement WaitNextIs a rest h = ReadsWaitNext rest
-  found_statement (ContinueIs d) a rest h = ReadsContinue (found_here 41 (semicolon ∷ []) rest (λ x. absurd (omega (arith, x))) d a.0)
+  found_statement (ContinueIs d) a rest h = ReadsContinue (found_here signs.CLOSE_ROUND (semicolon ∷ []) rest (λ x. absurd (omega
+      (arith, x))) d a.0)
   found_statement ContinueNextIs a rest h = ReadsContinueNext rest
 
   pub found_statements : {longest : ℕ} {ps : List Piece} {ss : Statements} → DerivesStatements ps ss → AreShort longest ps

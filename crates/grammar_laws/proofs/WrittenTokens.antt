@@ -8,6 +8,8 @@ use Rattle.std.proofs.lemmas.Bool.Decides.{nat_tests}
 use Rattle.std.proofs.lemmas.Fmt.{decimal_by_steps}
 use Rattle.std.proofs.lemmas.List.Folds.{list_all-append}
 use Rattle.std.proofs.lemmas.List.Sums.{fold-append}
+use Rattle.pipe_model.specs.declared.operator_codes.TheConstants as operator_codes
+use Rattle.pipe_model.specs.declared.sign_bytes.TheConstants as signs
 use Rattle.pipe_model.specs.declared.symbol.Symbol.{Symbol}
 use Rattle.pipe_model.specs.declared.symbol.Symbol.TheVariants as symbols
 use Rattle.grammar_laws.proofs.CanonicalSymbols.{IsName}
@@ -27,7 +29,7 @@ begins_letter (b ∷ bs) = is_letter b
 -- the text is not empty and does not begin with an equals sign
 abbrev pub Opens : List ℕ → Type 0
 Opens [] = ⊥
-Opens (c ∷ cs) = (c == 61) ≡ false
+Opens (c ∷ cs) = (c == signs.EQUALS) ≡ false
 
 -- bytes that do not begin with a slash begin no comment
 pub no_comment : (b : ℕ) (bs : List ℕ) → (b == 47) ≡ false → begins_comment (b ∷ bs) ≡ false
@@ -189,7 +191,7 @@ spaced_token text rest s t closed comment = record {
         let none : None ≡ Some s' = sym (closed more) ∙ ap (λ x. symbol_of (text ++ x ∷ more)) (sym same) ∙ h in cc (none)
 
 -- `!`, if no equals sign follows
-pub not_token : (rest : List ℕ) → Opens rest → IsToken (33 ∷ []) rest (symbols.Sign 33)
+pub not_token : (rest : List ℕ) → Opens rest → IsToken (33 ∷ []) rest (symbols.Sign signs.EXCLAMATION)
 not_token [] h = absurd h
 not_token (c ∷ rest) h = record {
   symbol = refl;
@@ -207,25 +209,31 @@ not_token (c ∷ rest) h = record {
 -- a binary operator, followed by a space
 pub operator_token : (code : ℕ) (rest : List ℕ) → 1 ≤ code → code ≤ 13 → IsToken (operator_text code) (32 ∷ rest) (symbols.Operator code)
 operator_token zero rest l h = absurd (omega (arith, l))
-operator_token (suc zero) rest l h = spaced_token (codes "||") rest (symbols.Operator 1) refl (λ more. refl) refl
-operator_token (suc (suc zero)) rest l h = spaced_token (codes "&&") rest (symbols.Operator 2) refl (λ more. refl) refl
-operator_token (suc (suc (suc zero))) rest l h = spaced_token (codes "==") rest (symbols.Operator 3) refl (λ more. refl) refl
-operator_token (suc (suc (suc (suc zero)))) rest l h = spaced_token (codes "!=") rest (symbols.Operator 4) refl (λ more. refl) refl
-operator_token (suc (suc (suc (suc (suc zero))))) rest l h = spaced_token (codes "<") rest (symbols.Operator 5) refl (λ more. refl) refl
-operator_token (suc (suc (suc (suc (suc (suc zero)))))) rest l h = spaced_token (codes "<=") rest (symbols.Operator 6) refl
+operator_token (suc zero) rest l h = spaced_token (codes "||") rest (symbols.Operator operator_codes.OR) refl (λ more. refl) refl
+operator_token (suc (suc zero)) rest l h = spaced_token (codes "&&") rest (symbols.Operator operator_codes.AND) refl (λ more. refl) refl
+operator_token (suc (suc (suc zero))) rest l h = spaced_token (codes "==") rest (symbols.Operator operator_codes.EQUAL) refl
     (λ more. refl) refl
-operator_token (suc (suc (suc (suc (suc (suc (suc zero))))))) rest l h = spaced_token (codes ">") rest (symbols.Operator 7) refl
+operator_token (suc (suc (suc (suc zero)))) rest l h = spaced_token (codes "!=") rest (symbols.Operator operator_codes.UNEQUAL) refl
     (λ more. refl) refl
-operator_token (suc (suc (suc (suc (suc (suc (suc (suc zero)))))))) rest l h = spaced_token (codes ">=") rest (symbols.Operator 8) refl
+operator_token (suc (suc (suc (suc (suc zero))))) rest l h = spaced_token (codes "<") rest (symbols.Operator operator_codes.LESS) refl
+    (λ more. refl) refl
+operator_token (suc (suc (suc (suc (suc (suc zero)))))) rest l h = spaced_token (codes "<=") rest
+    (symbols.Operator operator_codes.AT_MOST) refl
+    (λ more. refl) refl
+operator_token (suc (suc (suc (suc (suc (suc (suc zero))))))) rest l h = spaced_token (codes ">") rest
+    (symbols.Operator operator_codes.GREATER) refl
+    (λ more. refl) refl
+operator_token (suc (suc (suc (suc (suc (suc (suc (suc zero)))))))) rest l h = spaced_token (codes ">=") rest
+    (symbols.Operator operator_codes.AT_LEAST) refl
     (λ more. refl) refl
 operator_token (suc (suc (suc (suc (suc (suc (suc (suc (suc zero))))))))) rest l h = spaced_token (codes "+") rest
-    (symbols.Operator 9) refl (λ more. refl) refl
+    (symbols.Operator operator_codes.PLUS) refl (λ more. refl) refl
 operator_token (suc (suc (suc (suc (suc (suc (suc (suc (suc (suc zero)))))))))) rest l h =
-    spaced_token (codes "-") rest (symbols.Operator 10) refl (λ more. refl) refl
+    spaced_token (codes "-") rest (symbols.Operator operator_codes.MINUS) refl (λ more. refl) refl
 operator_token (suc (suc (suc (suc (suc (suc (suc (suc (suc (suc (suc zero))))))))))) rest l h =
-    spaced_token (codes "*") rest (symbols.Operator 11) refl (λ more. refl) refl
+    spaced_token (codes "*") rest (symbols.Operator operator_codes.TIMES) refl (λ more. refl) refl
 operator_token (suc (suc (suc (suc (suc (suc (suc (suc (suc (suc (suc (suc zero)))))))))))) rest l h =
-    spaced_token (codes "/") rest (symbols.Operator 12) refl (λ more. refl) refl
+    spaced_token (codes "/") rest (symbols.Operator operator_codes.QUOTIENT) refl (λ more. refl) refl
 operator_token (suc (suc (suc (suc (suc (suc (suc (suc (suc (suc (suc (suc (suc zero))))))))))))) rest l h =
-    spaced_token (codes "%") rest (symbols.Operator 13) refl (λ more. refl) refl
+    spaced_token (codes "%") rest (symbols.Operator operator_codes.REMAINDER) refl (λ more. refl) refl
 operator_token (suc (suc (suc (suc (suc (suc (suc (suc (suc (suc (suc (suc (suc (suc n)))))))))))))) rest l h = absurd (omega (arith, h))

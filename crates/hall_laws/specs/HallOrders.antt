@@ -1,6 +1,6 @@
 -- By which orders the access histories of a shard are right at the end: a shard has seen parts of the book's order lists.
 use Rattle.std.specs.Prelude.{ℕ, List}
-use Rattle.access_history.specs.declared.history.Who.{Who}
+use Rattle.access_history.specs.declared.history.MarkedNode.{MarkedNode}
 use Rattle.access_history.specs.KeptInstances.{AgreeOn}
 use Rattle.pipe_frame.specs.HallViews.{BeginsWith}
 use Rattle.pipe_model.specs.declared.event.Event.{Event}
@@ -14,7 +14,7 @@ use Rattle.pipe_model.specs.Runs.ControlRun.{ControlRun}
 use Rattle.pipe_model.specs.Runs.RunLogs.{columns_after, state_after}
 
 -- an instance with its marks in the lists of these events
-abbrev pub marked : List Event → NodeId → Who
+abbrev pub marked : List Event → NodeId → MarkedNode
 marked events x = record { node = x; marks = instance_marks (columns_after events) (starts_of events) x.iteration x.index }
 
 -- `down` and `right` are prefixes of the logs of the two lists. For two instances whose elements are in the lists of these prefixes, the

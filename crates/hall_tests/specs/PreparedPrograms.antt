@@ -4,7 +4,7 @@ use Rattle.pipe_frame.specs.Ties.{HallName}
 use Rattle.pipe_model.specs.Language.CheckingRules.{BreaksNoRule}
 use Rattle.pipe_model.specs.Language.SyntaxTree.{SyntaxTree}
 use Rattle.stage_code.specs.FlatCode.{FlatCode}
-use Rattle.stage_interp.specs.Standing.{IsCodeOf}
+use Rattle.stage_interp.specs.RemainingBehaviour.{IsCodeOf}
 
 -- a program that breaks no rule, with its code
 pub record IsPrepared (tree : SyntaxTree) (code : FlatCode) : Type 0 where

@@ -52,7 +52,7 @@ pub fn close_logs<R: Wait, B: RunCode>(
     hall: HallOf<Carried<B>>,
     key: HallKey<Carried<B>>,
 ) -> Result<Logs, NoMemory>
-    requires same { IsSameHall key.hall hall.hall }
+    requires same_hall { IsSameHall key.hall hall.hall }
     ensures book { IfOk result (λ logs. BookRises logs.book) }
     ensures shards { IfOk result (λ logs. All ShardRises logs.shards.items) }
 {

@@ -27,7 +27,7 @@ const MOST_ELEMENTS: u32 = 524_291;
 // Returns two order lists with room for each run, and passes to them.
 fn orders(alloc: Global) -> Result<(TwoOrders<OmWriter>, TwoPasses), NoMemory>
     ensures logs { IfOk result (λ r. (r.0.down.log ≡ []) × (r.0.right.log ≡ [])) }
-    ensures room { IfOk result (λ r. (r.0.down.capacity ≡ 524291) × (r.0.right.capacity ≡ 524291)) }
+    ensures room { IfOk result (λ r. (r.0.down.capacity ≡ MOST_ELEMENTS) × (r.0.right.capacity ≡ MOST_ELEMENTS)) }
     ensures lists { IfOk result (λ r. (r.1.down ≡ r.0.down.identity) × (r.1.right ≡ r.0.right.identity)) }
     ensures identities { IfOk result (λ r. HaveIdentities r.1) }
 {
@@ -45,7 +45,7 @@ fn payloads<B: RunCode>(
     count: u32,
 ) -> Result<Vec<Carried<B>>, NoMemory>
     requires code { code.now ≡ B.code }
-    ensures same { passes.new ≡ passes.old }
+    ensures unchanged { passes.new ≡ passes.old }
     ensures count { IfOk result (λ payloads. length payloads.items ≡ count) }
     ensures made { IfOk result (λ payloads. All (λ x. HasMachine x.machine (IsMadeFor B.code)) payloads.items) }
     ensures passes { IfOk result (λ payloads. All (λ x. x.passes ≡ passes.old) payloads.items) }

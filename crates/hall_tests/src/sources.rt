@@ -3,6 +3,7 @@
 ghost use Rattle.std.specs.Prelude.{◌≡◌, ◌≤◌, ◌+◌, IfOk};
 ghost use Rattle.hall_tests.specs.PreparedPrograms.{IsPrepared};
 ghost use Rattle.pipe_worker.specs.Machines.{cells_of};
+ghost use Rattle.pipe_model.specs.declared.bounds.TheConstants.{MOST_CELLS};
 ghost use Rattle.pipe_model.specs.Language.CheckingRules.{BreaksNoRule, cell_total};
 ghost use Rattle.pipe_model.specs.Language.SyntaxTree.{tree_of};
 
@@ -80,7 +81,7 @@ impl Prepared {
     pub fn cells(&self) -> u32
         ensures count { result ≡ cells_of (tree_of self.now.checked) }
         ensures all { cell_total (tree_of self.now.checked).cells + 2 ≤ result }
-        ensures few { result ≤ 65538 }
+        ensures bounded { result ≤ MOST_CELLS + 2 }
     {
         self.checked.cell_count()
     }

@@ -16,7 +16,7 @@ use Rattle.run_laws.proofs.Iterations.PerformedActions.{performs_push}
 use Rattle.stage_code.specs.FlatCode.{FlatCode}
 use Rattle.stage_interp.specs.Executions.{StopsOnly}
 use Rattle.stage_interp.specs.MachineState.{RunState}
-use Rattle.stage_interp.specs.Standing.{EndsAs, RanInstance, StandsFor}
+use Rattle.stage_interp.specs.RemainingBehaviour.{EndsAs, RanInstance, Represents}
 use Rattle.instance_laws.specs.EndedInstances.{HasEnded, accesses_of}
 
 -- ---- the accesses
@@ -61,11 +61,11 @@ module _ (code : FlatCode) (cells : ℕ) (input : List ℤ) (t : Behaviour) (run
       → HasEnded code cells input t run trace end
   ends_so (stage_ends.Wait n) e = record {
     performs = names_next kinds.Wait n e.0 e.1;
-    stands = λ names. subst (StandsFor code cells input run) (after_trace t trace kinds.Wait n e.0 h e.1) e.2;
+    stands = λ names. subst (Represents code cells input run) (after_trace t trace kinds.Wait n e.0 h e.1) e.2;
   }
   ends_so (stage_ends.Continue n) e = record {
     performs = names_next kinds.Continue n e.0 e.1;
-    stands = λ names. subst (StandsFor code cells input run) (after_trace t trace kinds.Continue n e.0 h e.1) e.2;
+    stands = λ names. subst (Represents code cells input run) (after_trace t trace kinds.Continue n e.0 h e.1) e.2;
   }
   ends_so stage_ends.End e = record { performs = ends_now ends.End e; stands = λ names. elim names [ ] }
   ends_so stage_ends.Closed e = record { performs = ends_now ends.Closed e; stands = λ names. elim names [ ] }

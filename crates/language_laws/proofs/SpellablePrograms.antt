@@ -30,5 +30,5 @@ spelled_is_spellable source tree s =
       short = measured.short s.spelled.short;
       sizes = no_negative_size tree.cells written.cells;
       emits = not_negative tree.limits.emits written.emits;
-      bounded = (let nodes = measured.nodes in let few = measured.few in omega (arith, nodes, few, marks, tokens, mapped, split, short));
+      bounded = (let nodes = measured.nodes in let b = measured.bounded in omega (arith, nodes, b, marks, tokens, mapped, split, short));
     }

@@ -209,10 +209,10 @@ program_texts (ProgramIs {cs} {is} {bs} {ls} {ts} {cells} {init} {body} {last} {
 few_texts : (ts : List Symbol) → length (texts_in ts) ≤ length ts
 few_texts [] = omega arith
 few_texts (t ∷ ts) =
-    let few = few_texts ts in
+    let bounded = few_texts ts in
     let here = at_most_one t in
     let many = length-append (marked_text t) (texts_in ts) in
-    omega (arith, few, here, many)
+    omega (arith, bounded, here, many)
   where
     by_word : (p q : Bool) → length (if p then IterText ∷ [] else (if q then StageText ∷ [] else [])) ≤ 1
     by_word true q = omega arith
@@ -232,5 +232,5 @@ marks_within {ps} {tree} d =
     let same : length (texts_of (marks_of tree)) ≡ length (texts_in (flat ps)) = ap length (program_texts d) in
     let mapped : length (texts_of (marks_of tree)) ≡ length (marks_of tree) = length-map (marks_of tree)
     (λ (m : Mark). text_at m.occurrence) in
-    let few = few_texts (flat ps) in
-    omega (arith, same, mapped, few)
+    let bounded = few_texts (flat ps) in
+    omega (arith, same, mapped, bounded)

@@ -33,25 +33,25 @@ pub nodes_within : {level : ℕ} {ts : List Symbol} {e : Expression} → Derives
 nodes_within (Numeral n) = omega arith
 nodes_within (Named x) = omega arith
 nodes_within (Indexed {inside} x d) =
-    let few = nodes_within d in
+    let bounded = nodes_within d in
     let many = length-append inside (close_square ∷ []) in
-    omega (arith, few, many)
+    omega (arith, bounded, many)
 nodes_within CallsMore = omega arith
 nodes_within CallsTake = omega arith
 nodes_within CallsIter = omega arith
-nodes_within (Negative d) = let few = nodes_within d in omega (arith, few)
-nodes_within (Not d) = let few = nodes_within d in omega (arith, few)
+nodes_within (Negative d) = let bounded = nodes_within d in omega (arith, bounded)
+nodes_within (Not d) = let bounded = nodes_within d in omega (arith, bounded)
 nodes_within (Bracketed {inside} d) =
-    let few = nodes_within d in
+    let bounded = nodes_within d in
     let many = length-append inside (close_round ∷ []) in
-    omega (arith, few, many)
+    omega (arith, bounded, many)
 nodes_within (Tighter d) = nodes_within d
 nodes_within (Joined {level} {left} {right} {a} {b} code e x y) =
     let all = joined_nodes code a b in
-    let few = nodes_within x in
+    let bounded = nodes_within x in
     let fewer = nodes_within y in
     let many = length-append left (symbols.Operator code ∷ right) in
-    omega (arith, all, few, fewer, many)
+    omega (arith, all, bounded, fewer, many)
 
 -- ---- statements
 
@@ -61,18 +61,18 @@ flat_length ps qs = rw (flat_append ps qs) (length-append (flat ps) (flat qs))
 -- the full expressions have at most as many nodes, and the statements are at most as many, as the pieces have symbols
 pub record Measured (ps : List Piece) (es : List Expression) (statements : ℕ) : Type 0 where
   pub nodes : sum_by node_count es ≤ length (flat ps)
-  pub few : statements ≤ length (flat ps)
+  pub bounded : statements ≤ length (flat ps)
   pub short : AreShort 256 ps → All (λ e. node_count e ≤ 256) es
 
 nothing : Measured [] [] 0
-nothing = record { nodes = omega arith; few = omega arith; short = λ h. All-nil (λ e. node_count e ≤ 256) }
+nothing = record { nodes = omega arith; bounded = omega arith; short = λ h. All-nil (λ e. node_count e ≤ 256) }
 
 plain : {ps : List Piece} {es : List Expression} {n : ℕ} (t : Symbol) → Measured ps es n → Measured (Single t ∷ ps) es n
-plain t m = record { nodes = (let x = m.nodes in omega (arith, x)); few = (let x = m.few in omega (arith, x)); short = m.short }
+plain t m = record { nodes = (let x = m.nodes in omega (arith, x)); bounded = (let x = m.bounded in omega (arith, x)); short = m.short }
 
 -- the first symbol of a statement
 one : {ps : List Piece} {es : List Expression} {n : ℕ} (t : Symbol) → Measured ps es n → Measured (Single t ∷ ps) es (1 + n)
-one t m = record { nodes = (let x = m.nodes in omega (arith, x)); few = (let x = m.few in omega (arith, x)); short = m.short }
+one t m = record { nodes = (let x = m.nodes in omega (arith, x)); bounded = (let x = m.bounded in omega (arith, x)); short = m.short }
 
 full : {ps : List Piece} {es : List Expression} {n : ℕ} {ts : List Symbol} {e : Expression} → Derives any_expression ts e → Measured ps es n
     → Measured (FullExpression ts ∷ ps) (e ∷ es) n
@@ -82,7 +82,7 @@ full {ps} {es} {n} {ts} {e} d m =
     let sum = sum_by-cons node_count e es in
     record {
       nodes = (let x = m.nodes in omega (arith, x, size, many, sum));
-      few = (let x = m.few in omega (arith, x, many));
+      bounded = (let x = m.bounded in omega (arith, x, many));
       short = λ h. All-cons (λ e. node_count e ≤ 256) e es (let x = h.0 in omega (arith, x, size)) (m.short h.1);
     }
 
@@ -93,7 +93,7 @@ both {ps} {qs} {es} {fs} m o =
     let sum = sum_by-append node_count es fs in
     record {
       nodes = (let x = m.nodes in let y = o.nodes in omega (arith, x, y, split, sum));
-      few = (let x = m.few in let y = o.few in omega (arith, x, y, split));
+      bounded = (let x = m.bounded in let y = o.bounded in omega (arith, x, y, split));
       short = λ h. All-append (λ e. node_count e ≤ 256) es fs (m.short (short_front 256 ps qs h)) (o.short (short_back 256 ps qs h));
     }
 
@@ -103,7 +103,7 @@ closed {ps} t m =
     let split = flat_length ps (Single t ∷ []) in
     record {
       nodes = (let x = m.nodes in omega (arith, x, split));
-      few = (let x = m.few in omega (arith, x, split));
+      bounded = (let x = m.bounded in omega (arith, x, split));
       short = λ h. m.short (short_front 256 ps (Single t ∷ []) h);
     }
 
@@ -113,7 +113,7 @@ following {qs} ps m =
     let split = flat_length ps qs in
     record {
       nodes = (let x = m.nodes in omega (arith, x, split));
-      few = (let x = m.few in omega (arith, x, split));
+      bounded = (let x = m.bounded in omega (arith, x, split));
       short = λ h. m.short (short_back 256 ps qs h);
     }
 

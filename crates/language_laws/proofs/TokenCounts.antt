@@ -13,17 +13,17 @@ some_byte (b ∷ bs) s e = omega arith
 scanned_within : {place : ℕ} {bytes rest : List ℕ} {tokens : List Token} → Scans place bytes tokens rest
     → length tokens + length rest ≤ length bytes
 scanned_within (Stops place rest) = omega arith
-scanned_within (Blank b h d) = let few = scanned_within d in omega (arith, few)
+scanned_within (Blank b h d) = let bounded = scanned_within d in omega (arith, bounded)
 scanned_within (Comment {bytes = bytes} text h d) =
-    let few = scanned_within d in
+    let bounded = scanned_within d in
     let many = length-append text bytes in
-    omega (arith, few, many)
+    omega (arith, bounded, many)
 scanned_within (Taken {bytes = bytes} text s t d) =
-    let few = scanned_within d in
+    let bounded = scanned_within d in
     let many = length-append text bytes in
     let some = some_byte text s t.symbol in
-    omega (arith, few, many, some)
+    omega (arith, bounded, many, some)
 
 -- a source has at most as many tokens as bytes
 pub tokens_within : (source : List ℕ) (tokens : List Token) → HasTokens source tokens → length tokens ≤ length source
-tokens_within source tokens h = let few = scanned_within h in omega (arith, few)
+tokens_within source tokens h = let bounded = scanned_within h in omega (arith, bounded)

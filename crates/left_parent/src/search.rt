@@ -9,7 +9,7 @@ ghost use Rattle.left_parent.specs.LastNumber.{AreRising, IsLastUpTo};
 /// parent. The numbers must rise. Binary search.
 pub fn find(numbers: &[i64], s: i64, joined: u32) -> Option<u32>
     requires rising { AreRising numbers.now }
-    requires few { length numbers.now < 2 ^ 32 }
+    requires bounded { length numbers.now < 2 ^ 32 }
     ensures last { IfSome result (λ j. IsLastUpTo numbers.now j s) }
     ensures later { IfSome result (λ j. joined < j) }
     ensures none { IfNone result ((j : ℕ) → IsLastUpTo numbers.now j s → j ≤ joined) }

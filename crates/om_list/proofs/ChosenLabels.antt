@@ -37,9 +37,9 @@ by_link next labels (z ∷ zs) x inside linked h = elim (cases_eq z x) [
 pub next_by_link : (links : Links) → AreLabelled links → (x : ℕ) → x < length links.label.items
     → label_after links.label.items (slice_index links.next.items x) ≡ next_label (elements links) links.label.items x
 next_by_link links h x l =
-    let few = h.few in
+    let bounded = h.bounded in
     by_link (λ y. slice_index links.next.items y) links.label.items (elements links) x
-    (λ y m. let below = h.only y m in λ q. omega (arith, q, below, few)) h.linked (h.each x l)
+    (λ y m. let below = h.only y m in λ q. omega (arith, q, below, bounded)) h.linked (h.each x l)
 
 -- ---- room for a label
 
@@ -57,7 +57,7 @@ room_is_free links h x l free =
 -- the smallest sparse range was spread
 pub record IsSmallestSparse (links : Links) (x : ℕ) (range : LabelRange) : Type 0 where
   pub some : 1 ≤ range.bits
-  pub few : range.bits ≤ LABEL_BITS
+  pub bounded : range.bits ≤ LABEL_BITS
   pub low : range.low ≡ aligned (label_of links x) range.bits
   pub count : range.count ≡ length (elements_of links range)
   pub sparse : range.count ≤ most_in range.bits
@@ -66,8 +66,8 @@ pub record IsSmallestSparse (links : Links) (x : ℕ) (range : LabelRange) : Typ
 -- it ends below 2^62
 pub chosen_top : (links : Links) → AreLabelled links → (x : ℕ) → x < length links.label.items → (low bits : ℕ)
     → low ≡ aligned (label_of links x) bits → bits ≤ LABEL_BITS → low + 2 ^ bits ≤ TOP
-chosen_top links h x l low bits is few =
-    let fits = aligned_fits (label_of links x) bits (label_below links h x l) few in
+chosen_top links h x l low bits is bounded =
+    let fits = aligned_fits (label_of links x) bits (label_below links h x l) bounded in
     omega (arith, fits, is)
 
 -- and has the element
@@ -91,7 +91,7 @@ is_relabelled old new x range s spread long =
     record {
       bits = range.bits;
       some = s.some;
-      few = s.few;
+      bounded = s.bounded;
       sparse = omega (arith, sparse, counts);
       least = s.least;
       spread = λ k l. ap (λ ys. slice_index new.label.items (slice_index ys k)) (sym same)

@@ -115,7 +115,7 @@ list_inserted old new h x label i l = ap chain i.next ∙ inserted_list old h x 
 pub labelled_inserted : (old new : Links) → AreLabelled old → (x label : ℕ) → IsInserted old new x label → x < length old.label.items
     → label_of old x < label → label < label_after old.label.items (slice_index old.next.items x)
     → length old.label.items < MOST_ELEMENTS → AreLabelled new
-labelled_inserted old new h x label i l above below few =
+labelled_inserted old new h x label i l above below bounded =
     let next : List ℕ = old.next.items in
     let prev : List ℕ = old.prev.items in
     let labels : List ℕ = old.label.items in
@@ -137,7 +137,7 @@ labelled_inserted old new h x label i l above below few =
     rises_same (label_of old) now 0 TOP (elements old) (λ y m. old_is y (h.only y m)) h.rises in
     let after_is : label_or now TOP (slice_index next x) ≡ label_after labels (slice_index next x) = label_after_same old h x label l in
     let x_is = old_is x l in
-    let no_end : (y : ℕ) → has y (elements old) ≡ true → y ≢ END = λ y m q. let w = h.only y m in omega (arith, q, w, few) in
+    let no_end : (y : ℕ) → has y (elements old) ≡ true → y ≢ END = λ y m q. let w = h.only y m in omega (arith, q, w, bounded) in
     let changed = subst (λ n. LinksAfter (λ y. slice_index next y) (λ y. slice_index (links_with next x) y) x n) same
     (links_changed next x (omega (arith, l, same))) in
     let back = subst (λ n. BackAfter (λ y. slice_index prev y) (λ y. slice_index (links_back prev x (slice_index next x)) y) x n
@@ -147,7 +147,7 @@ labelled_inserted old new h x label i l above below few =
       same = omega (arith, next_long, same, long);
       same_back = omega (arith, prev_long, same_back, long);
       some = omega (arith, long);
-      few = omega (arith, long, few);
+      bounded = omega (arith, long, bounded);
       each = λ y w. subst (λ xs. has y xs ≡ true) (sym list) (all.each y (omega (arith, w, long)));
       only = λ y m. (let w = all.only y (subst (λ xs. has y xs ≡ true) list m) in omega (arith, w, long));
       linked = subst (AreLinked (λ y. slice_index new.next.items y)) (sym list)

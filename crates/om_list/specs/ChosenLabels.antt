@@ -34,7 +34,7 @@ around xs labels x bits =
 pub record IsRelabelled (xs labels : List ℕ) (x : ℕ) (new : List ℕ) : Type 0 where
   pub bits : ℕ
   pub some : 1 ≤ bits
-  pub few : bits ≤ 62
+  pub bounded : bits ≤ 62
   pub sparse : length (around xs labels x bits) ≤ most_in bits
   pub least : (fewer : ℕ) → 1 ≤ fewer → fewer < bits → ¬ (length (around xs labels x fewer) ≤ most_in fewer)
   pub spread : (k : ℕ) → k < length (around xs labels x bits)

@@ -13,7 +13,7 @@ use om_relabel::links::{END, Links, MOST_ELEMENTS};
 // Links a new element after `x`; its number is the number of links so far. Returns the element that was after `x`.
 fn link_after(next: &mut Vec<u32>, x: u32) -> u32
     requires there { x < length next.old.items }
-    requires few { length next.old.items < END }
+    requires bounded { length next.old.items < END }
     requires reserved { vec_len next.old < vec_capacity next.old }
     ensures after { result ≡ slice_index next.old.items x }
     ensures links { next.new.items ≡ links_with next.old.items x }
@@ -29,7 +29,7 @@ fn link_after(next: &mut Vec<u32>, x: u32) -> u32
 // Links a new element back to `x`, and the element `after`, if it is one, back to the new one.
 fn link_back(prev: &mut Vec<u32>, x: u32, after: u32)
     requires there { after ≢ END → after < length prev.old.items }
-    requires few { length prev.old.items < END }
+    requires bounded { length prev.old.items < END }
     requires reserved { vec_len prev.old < vec_capacity prev.old }
     ensures links { prev.new.items ≡ links_back prev.old.items x after }
     ensures capacity { vec_capacity prev.new ≡ vec_capacity prev.old }
@@ -46,7 +46,7 @@ pub fn insert_labelled(links: &mut Links, x: u32, label: u64)
     requires there { x < length links.old.label.items }
     requires above { label_of links.old x < label }
     requires below { label < label_after links.old.label.items (slice_index links.old.next.items x) }
-    requires few { length links.old.label.items < MOST_ELEMENTS }
+    requires bounded { length links.old.label.items < MOST_ELEMENTS }
     requires next_room { vec_len links.old.next < vec_capacity links.old.next }
     requires prev_room { vec_len links.old.prev < vec_capacity links.old.prev }
     requires label_room { vec_len links.old.label < vec_capacity links.old.label }
@@ -68,7 +68,7 @@ pub fn insert_labelled(links: &mut Links, x: u32, label: u64)
 pub(crate) fn insert_element(links: &mut Links, x: u32)
     requires labelled { AreLabelled links.old }
     requires there { x < length links.old.label.items }
-    requires few { length links.old.label.items < MOST_ELEMENTS }
+    requires bounded { length links.old.label.items < MOST_ELEMENTS }
     requires next_room { vec_len links.old.next < vec_capacity links.old.next }
     requires prev_room { vec_len links.old.prev < vec_capacity links.old.prev }
     requires label_room { vec_len links.old.label < vec_capacity links.old.label }

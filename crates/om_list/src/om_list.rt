@@ -40,8 +40,8 @@ impl OmList {
     /// Returns the list of element 0 alone, whose label is 0, with room for `capacity` elements in all.
     /// No other call allocates. Returns an error only if memory runs out.
     pub fn new(alloc: Global, capacity: u32) -> Result<OmList, OutOfMemory>
-        requires some { 0 < capacity }
-        requires few { capacity ≤ MOST_ELEMENTS }
+        requires positive { 0 < capacity }
+        requires bounded { capacity ≤ MOST_ELEMENTS }
         ensures log { IfOk result (λ list. list.log ≡ []) }
         ensures capacity { IfOk result (λ list. list.capacity ≡ capacity) }
         ensures labels { IfOk result HasRisingLabels }

@@ -56,10 +56,10 @@ aligned_zero label = grind arith
 
 -- an aligned range of labels is within all labels
 pub aligned_fits : (label bits : ℕ) → label < TOP → bits ≤ LABEL_BITS → aligned label bits + 2 ^ bits ≤ TOP
-aligned_fits label bits below few =
+aligned_fits label bits below bounded =
     let w : ℕ = 2 ^ bits in
     let q : ℕ = label / w in
-    let all : LABEL_BITS ≡ (LABEL_BITS - bits) + bits = omega (arith, few) in
+    let all : LABEL_BITS ≡ (LABEL_BITS - bits) + bits = omega (arith, bounded) in
     let parts : 2 ^ LABEL_BITS ≡ 2 ^ (LABEL_BITS - bits) * w = ap (λ n. 2 ^ n) all ∙ pow-add 2 (LABEL_BITS - bits) bits in
     let q_low : q * w ≤ label = div-mul-le_self label w in
     let less : q < 2 ^ (LABEL_BITS - bits) = lt_of_mul-lt-mul_right w (omega (arith, q_low, below, parts)) in
@@ -79,10 +79,10 @@ twice_fits bits some =
 
 -- the range of all labels is sparse
 pub all_sparse : (bits n : ℕ) → LABEL_BITS ≤ bits → n ≤ MOST_ELEMENTS → n ≤ most_in bits
-all_sparse bits n wide few =
+all_sparse bits n wide bounded =
     let many : 21 ≤ 2 * bits / 3 = omega (arith, wide) in
     let fits = pow-le-pow_right {n = 2} (omega arith) many in
-    omega (arith, few, fits)
+    omega (arith, bounded, fits)
 
 -- ---- the distance between new labels
 

@@ -111,7 +111,7 @@ rises_replaced label label' low end bottom top (x ∷ xs) r before after new l e
 pub record IsSparseRange (links : Links) (range : LabelRange) : Type 0 where
   pub first : range.first ≡ first_of (elements_of links range)
   pub count : range.count ≡ length (elements_of links range)
-  pub some_bits : 1 ≤ range.bits
+  pub positive_bits : 1 ≤ range.bits
   pub sparse : range.count ≤ most_in range.bits
   pub top : range.low + 2 ^ range.bits ≤ TOP
 
@@ -196,7 +196,7 @@ some_spread_rises links h range s some label' d =
     let count = s.count in
     let top = s.top in
     let gap : ℕ = 2 ^ range.bits / range.count in
-    let two = gap_is_two range.count range.bits some s.some_bits s.sparse in
+    let two = gap_is_two range.count range.bits some s.positive_bits s.sparse in
     let all : range.count * gap ≤ 2 ^ range.bits = mul-div-le (2 ^ range.bits) range.count in
     let none : 0 * gap ≡ 0 = omega arith in
     let long : 0 + length (elements_of links range) ≡ range.count = omega (arith, count) in
@@ -233,7 +233,7 @@ label_at_end links label' range s d x m =
     let found = range_index links range x m in
     let inside = found.1 in
     let at : label' x ≡ spread_label range found.0 = ap label' (sym found.2) ∙ d.spread found.0 (omega (arith, inside, count)) in
-    let end = spread_end range s.some_bits s.sparse found.0 (omega (arith, inside, count)) in
+    let end = spread_end range s.positive_bits s.sparse found.0 (omega (arith, inside, count)) in
     omega (arith, at, end)
 
 labels_apart : (links : Links) → AreLabelled links → (label' : ℕ → ℕ) (range : LabelRange) → IsSparseRange links range
@@ -253,7 +253,7 @@ labels_apart links h label' range s d x y m n less =
     let b_old : label_of links (get_or ms b.0 0) ≡ label_of links y = ap (label_of links) b.2 in
     elim (cases_lt a.0 b.0) [
       | inl order ↦ (
-          let apart = spread_apart range s.some_bits s.sparse a.0 b.0 order (omega (arith, b_inside, count)) in
+          let apart = spread_apart range s.positive_bits s.sparse a.0 b.0 order (omega (arith, b_inside, count)) in
           omega (arith, a_at, b_at, apart))
       | inr not_order ↦ elim (cases_eq a.0 b.0) [
         | inl same ↦ (
@@ -288,8 +288,8 @@ spread_is_free links h labels range s d x m =
           omega (arith, after, end, top))
       | inr found ↦ (
           let there = h.only u found.there in
-          let few = h.few in
-          let after = label_of_link labels u (λ q. omega (arith, q, there, few)) in
+          let bounded = h.bounded in
+          let after = label_of_link labels u (λ q. omega (arith, q, there, bounded)) in
           let above = found.above in
           elim (cases_lt (label_of links u) (range.low + 2 ^ range.bits)) [
             | inl inside ↦ (
@@ -313,12 +313,12 @@ relabelled old new h next prev long rises =
     let same = h.same in
     let same_back = h.same_back in
     let some = h.some in
-    let few = h.few in
+    let bounded = h.bounded in
     record {
       same = omega (arith, ap (length {A = ℕ}) next, same, long);
       same_back = omega (arith, ap (length {A = ℕ}) prev, same_back, long);
       some = omega (arith, some, long);
-      few = omega (arith, few, long);
+      bounded = omega (arith, bounded, long);
       each = λ x l. subst (λ xs. has x xs ≡ true) list (h.each x (omega (arith, l, long)));
       only = λ x m. (let l = h.only x (subst (λ xs. has x xs ≡ true) (sym list) m) in omega (arith, l, long));
       linked = subst (AreLinked (λ x. slice_index new.next.items x)) list

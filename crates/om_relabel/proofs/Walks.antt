@@ -19,8 +19,8 @@ pub count_few : (links : Links) → AreLabelled links → (low end : ℕ) → co
 count_few links h low end =
     let all = count_le (label_of links) low end (elements links) in
     let long = element_count links h in
-    let few = h.few in
-    omega (arith, all, long, few)
+    let bounded = h.bounded in
+    omega (arith, all, long, bounded)
 
 pub label_below : (links : Links) → AreLabelled links → (x : ℕ) → x < length links.label.items → label_of links x < TOP
 label_below links h x l = (label_within (label_of links) 0 TOP (elements links) x h.rises (h.each x l)).1
@@ -53,8 +53,8 @@ none_before links h e b l link end low =
       | inl first ↦ first.none low
       | inr found ↦ (
           let there = h.only (slice_index links.prev.items e) found.there in
-          let few = h.few in
-          absurd (omega (arith, there, few, link, end)))
+          let bounded = h.bounded in
+          absurd (omega (arith, there, bounded, link, end)))
     ]
 
 pub none_from : (links : Links) → AreLabelled links → (e b low : ℕ) → e < length links.label.items
@@ -107,8 +107,8 @@ none_after links h e a l link is_end end =
       | inl last ↦ last.none end
       | inr found ↦ (
           let there = h.only (slice_index links.next.items e) found.there in
-          let few = h.few in
-          absurd (omega (arith, there, few, link, is_end)))
+          let bounded = h.bounded in
+          absurd (omega (arith, there, bounded, link, is_end)))
     ]
 
 pub none_up_to : (links : Links) → AreLabelled links → (e a end : ℕ) → e < length links.label.items

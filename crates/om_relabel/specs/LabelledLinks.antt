@@ -18,7 +18,7 @@ pub record AreLabelled (links : Links) : Type 0 where
   pub same : length links.next.items ≡ length links.label.items
   pub same_back : length links.prev.items ≡ length links.label.items
   pub some : 0 < length links.label.items
-  pub few : length links.label.items ≤ MOST_ELEMENTS
+  pub bounded : length links.label.items ≤ MOST_ELEMENTS
   pub each : (x : ℕ) → x < length links.label.items → has x (elements links) ≡ true
   pub only : (x : ℕ) → has x (elements links) ≡ true → x < length links.label.items
   pub linked : AreLinked (λ x. slice_index links.next.items x) (elements links)

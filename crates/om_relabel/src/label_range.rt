@@ -49,8 +49,8 @@ fn aligned_low(label: u64, bits: u32) -> u64
 pub fn choose_range(links: &Links, x: u32) -> LabelRange
     requires labelled { AreLabelled links.now }
     requires there { x < length links.now.label.items }
-    ensures some_bits { 1 ≤ result.bits }
-    ensures few_bits { result.bits ≤ LABEL_BITS }
+    ensures positive_bits { 1 ≤ result.bits }
+    ensures bounded_bits { result.bits ≤ LABEL_BITS }
     ensures low { result.low ≡ aligned (label_of links.now x) result.bits }
     ensures first { result.first ≡ first_of (elements_of links.now result) }
     ensures count { result.count ≡ length (elements_of links.now result) }

@@ -13,8 +13,8 @@ use crate::links::{LABEL_BITS, Links, TOP};
 /// labels rise by at least 2 each; all are in the range, and the last is at least 2 below its end.
 pub fn spread(range: &LabelRange, k: u32) -> u64
     requires there { k < range.now.count }
-    requires some_bits { 1 ≤ range.now.bits }
-    requires few_bits { range.now.bits ≤ LABEL_BITS }
+    requires positive_bits { 1 ≤ range.now.bits }
+    requires bounded_bits { range.now.bits ≤ LABEL_BITS }
     requires sparse { range.now.count ≤ most_in range.now.bits }
     requires top { range.now.low + 2 ^ range.now.bits ≤ TOP }
     ensures label { result ≡ spread_label range.now k }
@@ -31,8 +31,8 @@ pub fn relabel(links: &mut Links, range: &LabelRange)
     requires labelled { AreLabelled links.old }
     requires first { range.now.first ≡ first_of (elements_of links.old range.now) }
     requires count { range.now.count ≡ length (elements_of links.old range.now) }
-    requires some_bits { 1 ≤ range.now.bits }
-    requires few_bits { range.now.bits ≤ LABEL_BITS }
+    requires positive_bits { 1 ≤ range.now.bits }
+    requires bounded_bits { range.now.bits ≤ LABEL_BITS }
     requires sparse { range.now.count ≤ most_in range.now.bits }
     requires top { range.now.low + 2 ^ range.now.bits ≤ TOP }
     ensures next { links.new.next ≡ links.old.next }

@@ -51,7 +51,7 @@ pub rests : (capacity words sequence : ℕ) (new : Links) (labels : List ℕ) (s
     → m2 ≡ (with_insertion x m'.0, m'.1) → IsKept new (m.0.log ++ x ∷ []) → AreLabelsOf labels new
     → length m.0.log + 1 < capacity
     → sequence % 2 ≡ 0 → sequence ≤ 2 * length m.0.log + 2 → IsResting capacity words sequence new m2
-rests capacity words sequence new labels stage x m m' m2 words_are wide empty e1 e2 kept agree below even few =
+rests capacity words sequence new labels stage x m m' m2 words_are wide empty e1 e2 kept agree below even bounded =
     let e : m2 ≡ (view (m.0.log ++ x ∷ []) m.0.learned (Writing Resting sequence labels), m.1) =
     e2 ∙ ap (λ (n : SeatState). (with_insertion x n.0, n.1)) e1 in
     let log : m2.0.log ≡ m.0.log ++ x ∷ [] = ap (λ (n : SeatState). n.0.log) e in
@@ -68,5 +68,5 @@ rests capacity words sequence new labels stage x m m' m2 words_are wide empty e1
       kept = subst (IsKept new) (sym log) kept;
       below = omega (arith, below, long);
       even = even;
-      few = omega (arith, few, long);
+      bounded = omega (arith, bounded, long);
     }

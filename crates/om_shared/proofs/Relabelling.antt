@@ -107,7 +107,7 @@ pub ready : (capacity words sequence : ℕ) (old new : Links) (range : LabelRang
 ready capacity words sequence old new range m m' count k log moved spread next long labelled =
     let below = k.below in
     let even = k.even in
-    let few = k.few in
+    let bounded = k.bounded in
     let same = ap (length {A = ℕ}) log in
     record {
       stage = Settled;
@@ -118,5 +118,5 @@ ready capacity words sequence old new range m m' count k log moved spread next l
       kept = subst (IsKept new) (sym log) (kept_relabelled old new m.0.log k.kept next long labelled);
       below = omega (arith, below, same);
       even = omega (arith, even);
-      few = omega (arith, few, same);
+      bounded = omega (arith, bounded, same);
     }

@@ -180,8 +180,8 @@ next_event events h n e l is = by_test (is_access e) refl
 -- the counts stay at most the number of starts
 pub counted_after : (counts : List ℕ) (e : Event) (m : ℕ) → ((k : ℕ) → slice_index counts k ≤ m)
     → (k : ℕ) → slice_index (counts_after counts e) k ≤ m + length (started_after counts e)
-counted_after counts (Begin i) m few k = elim (cases_lt k (length counts)) [
-  | inl old ↦ (let same = get_or_append_left counts (1 ∷ []) 0 k old in let f = few k in omega (arith, same, f))
+counted_after counts (Begin i) m bounded k = elim (cases_lt k (length counts)) [
+  | inl old ↦ (let same = get_or_append_left counts (1 ∷ []) 0 k old in let f = bounded k in omega (arith, same, f))
   | inr new ↦ elim (cases_eq k (length counts)) [
     | inl here ↦ (let at = get_or_push counts 1 0 k (sym here) in omega (arith, at))
     | inr past ↦ (
@@ -190,13 +190,13 @@ counted_after counts (Begin i) m few k = elim (cases_lt k (length counts)) [
         omega (arith, none))
   ]
 ]
-counted_after counts (Enter i) m few k = elim (cases_eq k i) [
+counted_after counts (Enter i) m bounded k = elim (cases_eq k i) [
   | inl here ↦ elim (cases_lt i (length counts)) [
     | inl inside ↦ (
         let at : slice_index (slice_set counts i (slice_index counts i + 1)) k ≡ slice_index counts i + 1 =
         ap (λ j. slice_index (slice_set counts i (slice_index counts i + 1)) j) here
         ∙ get_or-set_same counts i (slice_index counts i + 1) 0 inside in
-        let f = few i in
+        let f = bounded i in
         omega (arith, at, f))
     | inr past ↦ (
         let long = length-set counts i (slice_index counts i + 1) in
@@ -205,10 +205,10 @@ counted_after counts (Enter i) m few k = elim (cases_eq k i) [
   ]
   | inr other ↦ (
       let same = get_or-set_other counts i k (slice_index counts i + 1) 0 other in
-      let f = few k in
+      let f = bounded k in
       omega (arith, same, f))
 ]
-counted_after counts (Access i a) m few k = let f = few k in omega (arith, f)
-counted_after counts (Advance i j n) m few k = let f = few k in omega (arith, f)
-counted_after counts (Finish i e) m few k = let f = few k in omega (arith, f)
-counted_after counts Stop m few k = let f = few k in omega (arith, f)
+counted_after counts (Access i a) m bounded k = let f = bounded k in omega (arith, f)
+counted_after counts (Advance i j n) m bounded k = let f = bounded k in omega (arith, f)
+counted_after counts (Finish i e) m bounded k = let f = bounded k in omega (arith, f)
+counted_after counts Stop m bounded k = let f = bounded k in omega (arith, f)

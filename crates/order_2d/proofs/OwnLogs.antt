@@ -46,14 +46,14 @@ own_rising events h i =
 -- no column is longer than a bound on the starts
 own_short : (events : List Event) → IsControlLog events → length (log_starts events) ≤ MOST_STARTS → (i : ℕ)
     → length (nodes_at (log_columns events) i) < 2 ^ 32
-own_short events h few i =
+own_short events h bounded i =
     let own = own_starts events h in
     elim (cases_lt 0 (length (nodes_at (log_columns events) i))) [
       | inl some ↦ (
           let started = (control_starts_sound h.run).all i (length (nodes_at (log_columns events) i) - 1) (omega (arith, some)) in
           let short = column_short (log_columns events) (log_starts events) own.columns own.ordered i
           (length (nodes_at (log_columns events) i) - 1) started in
-          omega (arith, short, few))
+          omega (arith, short, bounded))
       | inr none ↦ omega (arith, none)
     ]
 
@@ -66,7 +66,7 @@ pub can_replay : (log : RunLog) → IsOwnLog log → length (log_starts log.even
     → (columns : List Column) → columns ≡ log.columns → (starts : List NodeId) → starts ≡ log_starts log.events
     → (numbers : List (List ℤ)) → numbers ≡ numbers_of (nodes_of_columns columns)
     → CanReplay (nodes_of_columns columns) starts numbers
-can_replay log own few columns same starts starts_same numbers numbers_same =
+can_replay log own bounded columns same starts starts_same numbers numbers_same =
     let made = same_columns log own columns same in
     let of = own_starts log.events own.control in
     subst (λ cs. CanReplay cs starts numbers) (sym made)
@@ -75,7 +75,7 @@ can_replay log own few columns same starts starts_same numbers numbers_same =
       starts_ok = of.ordered;
       numbers_ok = numbers_same ∙ ap numbers_of made;
       rising = own_rising log.events own.control;
-      few = own_short log.events own.control few;
+      bounded = own_short log.events own.control bounded;
     }))
 
 -- the starts are its instances

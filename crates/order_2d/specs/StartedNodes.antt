@@ -61,7 +61,7 @@ pub record CanReplay (columns : List (List Node)) (starts : List NodeId) (number
   pub starts_ok : AreStarts columns starts
   pub numbers_ok : numbers ≡ numbers_of columns
   pub rising : (i : ℕ) → IsRising (nodes_at columns i)
-  pub few : (i : ℕ) → length (nodes_at columns i) < 2 ^ 32
+  pub bounded : (i : ℕ) → length (nodes_at columns i) < 2 ^ 32
 
 -- ---- parents
 

@@ -41,7 +41,7 @@ pub(crate) fn column_numbers(alloc: Global, columns: &[Column]) -> Result<ListOf
 // index of the instance above.
 fn parent_below(node: Node, numbers: &[i64], joined: u32) -> Option<u32>
     requires rising { (nodes : List PlainNode) × (numbers.now ≡ map (λ n. n.number) nodes) × IsRising nodes }
-    requires few { length numbers.now < 2 ^ 32 }
+    requires bounded { length numbers.now < 2 ^ 32 }
     ensures { (nodes : List PlainNode) → numbers.now ≡ map (λ n. n.number) nodes → result ≡ parent_by node.kind joined
         (last_up_to nodes node.number) }
 {
@@ -62,7 +62,7 @@ pub(crate) fn left_index(
     requires node { IsNodeOf (nodes_of_columns columns.now) x }
     requires numbers { numbers.now ≡ numbers_of (nodes_of_columns columns.now) }
     requires rising { (i : ℕ) → IsRising (nodes_at (nodes_of_columns columns.now) i) }
-    requires few { (i : ℕ) → length (nodes_at (nodes_of_columns columns.now) i) < 2 ^ 32 }
+    requires bounded { (i : ℕ) → length (nodes_at (nodes_of_columns columns.now) i) < 2 ^ 32 }
     requires above { IsAbove (nodes_of_columns columns.now) x.iteration x.index above }
     ensures { result ≡ left_parent (nodes_of_columns columns.now) x.iteration x.index }
 {

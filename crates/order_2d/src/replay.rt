@@ -146,7 +146,7 @@ fn empty_orders(alloc: Global, count: usize) -> Result<TwoOrders<OmList>, NoMemo
 /// those that they make. Returns an error only if memory runs out.
 pub fn replay(alloc: Global, run_log: &RunLog) -> Result<Replayed, NoMemory>
     requires own { IsOwnLog run_log.now }
-    requires few { length (log_starts run_log.now.events) ≤ MOST_STARTS }
+    requires bounded { length (log_starts run_log.now.events) ≤ MOST_STARTS }
     ensures nodes { IfOk result (λ r. r.nodes ≡ log_starts run_log.now.events) }
     ensures down { IfOk result (λ r. r.orders.down.log ≡ down_first_log (log_starts run_log.now.events)) }
     ensures right { IfOk result (λ r. r.orders.right.log ≡ right_first_log (log_columns run_log.now.events)

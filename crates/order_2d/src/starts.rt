@@ -17,7 +17,7 @@ pub const MOST_STARTS: usize = 262_145;
 // of each iteration.
 fn push_start(event: &Event, counts: &mut Vec<u32>, starts: &mut NodeIds) -> Result<(), NoMemory>
     requires begun { EntersBegun (length counts.old.items) event.now }
-    requires few { length starts.old ≤ MOST_STARTS }
+    requires bounded { length starts.old ≤ MOST_STARTS }
     requires counted { (k : ℕ) → slice_index counts.old.items k ≤ length starts.old }
     ensures starts { OnOk result (starts.new ≡ starts.old ++ started_after counts.old.items event.now) }
     ensures counts { OnOk result (counts.new.items ≡ counts_after counts.old.items event.now) }
@@ -46,7 +46,7 @@ fn push_start(event: &Event, counts: &mut Vec<u32>, starts: &mut NodeIds) -> Res
 /// Returns the instances that the events start, in order. Returns an error only if memory runs out.
 pub(crate) fn starts_of_log(alloc: Global, events: &[Event]) -> Result<NodeIds, NoMemory>
     requires control { IsControlLog events.now }
-    requires few { length (log_starts events.now) ≤ MOST_STARTS }
+    requires bounded { length (log_starts events.now) ≤ MOST_STARTS }
     ensures { IfOk result (λ starts. starts ≡ log_starts events.now) }
 {
     let mut counts = Vec::new(alloc);

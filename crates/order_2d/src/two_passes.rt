@@ -72,7 +72,7 @@ impl TwoPasses {
     /// Returns two further passes, which have seen the same. Returns an error only if memory runs out;
     /// then nothing has changed.
     pub fn split(&mut self) -> Result<TwoPasses, NoMemory>
-        ensures same { self.new ≡ self.old }
+        ensures unchanged { self.new ≡ self.old }
         ensures new { IfOk result (λ p. p ≡ self.old) }
     {
         let down = self.down.split()?;
@@ -85,7 +85,7 @@ impl TwoPasses {
         requires first { has x (list_of_log self.old.down_log) ≡ true }
         requires second { has y (list_of_log self.old.down_log) ≡ true }
         ensures order { IsTrue result ↔ StandsBefore (list_of_log self.old.down_log) x y }
-        ensures same { self.new ≡ self.old }
+        ensures unchanged { self.new ≡ self.old }
     {
         self.down.precedes(rt, x, y)
     }
@@ -95,7 +95,7 @@ impl TwoPasses {
         requires first { has x (list_of_log self.old.right_log) ≡ true }
         requires second { has y (list_of_log self.old.right_log) ≡ true }
         ensures order { IsTrue result ↔ StandsBefore (list_of_log self.old.right_log) x y }
-        ensures same { self.new ≡ self.old }
+        ensures unchanged { self.new ≡ self.old }
     {
         self.right.precedes(rt, x, y)
     }
@@ -105,7 +105,7 @@ impl TwoOrders<OmWriter> {
     /// Shows the passes all insertions so far. They must be of these lists.
     pub fn confirm(&mut self, passes: &mut TwoPasses)
         requires { AreOf passes.old self.old }
-        ensures same { self.new ≡ self.old }
+        ensures unchanged { self.new ≡ self.old }
         ensures down { passes.new.down_log ≡ self.old.down.log }
         ensures right { passes.new.right_log ≡ self.old.right.log }
         ensures lists { AreSameLists passes.new passes.old }

@@ -3,11 +3,11 @@ use Rattle.std.proofs.Common.{ℕ, List, Option}
 use Rattle.std.specs.Prelude.{IfSome}
 use Rattle.access_history.specs.KeptInstances.{KeptAreIn}
 use Rattle.access_history.specs.declared.history.History.{History}
-use Rattle.access_history.specs.declared.history.Who.{Who}
+use Rattle.access_history.specs.declared.history.MarkedNode.{MarkedNode}
 use Rattle.access_history.proofs.GrownLists.{both_of_some, in_grown}
 use Rattle.pipe_model.specs.Orders.GrowingLists.{AreIn, KeepsOrder}
 
-one_grown : (d r d' r' : List ℕ) (o : Option Who) → KeepsOrder d d' → KeepsOrder r r' → IfSome o (λ w. AreIn d r w.marks)
+one_grown : (d r d' r' : List ℕ) (o : Option MarkedNode) → KeepsOrder d d' → KeepsOrder r r' → IfSome o (λ w. AreIn d r w.marks)
     → IfSome o (λ w. AreIn d' r' w.marks)
 one_grown d r d' r' o grown grown' h =
     both_of_some (λ w. AreIn d r w.marks) (λ w. AreIn d r w.marks) (λ w. AreIn d' r' w.marks) o

@@ -152,7 +152,7 @@ module _ {limit : ℕ} {events : List Event} {columns : List Column} {before : L
   pub begins_first : length columns ≡ 0 → 0 < limit → MayBegin limit s (length columns)
   begins_first none some = record {
     number = wide;
-    room = (let few = few_alive s.frames in omega (arith, few, none, some, wide));
+    room = (let bounded = few_alive s.frames in omega (arith, bounded, none, some, wide));
     follows = λ j f e is. absurd (omega (arith, none, e));
   }
 
@@ -160,7 +160,7 @@ module _ {limit : ℕ} {events : List Event} {columns : List Column} {before : L
       → ContinuesLoop (get_or before j Running) (nodes_at (nodes_of_columns columns) j) → MayBegin limit s (length columns)
   begins_next j next some goes = record {
     number = wide;
-    room = (let few = few_alive s.frames in omega (arith, few, some, wide));
+    room = (let bounded = few_alive s.frames in omega (arith, bounded, some, wide));
     follows = λ k f e is. (
         let same : j ≡ k = omega (arith, next, e) in
         let here = has_frame h j (omega (arith, next)) in

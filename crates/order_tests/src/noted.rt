@@ -6,7 +6,7 @@ ghost use Rattle.pipe_model.specs.Orders.GrowingLists.{AreIn, KeepsOrder};
 ghost use Rattle.pipe_model.specs.Orders.OrderList.{list_of_log};
 ghost use Rattle.std.specs.Prelude.{◌≡◌};
 
-use access_history::history::{History, Verdict, Who};
+use access_history::history::{History, MarkedNode, Verdict};
 use order_2d::two_passes::{Asking, TwoPasses};
 use pipe_model::access::AccessKind;
 use std::sync::Wait;
@@ -17,7 +17,7 @@ pub fn note_with<R: Wait>(
     rt: &R,
     history: &mut History,
     passes: &mut TwoPasses,
-    who: Who,
+    who: MarkedNode,
     kind: AccessKind,
 ) -> Verdict
     requires kept { KeptAreIn (list_of_log passes.old.down_log) (list_of_log passes.old.right_log) history.old }
@@ -36,10 +36,10 @@ pub fn note_met<R: Wait>(
     history: &mut History,
     passes: &mut TwoPasses,
     own: &mut TwoPasses,
-    who: Who,
+    who: MarkedNode,
     kind: AccessKind,
 ) -> Verdict
-    requires same { AreSameLists passes.old own.old }
+    requires same_lists { AreSameLists passes.old own.old }
     requires kept { KeptAreIn (list_of_log passes.old.down_log) (list_of_log passes.old.right_log) history.old }
     requires new { AreIn (list_of_log own.old.down_log) (list_of_log own.old.right_log) who.marks }
     ensures in_lists { KeptAreIn (list_of_log passes.new.down_log) (list_of_log passes.new.right_log) history.new }

@@ -111,7 +111,7 @@ fn may_advance(nodes: &[Node], kind: Kind, number: i64) -> bool
 fn advance(play: &mut Play, i: usize, kind: Kind, number: i64) -> Result<bool, NoMemory>
     requires played { IsPlayed MOST_ITERATIONS play.old.events play.old.columns.items play.old.statuses.items }
     requires begun { i < length play.old.columns.items }
-    requires few { i < MOST_ITERATIONS }
+    requires bounded { i < MOST_ITERATIONS }
     requires runs { slice_index_or play.old.statuses.items i Running ≡ Running }
     ensures { OnOk result (IsPlayed MOST_ITERATIONS play.new.events play.new.columns.items play.new.statuses.items) }
 {
@@ -152,7 +152,7 @@ fn push_node(columns: &mut Vec<Column>, i: usize, node: Node) -> Result<(), NoMe
 fn enter(play: &mut Play, i: usize, kind: Kind, number: i64) -> Result<bool, NoMemory>
     requires played { IsPlayed MOST_ITERATIONS play.old.events play.old.columns.items play.old.statuses.items }
     requires begun { i < length play.old.columns.items }
-    requires few { i < MOST_ITERATIONS }
+    requires bounded { i < MOST_ITERATIONS }
     requires named { slice_index_or play.old.statuses.items i Running ≡ Pending kind number }
     ensures { OnOk result (IsPlayed MOST_ITERATIONS play.new.events play.new.columns.items play.new.statuses.items) }
 {
@@ -185,7 +185,7 @@ fn set_end(columns: &mut Vec<Column>, i: usize, end: ColumnEnd)
 fn finish(play: &mut Play, i: usize, end: ColumnEnd) -> Result<bool, NoMemory>
     requires played { IsPlayed MOST_ITERATIONS play.old.events play.old.columns.items play.old.statuses.items }
     requires begun { i < length play.old.columns.items }
-    requires few { i < MOST_ITERATIONS }
+    requires bounded { i < MOST_ITERATIONS }
     requires runs { slice_index_or play.old.statuses.items i Running ≡ Running }
     ensures { OnOk result (IsPlayed MOST_ITERATIONS play.new.events play.new.columns.items play.new.statuses.items) }
 {
@@ -227,7 +227,7 @@ fn go_on(alloc: Global, play: &mut Play, i: usize, dag: &[Stages]) -> Result<boo
 // The iteration that takes turn `k` at event `m`.
 fn turn(turns: Turns, m: usize, k: usize, count: usize) -> usize
     requires turn { k < count }
-    requires few { m < MOST_EVENTS }
+    requires bounded { m < MOST_EVENTS }
     requires small { count ≤ MOST_ITERATIONS }
     ensures { result < count }
 {
@@ -247,7 +247,7 @@ fn make_event(
     turns: Turns,
 ) -> Result<bool, NoMemory>
     requires played { IsPlayed MOST_ITERATIONS play.old.events play.old.columns.items play.old.statuses.items }
-    requires few { m < MOST_EVENTS }
+    requires bounded { m < MOST_EVENTS }
     requires small { length dag.now ≤ MOST_ITERATIONS }
     ensures { OnOk result (IsPlayed MOST_ITERATIONS play.new.events play.new.columns.items play.new.statuses.items) }
 {

@@ -2,6 +2,7 @@
 
 ghost use Rattle.std.specs.Prelude.{◌≡◌, ◌<◌, ◌≤◌, All, length};
 ghost use Rattle.std.specs.Bool.{OnTrue};
+ghost use Rattle.order_2d.specs.declared.starts.TheConstants.{MOST_STARTS};
 ghost use Rattle.order_2d.specs.LogStarts.{IsOwnLog, log_starts};
 ghost use Rattle.pipe_model.specs.Orders.GrowingLists.{AreIn};
 ghost use Rattle.pipe_model.specs.Orders.OrderList.{list_of_log};
@@ -119,7 +120,7 @@ fn event_count(log: &RunLog) -> usize
 // Whether the lists of a run and its dag agree about each pair of instances.
 fn lists_are_dag(alloc: Global, log: &RunLog) -> Result<bool, NoMemory>
     requires own { IsOwnLog log.now }
-    requires few { length (log_starts log.now.events) ≤ 262_145 }
+    requires bounded { length (log_starts log.now.events) ≤ MOST_STARTS }
 {
     let dag = Dag::of(alloc, &log.columns)?;
     let replayed = replay(alloc, log)?;

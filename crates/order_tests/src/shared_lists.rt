@@ -16,8 +16,8 @@ pub fn shared_orders(
     alloc: Global,
     capacity: u32,
 ) -> Result<(TwoOrders<OmWriter>, TwoPasses), NoMemory>
-    requires some { 0 < capacity }
-    requires few { capacity ≤ MOST_ELEMENTS }
+    requires positive { 0 < capacity }
+    requires bounded { capacity ≤ MOST_ELEMENTS }
     ensures logs { IfOk result (λ r. (r.0.down.log ≡ []) × (r.0.right.log ≡ []) × (r.1.down_log ≡ []) × (r.1.right_log ≡ [])) }
     ensures capacity { IfOk result (λ r. (r.0.down.capacity ≡ capacity) × (r.0.right.capacity ≡ capacity)) }
     ensures lists { IfOk result (λ r. (r.1.down ≡ r.0.down.identity) × (r.1.right ≡ r.0.right.identity)) }

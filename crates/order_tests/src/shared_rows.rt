@@ -9,7 +9,7 @@ use std::thread::{Threads, join};
 
 /// Inserts elements after the first `among` elements in turn.
 pub fn insert_among(writer: &mut OmWriter, among: u32, times: u32)
-    requires some { 0 < among }
+    requires positive { 0 < among }
     requires there { among ≤ length writer.old.log + 1 }
     requires room { length writer.old.log + times < writer.old.capacity }
     ensures log { length writer.new.log ≡ length writer.old.log + times }
@@ -25,7 +25,7 @@ pub fn insert_among(writer: &mut OmWriter, among: u32, times: u32)
 pub fn always_precedes<R: Wait>(rt: &R, pass: &mut OmPass, x: u32, y: u32, times: u32) -> bool
     requires first { x ≤ length pass.old.log }
     requires second { y ≤ length pass.old.log }
-    ensures same { pass.new ≡ pass.old }
+    ensures unchanged { pass.new ≡ pass.old }
 {
     for _ in 0..times {
         if !pass.precedes(rt, x, y) {

@@ -56,12 +56,12 @@ pub table_more : (sizes grown : BTreeMap (Bor (List ℕ)) (Option ℤ)) (total c
     → ((x : Bor (List ℕ)) → get (λ a b. slice_cmp nat_cmp a.now b.now) grown x
     ≡ cond (is_eq (slice_cmp nat_cmp key.now x.now)) (Some d.size) (get (λ a b. slice_cmp nat_cmp a.now b.now) sizes x))
     → IsCellTable grown (total + count) (ds ++ d ∷ [])
-table_more sizes grown total count ds d key table named new counted few updates = record {
+table_more sizes grown total count ds d key table named new counted bounded updates = record {
   found = λ x. updates x ∙ ap (λ o. cond (is_eq (slice_cmp nat_cmp key.now x.now)) (Some d.size) o) (table.found x)
       ∙ ap (λ b. cond b (Some d.size) (size_in ds x.now)) (is_eq-slice_cmp key.now x.now ∙ ap (λ name. bytes_eq name x.now) named)
       ∙ found_by ds d x.now (bytes_eq d.name x.now) refl (is_none (size_in ds d.name) new);
   total_is = omega (arith, table.total_is, counted, total_more ds d);
-  few = few;
+  bounded = bounded;
 }
 
 -- the declarations before index i, and the one at i
@@ -73,7 +73,7 @@ take_next cells i d h e = take_more cells i d h ∙ ap (λ x. take i cells ++ x 
 cell_obeys : (ds : List Declaration) (d : Declaration) → is_cell ds d.name ≡ false → nat_lt 65536
     (cell_total ds + declared_size d.size) ≡ false
     → (declared_size d.size == 0) ≡ false → broken_at (mark_at (opening regions.Cells ds) (DeclaredCell d.name d.size)) ≡ None
-cell_obeys ds d new few some = rw (new, few, some) refl
+cell_obeys ds d new bounded some = rw (new, bounded, some) refl
 
 -- after a declaration without a fault, the first fault is the first of the other declarations
 pub cell_passed : (cells : List Declaration) (i n : ℕ) (d : Declaration) → i < length cells → d ≡ get_or cells i d
@@ -81,10 +81,10 @@ pub cell_passed : (cells : List Declaration) (i n : ℕ) (d : Declaration) → i
     → nat_lt 65536 (cell_total (take i cells) + declared_size d.size) ≡ false → (declared_size d.size == 0) ≡ false
     → first_fault (n + 1) (marks_of_cells (take (i + 1) cells) (drop (i + 1) cells)) ≡ first_fault n
     (marks_of_cells (take i cells) (drop i cells))
-cell_passed cells i n d h e new few some =
+cell_passed cells i n d h e new bounded some =
     let rest = drop (i + 1) cells in
     let split : drop i cells ≡ d ∷ rest = at_drop_more (λ ds. ds) cells i d h ∙ ap (λ x. x ∷ rest) (sym e) in
     ap (λ before. first_fault (n + 1) (marks_of_cells before rest)) (take_next cells i d h e)
     ∙ ap (λ broken. fault_or broken n (first_fault (n + 1) (marks_of_cells (take i cells ++ d ∷ []) rest)))
-    (sym (cell_obeys (take i cells) d new few some))
+    (sym (cell_obeys (take i cells) d new bounded some))
     ∙ ap (λ ds. first_fault n (marks_of_cells (take i cells) ds)) (sym split)

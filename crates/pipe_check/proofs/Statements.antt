@@ -47,7 +47,7 @@ pub record IsStep (scope next_scope : Scope) (ss : List Stmt) (i n next : ℕ) :
 pub statement_fits : (scope : Scope) (ss : List Stmt) (i n all : ℕ) (s : Stmt) → i < length ss → s ≡ get_or ss i s
     → n + length (marks_of_statements scope (statements_of (drop i ss))) ≡ all → all ≤ 4194304
     → Fits n (marks_of_statement scope (statement_of s))
-statement_fits scope ss i n all s h e is few =
+statement_fits scope ss i n all s h e is bounded =
     let rest = statements_of (drop (i + 1) ss) in
     let from : length (marks_of_statements scope (statements_of (drop i ss))) ≡ length
     (marks_of_statements scope (Then (statement_of s) rest)) =
@@ -55,7 +55,7 @@ statement_fits scope ss i n all s h e is few =
     omega (
       arith,
       is,
-      few,
+      bounded,
       from,
       length-append (marks_of_statement scope (statement_of s))
           (marks_of_statements (after_statement scope (statement_of s)) rest),

@@ -1,5 +1,6 @@
 -- Programs that are accepted, with their number of cells.
 use Rattle.std.specs.Prelude.{◌≡◌, ◌≤◌, ◌+◌, ℕ, None}
+use Rattle.pipe_model.specs.declared.bounds.TheConstants.{MOST_CELLS}
 use Rattle.pipe_model.specs.declared.tree.Program.{Program}
 use Rattle.pipe_model.specs.Language.CheckingRules.{cell_total, fault_of}
 use Rattle.pipe_model.specs.Language.SpellablePrograms.{IsSpellable}
@@ -10,4 +11,4 @@ pub record IsChecked (program : Program) (cells : ℕ) : Type 0 where
   pub spellable : IsSpellable (tree_of program)
   pub obeys : fault_of (tree_of program) ≡ None
   pub count : cells ≡ cell_total program.cells + 2
-  pub few : cells ≤ 65538
+  pub bounded : cells ≤ MOST_CELLS + 2

@@ -12,4 +12,4 @@ use Rattle.pipe_model.specs.Language.CheckingRules.{size_in, cell_total}
 pub record IsCellTable (sizes : BTreeMap (Bor (List ℕ)) (Option ℤ)) (total : ℕ) (cells : List Declaration) : Type 0 where
   pub found : (x : Bor (List ℕ)) → get (λ a b. slice_cmp nat_cmp a.now b.now) sizes x ≡ size_in cells x.now
   pub total_is : total ≡ cell_total cells
-  pub few : total ≤ MOST_CELLS
+  pub bounded : total ≤ MOST_CELLS

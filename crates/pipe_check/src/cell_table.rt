@@ -70,7 +70,7 @@ impl<'a> CellTable<'a> {
     /// `NoMemory` is returned only if memory runs out.
     pub fn of(alloc: Global, declared: &'a [Declaration]) -> Result<Self, CheckFault>
         requires sizes { All (λ (d : Declared). HasNoNegativeSize d.size) declared.now }
-        requires few { length declared.now ≤ bounds.LARGEST_PROGRAM }
+        requires bounded { length declared.now ≤ bounds.LARGEST_PROGRAM }
         ensures cells { IfOk result (λ cells. cells ≡ declared.now) }
         ensures ok { OnOk result (first_fault 0 (marks_of_cells [] declared.now) ≡ None) }
         ensures err { IfErr result (λ fault. IsFirstFaultOf fault (first_fault 0 (marks_of_cells [] declared.now))) }
@@ -111,7 +111,7 @@ impl<'a> CellTable<'a> {
     /// Returns the number of cells, array elements counted: at most 65,536.
     pub fn total(&self) -> u32
         ensures total { result ≡ cell_total self.now }
-        ensures few { result ≤ bounds.MOST_CELLS }
+        ensures bounded { result ≤ bounds.MOST_CELLS }
     {
         self.total
     }

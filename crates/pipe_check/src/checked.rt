@@ -2,6 +2,7 @@
 
 ghost use Rattle.std.specs.Prelude.{◌≡◌, ◌≤◌, ◌+◌, None};
 ghost use Rattle.pipe_check.specs.Accepted.{IsChecked};
+ghost use Rattle.pipe_model.specs.declared.bounds.TheConstants.{MOST_CELLS};
 ghost use Rattle.pipe_model.specs.Language.CheckingRules.{cell_total, fault_of};
 ghost use Rattle.pipe_model.specs.Language.SpellablePrograms.{IsSpellable};
 ghost use Rattle.pipe_model.specs.Language.SyntaxTree.{tree_of};
@@ -55,7 +56,7 @@ impl Checked {
     /// `output` counted: 2 to 65,538.
     pub fn cell_count(&self) -> u32
         ensures count { result ≡ cell_total self.now.cells + 2 }
-        ensures few { result ≤ 65538 }
+        ensures bounded { result ≤ MOST_CELLS + 2 }
     {
         self.cells
     }

@@ -54,7 +54,7 @@ fn check_test(alloc: Global, cells: &CellTable, next: u32, test: &Expr) -> Resul
 fn check_marks(alloc: Global, program: &Program) -> Result<u32, CheckFault>
     requires { IsSpellable (tree_of program.now) }
     ensures total { IfOk result (λ total. total ≡ cell_total program.now.cells) }
-    ensures few { IfOk result (λ total. total ≤ bounds.MOST_CELLS) }
+    ensures bounded { IfOk result (λ total. total ≤ bounds.MOST_CELLS) }
     ensures ok { OnOk result (first_fault 0 (marks_of (tree_of program.now)) ≡ None) }
     ensures err { IfErr result (λ fault. IsFirstFaultOf fault (first_fault 0 (marks_of (tree_of program.now)))) }
 {

@@ -132,9 +132,9 @@ module _ {J M H : Type 0} (tokens : H → TokenCounts) where
       let taken_old = ap (sum_by taken) are ∙ all_taken workers capacity tokens_of_number ends fresh in
       let put_old = ap (sum_by put) are ∙ all_put workers capacity tokens_of_number ends fresh in
       let even = account tokens_of_number in
-      let few = sum_by-le tokens_of_number 1 left (λ k d l. at_most_one (get_or left k d)) in (
+      let bounded = sum_by-le tokens_of_number 1 left (λ k d l. at_most_one (get_or left k d)) in (
         sum_by tokens_of_number left,
-        omega (arith, few, size),
+        omega (arith, bounded, size),
         omega (
           arith,
           kept,

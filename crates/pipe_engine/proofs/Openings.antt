@@ -16,6 +16,6 @@ map_both (Err e) p q f = tt
 pub can_drive : (own : FlatCode) (h : HallId) (a : HallConstants) (code : FlatCode) (input : List ℤ) → h.constants ≡ Some a → code ≡ own
     → input ≡ a.input
     → cells_of (tree_of a.program) ≤ 4294967296 → CanDrive own (hall_name h) code input
-can_drive own h a code input is same_code same_input few =
+can_drive own h a code input is same_code same_input bounded =
     subst (λ (o : Option HallConstants). CanDrive own (name_of h.table o) code input) (sym is)
-    (record { code_is = same_code; input_is = same_input; few = few })
+    (record { code_is = same_code; input_is = same_input; bounded = bounded })

@@ -46,8 +46,8 @@ fn drive_hall<
     seats: Vec<H>,
     gate: &G,
 ) -> Result<Driven<H>, NoMemory>
-    requires some { 0 < vec_len seats }
-    requires few { vec_len seats < 2 ^ 32 }
+    requires nonempty { 0 < vec_len seats }
+    requires bounded { vec_len seats < 2 ^ 32 }
     requires named { All (λ seat. H.named seat ≡ J.named) seats.items }
     requires drives { CanDrive M.code J.named code.now input.now }
     ensures length { IfOk result (λ driven. vec_len driven.seats ≡ vec_len seats) }
@@ -82,7 +82,7 @@ fn drive_first<
     others: Vec<H>,
     gate: &G,
 ) -> Result<Driven<H>, NoMemory>
-    requires few { vec_len others + 1 < 2 ^ 32 }
+    requires bounded { vec_len others + 1 < 2 ^ 32 }
     requires first { H.named first ≡ J.named }
     requires others { All (λ seat. H.named seat ≡ J.named) others.items }
     requires drives { CanDrive M.code J.named code.now input.now }
@@ -119,7 +119,7 @@ pub fn drive<
     others: Vec<H>,
     gate: &G,
 ) -> Result<Driven<H>, NoMemory>
-    requires few { vec_len others + 1 < 2 ^ 32 }
+    requires bounded { vec_len others + 1 < 2 ^ 32 }
     requires others { All (λ seat. H.named seat ≡ H.named first) others.items }
     requires drives { CanDrive M.code (H.named first) code.now input.now }
     ensures length { IfOk result (λ driven. vec_len driven.seats ≡ vec_len others + 1) }

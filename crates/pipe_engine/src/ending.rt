@@ -85,7 +85,7 @@ pub(crate) fn end_loop<R: Wait, B: RunCode>(
     key: HallKey<Carried<B>>,
 ) -> Result<LoopEnd, NoMemory>
     requires opened { IsOpenedAfterInit (tree_of prepared.now.checked.now) prepared.now.input.now throttle hall }
-    requires same { IsSameHall key.hall hall.hall }
+    requires same_hall { IsSameHall key.hall hall.hall }
     ensures { IfOk result (IsLoopEnd (tree_of prepared.now.checked.now) prepared.now.input.now throttle) }
 {
     let _ = prepared;

@@ -41,7 +41,7 @@ pub fn lanes<J: DrivenHall, M: Runs + Drop, H: Hall<M> + Drop>(
     ends: Vec<Ends<Task<M>, TestOf<J, M>>>,
     mut seats: Vec<H>,
 ) -> Result<Vec<Lane<J, M, H>>, NoMemory>
-    requires few { vec_len ends < 2 ^ 32 }
+    requires bounded { vec_len ends < 2 ^ 32 }
     requires seats { vec_len seats ≡ vec_len ends }
     requires named { All (λ seat. H.named seat ≡ J.named) seats.items }
     ensures named { IfOk result (λ lanes. All (λ lane. H.named (seat_in lane) ≡ J.named) lanes.items) }
@@ -68,7 +68,7 @@ fn lend<
     H: Hall<M> + Drop + Send,
     G: Gate + Sync,
 >(rt: &R, code: &Code, input: &Numbers, lanes: &mut [Lane<J, M, H>], gate: &G)
-    requires some { 0 < length lanes.old }
+    requires nonempty { 0 < length lanes.old }
     requires named { All (λ lane. H.named (seat_in lane) ≡ J.named) lanes.old }
     requires drives { CanDrive M.code J.named code.now input.now }
     ensures length { length lanes.new ≡ length lanes.old }
@@ -100,7 +100,7 @@ pub fn work<
     H: Hall<M> + Drop + Send,
     G: Gate + Sync,
 >(rt: &R, code: &Code, input: &Numbers, lanes: &mut Vec<Lane<J, M, H>>, gate: &G)
-    requires some { 0 < vec_len lanes.old }
+    requires nonempty { 0 < vec_len lanes.old }
     requires named { All (λ lane. H.named (seat_in lane) ≡ J.named) lanes.old.items }
     requires drives { CanDrive M.code J.named code.now input.now }
     requires all { AreAllEnds (map ends_in lanes.old.items) }

@@ -1,6 +1,7 @@
 //! Halls of programs.
 
 ghost use Rattle.std.specs.Prelude.{◌≡◌, ◌<◌, ◌≤◌, ◌+◌, ◌*◌, [], All, IfOk, length};
+ghost use Rattle.order_2d.specs.declared.starts.TheConstants.{MOST_STARTS};
 ghost use Rattle.pipe_engine.specs.OpenedHalls.{IsOpenedFor};
 ghost use Rattle.pipe_hall.specs.ShardParts.{HaveIdentities};
 ghost use Rattle.pipe_hall.specs.WorkerSeats.{hall_name};
@@ -10,7 +11,7 @@ ghost use Rattle.pipe_model.specs.Language.SyntaxTree.{tree_of};
 ghost use Rattle.pipe_worker.specs.Machines.{CanDrive, HasMachine};
 ghost use Rattle.stage_code.specs.LimitRanges.{HasRangesOfLimits};
 ghost use Rattle.stage_interp.specs.MachineState.{IsMadeFor};
-ghost use Rattle.stage_interp.specs.Standing.{IsCodeOf};
+ghost use Rattle.stage_interp.specs.RemainingBehaviour.{IsCodeOf};
 
 use crate::carried::{Carried, RunCode};
 use frame_book::book::Book;
@@ -29,7 +30,7 @@ use std::alloc::Global;
 // first, and two for each instance.
 fn most_elements(limits: Limits) -> u32
     requires ranges { HasRangesOfLimits limits }
-    requires few { natural limits.iterations * natural limits.stages + 1 ≤ 262145 }
+    requires bounded { natural limits.iterations * natural limits.stages + 1 ≤ MOST_STARTS }
     ensures { result ≡ 2 * (natural limits.iterations * natural limits.stages + 1) + 1 }
 {
     let instances = limits.iterations as u64 * limits.stages as u64 + 1;
@@ -38,8 +39,8 @@ fn most_elements(limits: Limits) -> u32
 
 // Returns two order lists with room for this many elements each, and passes to them.
 fn orders(alloc: Global, capacity: u32) -> Result<(TwoOrders<OmWriter>, TwoPasses), NoMemory>
-    requires some { 0 < capacity }
-    requires few { capacity ≤ 524291 }
+    requires positive { 0 < capacity }
+    requires bounded { capacity ≤ 2 * MOST_STARTS + 1 }
     ensures logs { IfOk result (λ r. (r.0.down.log ≡ []) × (r.0.right.log ≡ [])) }
     ensures room { IfOk result (λ r. (r.0.down.capacity ≡ capacity) × (r.0.right.capacity ≡ capacity)) }
     ensures lists { IfOk result (λ r. (r.1.down ≡ r.0.down.identity) × (r.1.right ≡ r.0.right.identity)) }
@@ -59,7 +60,7 @@ fn payloads<B: RunCode>(
     count: u32,
 ) -> Result<Vec<Carried<B>>, NoMemory>
     requires code { code.now ≡ B.code }
-    ensures same { passes.new ≡ passes.old }
+    ensures unchanged { passes.new ≡ passes.old }
     ensures count { IfOk result (λ payloads. length payloads.items ≡ count) }
     ensures made { IfOk result (λ payloads. All (λ x. HasMachine x.machine (IsMadeFor B.code)) payloads.items) }
     ensures passes { IfOk result (λ payloads. All (λ x. x.passes ≡ passes.old) payloads.items) }

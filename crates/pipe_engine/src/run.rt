@@ -19,7 +19,7 @@ ghost use Rattle.program_laws.specs.ProgramHeadline.{HasNoProgramRace};
 ghost use Rattle.race_detection.specs.FoundReports.{found_reports};
 ghost use Rattle.serial_elision.specs.PartRuns.{Serves};
 ghost use Rattle.stage_interp.specs.MachineState.{IsMadeFor};
-ghost use Rattle.stage_interp.specs.Standing.{IsCodeOf};
+ghost use Rattle.stage_interp.specs.RemainingBehaviour.{IsCodeOf};
 
 use crate::carried::RunCode;
 use crate::ending::{LoopEnd, end_loop};

@@ -24,8 +24,8 @@ fn further_seats<'a, B: RunCode>(
     workers: u32,
     first: &mut HallSeat<'a, Carried<B>>,
 ) -> Result<Vec<HallSeat<'a, Carried<B>>>, NoMemory>
-    requires some { 0 < workers }
-    ensures same { first.new ≡ first.old }
+    requires positive { 0 < workers }
+    ensures unchanged { first.new ≡ first.old }
     ensures length { IfOk result (λ seats. vec_len seats + 1 ≡ workers) }
     ensures named { IfOk result (λ seats. All (λ seat. hall_name seat.hall ≡ hall_name first.old.hall) seats.items) }
 {

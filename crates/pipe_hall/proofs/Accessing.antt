@@ -21,7 +21,7 @@ use Rattle.pipe_frame.specs.Ties.{AreElementsOf, AreSeenLists, BelongsTo, HallNa
 use Rattle.run_laws.proofs.ListOrders.InsertionLists.{list_has_below}
 use Rattle.run_laws.proofs.ListOrders.LongerLogs.{longer_logs_keep_the_order}
 use Rattle.access_history.specs.declared.history.History.{History}
-use Rattle.access_history.specs.declared.history.Who.{Who}
+use Rattle.access_history.specs.declared.history.MarkedNode.{MarkedNode}
 use Rattle.access_history.specs.KeptInstances.{KeptAreIn}
 use Rattle.om_shared.proofs.SeenLogs.{log_prefix}
 use Rattle.pipe_hall.specs.SeatViews.{HallConstants, InstanceData, SeatView, ShardValue, constants_of}
@@ -110,7 +110,8 @@ can_begin v i x c a t knows l slot =
       there = there;
       own = ap (λ n. c % n) h.part.1 ∙ (sym number ∙ sym h.part.0);
       slot = omega (arith, there, room, number);
-      kept = all_kept _ _ _ (λ w o. subst (λ (u : Who). AreIn (down_list x.lists) (right_list x.lists) u.marks) (sym o.2) (h.seen o.0 o.1))
+      kept = all_kept _ _ _ (λ w o.
+          subst (λ (u : MarkedNode). AreIn (down_list x.lists) (right_list x.lists) u.marks) (sym o.2) (h.seen o.0 o.1))
           (h.histories (c / 16)).kept;
     }
 
@@ -150,7 +151,7 @@ run_one : (o : Option InstanceData) (l : List ShardEntry) (e : ShardEntry) → a
 run_one None l e = refl
 run_one (Some d) l e = ap (λ es. Some (after_entries d es)) (drop_more l e)
 
-module _ (who : Who) (f : TokenFields) (is : who ≡ record { node = at f.iteration f.index; marks = f.marks }) (now joined c : ℕ)
+module _ (who : MarkedNode) (f : TokenFields) (is : who ≡ record { node = at f.iteration f.index; marks = f.marks }) (now joined c : ℕ)
     (same_now : now ≡ f.now) (same_joined : joined ≡ f.joined) (write : Option ℤ) (x y : ShardValue) (old new : List Entry) where
   -- the shard is as before, or the access was made
   pub either_made : (o : Option Entry) (d : InstanceData) → d.fields ≡ f → IfNone o ((y ≡ x) × (new ≡ old))
@@ -158,13 +159,13 @@ module _ (who : Who) (f : TokenFields) (is : who ≡ record { node = at f.iterat
   either_made None d e h k = inl h.0
   either_made (Some a) d e h k =
       let w : who ≡ record { node = at d.fields.iteration d.fields.index; marks = d.fields.marks } = is
-      ∙ ap (λ (g : TokenFields). let u : Who = record { node = at g.iteration g.index; marks = g.marks } in u) (sym e) in
+      ∙ ap (λ (g : TokenFields). let u : MarkedNode = record { node = at g.iteration g.index; marks = g.marks } in u) (sym e) in
       inr (record {
         ticket = a.ticket;
         access = a.access;
         made = subst (λ n. IsMade (record { node = at d.fields.iteration d.fields.index; marks = d.fields.marks }) n a.ticket a.access x y)
             (same_joined ∙ ap (λ (g : TokenFields). g.joined) (sym e))
-            (subst (λ (u : Who). IsMade u joined a.ticket a.access x y) w k.made);
+            (subst (λ (u : MarkedNode). IsMade u joined a.ticket a.access x y) w k.made);
         own = ap (λ n. n % 16) k.cell;
         there = subst (λ n. n < x.cells.shard.cells) (sym k.cell) k.there;
         next = k.next ∙ ap (next_ticket x.last) (same_now ∙ ap (λ (g : TokenFields). g.now) (sym e));

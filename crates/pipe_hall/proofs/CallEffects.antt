@@ -20,7 +20,7 @@ use Rattle.pipe_frame.specs.Replies.{replies_of}
 use Rattle.pipe_frame.specs.Ties.{SeenLists}
 use Rattle.run_laws.proofs.LogMerge.InstanceTickets.{start_tickets-append}
 use Rattle.access_history.specs.declared.history.History.{History}
-use Rattle.access_history.specs.declared.history.Who.{Who}
+use Rattle.access_history.specs.declared.history.MarkedNode.{MarkedNode}
 use Rattle.access_history.specs.KeptInstances.{AgreeOn, AllKept}
 use Rattle.access_history.specs.KnownOrder.{AgreeOnKnown}
 use Rattle.frame_book.specs.BookStates.{BookState, IsOut, item_or, timed_access}
@@ -44,10 +44,10 @@ start_stays log added i k t e = subst (λ l. ticket_at l k ≡ Some t) (sym (sta
 
 -- ---- a history at equal marks
 
-pub all_kept : (P Q : Who → Type 0) (h : History) → ((w : Who) → P w → Q w) → AllKept P h → AllKept Q h
+pub all_kept : (P Q : MarkedNode → Type 0) (h : History) → ((w : MarkedNode) → P w → Q w) → AllKept P h → AllKept Q h
 all_kept P Q h f a = record { writer = by h.writer a.writer; rightmost = by h.rightmost a.rightmost; downmost = by h.downmost a.downmost }
   where
-    by : (o : Option Who) → IfSome o P → IfSome o Q
+    by : (o : Option MarkedNode) → IfSome o P → IfSome o Q
     by None p = tt
     by (Some w) p = f w p
 
@@ -55,15 +55,15 @@ module _ (marks marks' : NodeId → Marks) (joined joined' : NodeId → ℕ) (lo
     (same : (e : ShardEntry) → Among e log → marks' e.node ≡ marks e.node)
     (joins : (e : ShardEntry) → Among e log → joined' e.node ≡ joined e.node) where
   who_same : (e : ShardEntry) → Among e log → who_of marks' e ≡ who_of marks e
-  who_same e m = ap (λ (k : Marks). let w : Who = record { node = e.node; marks = k } in w) (same e m)
+  who_same e m = ap (λ (k : Marks). let w : MarkedNode = record { node = e.node; marks = k } in w) (same e m)
 
   cell_history_same : (lists : SeenLists) (c : ℕ) (h : History) → IsCellHistory marks joined lists log c h
       → IsCellHistory marks' joined' lists log c h
   cell_history_same lists c h q = record {
     kept = all_kept (IsOfLog marks log) (IsOfLog marks' log) h (λ w p. (p.0, p.1, p.2 ∙ sym (who_same p.0 p.1))) q.kept;
     after = λ down right agree known. q.after down right
-        (λ e f a b. subst (λ (x : Who). AgreeOn (down_list lists) (right_list lists) down right x (who_of marks f)) (who_same e a)
-        (subst (λ (y : Who). AgreeOn (down_list lists) (right_list lists) down right (who_of marks' e) y) (who_same f b)
+        (λ e f a b. subst (λ (x : MarkedNode). AgreeOn (down_list lists) (right_list lists) down right x (who_of marks f)) (who_same e a)
+        (subst (λ (y : MarkedNode). AgreeOn (down_list lists) (right_list lists) down right (who_of marks' e) y) (who_same f b)
         (agree e f a b)))
         (λ e f a b. subst (λ n. AgreeOnKnown (Some n) down right e.node f.node) (joins e a) (known e f a b));
   }

@@ -23,7 +23,7 @@ use Rattle.pipe_model.specs.Runs.TicketLogs.{TimedAction, TicketsRise}
 use Rattle.pipe_model.specs.Runs.TicketOrder.{start_ticket_of}
 use Rattle.pipe_model.proofs.Members.{among_left, among_right, among_either, among_at, none_among, only_one}
 use Rattle.pipe_frame.specs.Ties.{SeenLists}
-use Rattle.access_history.specs.declared.history.Who.{Who}
+use Rattle.access_history.specs.declared.history.MarkedNode.{MarkedNode}
 use Rattle.access_history.specs.KeptInstances.{AgreeOn, IsEither, IsHistoryAfter}
 use Rattle.access_history.specs.KnownOrder.{AgreeOnKnown}
 use Rattle.cell_store.specs.ShardState.{IsStateAfter}
@@ -129,7 +129,7 @@ last_more (f ∷ (g ∷ es)) e = last_more (g ∷ es) e
 -- ---- the shard
 
 module _ (before : List Access) (store : InitialStore) (marks : NodeId → Marks) (joined : NodeId → ℕ) (k : ℕ) (x y : ShardValue)
-    (who : Who) (index ticket : ℕ) (a : Access)
+    (who : MarkedNode) (index ticket : ℕ) (a : Access)
     (h : IsShardOf before store marks joined k x) (q : IsAccessed who index ticket a x y) (own : a.cell.0 % 16 ≡ k)
     (declared : a.cell.0 < x.cells.shard.cells) (mine : who.marks ≡ marks who.node) (joins : index ≡ joined who.node)
     (known : AreIn (down_list x.lists) (right_list x.lists) who.marks) (later : x.last < ticket) (bound : ticket ≤ 2 ^ 62) where
@@ -143,7 +143,7 @@ module _ (before : List Access) (store : InitialStore) (marks : NodeId → Marks
   in_new = subst (λ l. Among e l) (sym q.log) (among_right e x.log (e ∷ []) Here)
 
   who_is : who ≡ who_of marks e
-  who_is = ap (λ (m : Marks). let w : Who = record { node = who.node; marks = m } in w) mine
+  who_is = ap (λ (m : Marks). let w : MarkedNode = record { node = who.node; marks = m } in w) mine
 
   accesses_are : before ++ accesses_of y.log ≡ (before ++ accesses_of x.log) ++ a ∷ []
   accesses_are = ap (λ l. before ++ accesses_of l) q.log
@@ -167,10 +167,10 @@ module _ (before : List Access) (store : InitialStore) (marks : NodeId → Marks
   known_old : (down right : NodeId → ℕ) → AgreeOnKnownLog joined y.log down right → AgreeOnKnownLog joined x.log down right
   known_old down right known f g mf mg = known f g (in_old f mf) (in_old g mg)
 
-  kept_old : (w : Who) → IsOfLog marks x.log w → IsOfLog marks y.log w
+  kept_old : (w : MarkedNode) → IsOfLog marks x.log w → IsOfLog marks y.log w
   kept_old w p = (p.0, in_old p.0 p.1, p.2)
 
-  kept_new : (o p : Option Who) → IfSome o (IsOfLog marks x.log) → IfSome p (IsEither o who) → IfSome p (IsOfLog marks y.log)
+  kept_new : (o p : Option MarkedNode) → IfSome o (IsOfLog marks x.log) → IfSome p (IsEither o who) → IfSome p (IsOfLog marks y.log)
   kept_new o None ho hp = tt
   kept_new o (Some w) ho hp = ⊎_elim (λ (s : w ≡ who). (e, in_new, s ∙ who_is))
       (λ (s : o ≡ Some w). kept_old w (subst (λ z. IfSome z (IsOfLog marks x.log)) s ho)) hp
@@ -213,18 +213,18 @@ module _ (before : List Access) (store : InitialStore) (marks : NodeId → Marks
             (noted_to (k + 16 * slot) x.log) (old.after down right (agree_old down right agree) (known_old down right known)));
       }
     where
-      known_kept : (down right : NodeId → ℕ) → AgreeOnKnownLog joined y.log down right → (w : Who) → IsOfLog marks x.log w
+      known_kept : (down right : NodeId → ℕ) → AgreeOnKnownLog joined y.log down right → (w : MarkedNode) → IsOfLog marks x.log w
           → AgreeOnKnown (Some index) down right who.node w.node
       known_kept down right known w p =
           subst (λ n. AgreeOnKnown (Some n) down right who.node w.node) (sym joins)
-          (subst (λ (u : Who). AgreeOnKnown (Some (joined who.node)) down right who.node u.node) (sym p.2)
+          (subst (λ (u : MarkedNode). AgreeOnKnown (Some (joined who.node)) down right who.node u.node) (sym p.2)
           (known e p.0 in_new (in_old p.0 p.1)))
 
-      agree_kept : (down right : NodeId → ℕ) → AgreeOnLog marks y.lists y.log down right → (w : Who) → IsOfLog marks x.log w
+      agree_kept : (down right : NodeId → ℕ) → AgreeOnLog marks y.lists y.log down right → (w : MarkedNode) → IsOfLog marks x.log w
           → AgreeOn (down_list x.lists) (right_list x.lists) down right who w
       agree_kept down right agree w p =
           let both = agree e p.0 in_new (in_old p.0 p.1) in
-          let w' : Who = who_of marks p.0 in
+          let w' : MarkedNode = who_of marks p.0 in
           let there = h.seen p.0 p.1 in
           let mark : AreIn (down_list x.lists) (right_list x.lists) (marks who.node) =
           subst (λ (m : Marks). AreIn (down_list x.lists) (right_list x.lists) m) mine known in
@@ -234,8 +234,8 @@ module _ (before : List Access) (store : InitialStore) (marks : NodeId → Marks
             in_down = ((λ z. both.in_down.0 (d.1 z)), (λ z. d.0 (both.in_down.1 z)));
             in_right = ((λ z. both.in_right.0 (r.1 z)), (λ z. r.0 (both.in_right.1 z)));
           } in
-          subst (λ (u : Who). AgreeOn (down_list x.lists) (right_list x.lists) down right u w) (sym who_is)
-          (subst (λ (u : Who). AgreeOn (down_list x.lists) (right_list x.lists) down right (who_of marks e) u) (sym p.2) old)
+          subst (λ (u : MarkedNode). AgreeOn (down_list x.lists) (right_list x.lists) down right u w) (sym who_is)
+          (subst (λ (u : MarkedNode). AgreeOn (down_list x.lists) (right_list x.lists) down right (who_of marks e) u) (sym p.2) old)
 
   pub shard_accessed : IsShardOf before store marks joined k y
   shard_accessed = record {

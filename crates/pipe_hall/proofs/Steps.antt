@@ -26,7 +26,7 @@ use Rattle.pipe_frame.specs.TokenFields.{fields_of}
 use Rattle.pipe_frame.specs.declared.token.FrameToken.{FrameToken}
 use Rattle.run_laws.proofs.ListOrders.SoundStarts.{control_starts_sound}
 use Rattle.run_laws.proofs.RunStates.Frames.{nodes_at_frame}
-use Rattle.access_history.specs.declared.history.Who.{Who}
+use Rattle.access_history.specs.declared.history.MarkedNode.{MarkedNode}
 use Rattle.frame_book.specs.BookStates.{BookState, IsOut, events_of, state_of}
 use Rattle.pipe_hall.specs.SeatViews.{HallConstants, HallStart, InstanceData, ShardValue, SlotValue, TheBook, TheShard, constants_of}
 use Rattle.pipe_hall.specs.SeatViews.{nothing_known}
@@ -385,7 +385,7 @@ module _ (M : Type 0) (start : HallStart) where
       let r = h.board.right id v at in
       let here = (r.run d run).0 in
       let ir = (h.has_seats.run i d here).1 in
-      let who : Who = record { node = node i d.fields.index; marks = d.fields.marks } in
+      let who : MarkedNode = record { node = node i d.fields.index; marks = d.fields.marks } in
       let x = h.shard k in
       let past_shard = next_after_shard x.last d.fields.now g.ticket g.next in
       let past_now = next_after_now x.last d.fields.now g.ticket g.next in

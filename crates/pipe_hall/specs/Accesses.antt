@@ -12,7 +12,7 @@ use Rattle.pipe_model.specs.Races.Columns.{at}
 use Rattle.pipe_frame.specs.Ties.{SeenLists}
 use Rattle.cell_store.specs.ShardState.{IsStateAfter, IsOfShard}
 use Rattle.access_history.specs.declared.history.History.{History}
-use Rattle.access_history.specs.declared.history.Who.{Who}
+use Rattle.access_history.specs.declared.history.MarkedNode.{MarkedNode}
 use Rattle.access_history.specs.KeptInstances.{AgreeOnKept, IsHistoryAfter, KeepsAmong, KeptAreIn}
 use Rattle.access_history.specs.KnownOrder.{AgreeOnKnownKept}
 use Rattle.pipe_hall.specs.SeatViews.{InstanceData, ShardValue}
@@ -38,14 +38,14 @@ pub record CanBegin (x : ShardValue) (c : ℕ) : Type 0 where
 
 -- one more access is noted, by any orders that agree with the lists, and that have a kept instance before this one where it counts so
 -- without a question: above it, or in the left column at an index of at most `joined`
-abbrev pub IsNotedStep : Who → ℕ → AccessKind → SeenLists → History → History → Type 0
+abbrev pub IsNotedStep : MarkedNode → ℕ → AccessKind → SeenLists → History → History → Type 0
 IsNotedStep who joined kind old h k = (down right : NodeId → ℕ) → AgreeOnKept (down_list old) (right_list old) down right who h
     → AgreeOnKnownKept (Some joined) down right who.node h
     → (accesses : List NotedAccess) → IsHistoryAfter down right accesses h → IsHistoryAfter down right
     (accesses ++ noted_access who.node kind ∷ []) k
 
 -- one more access is noted in the history at a slot
-pub record IsNoted (who : Who) (joined : ℕ) (kind : AccessKind) (slot : ℕ) (old new : SeenLists)
+pub record IsNoted (who : MarkedNode) (joined : ℕ) (kind : AccessKind) (slot : ℕ) (old new : SeenLists)
     (histories after : List History) : Type 0 where
   pub lists : GrowLists old new
   pub len : length after ≡ length histories
@@ -54,7 +54,7 @@ pub record IsNoted (who : Who) (joined : ℕ) (kind : AccessKind) (slot : ℕ) (
   pub step : IsNotedStep who joined kind old (history_at histories slot) (history_at after slot)
 
 -- the access is made, at this ticket
-pub record IsAccessed (who : Who) (joined ticket : ℕ) (a : Access) (x y : ShardValue) : Type 0 where
+pub record IsAccessed (who : MarkedNode) (joined ticket : ℕ) (a : Access) (x y : ShardValue) : Type 0 where
   pub number : y.number ≡ x.number
   pub part : y.cells.shard ≡ x.cells.shard
   pub cells : (store : InitialStore) (before : List Access) → IsStateAfter store before x.cells
@@ -65,7 +65,7 @@ pub record IsAccessed (who : Who) (joined ticket : ℕ) (a : Access) (x y : Shar
   pub noted : IsNoted who joined a.kind (a.cell.0 / 16) x.lists y.lists x.histories y.histories
 
 -- the same, after the shard's passes have seen what the token's passes had seen
-pub record IsMade (who : Who) (joined ticket : ℕ) (a : Access) (x y : ShardValue) : Type 0 where
+pub record IsMade (who : MarkedNode) (joined ticket : ℕ) (a : Access) (x y : ShardValue) : Type 0 where
   pub met : SeenLists
   pub grown : GrowLists x.lists met
   pub known : AreIn (down_list met) (right_list met) who.marks
@@ -86,7 +86,8 @@ pub record MadeBy (d : InstanceData) (k : ℕ) (x y : ShardValue) : Type 0 where
   pub bound : ticket ≤ 2 ^ 62
 
 -- the access that was asked for is made, with the next ticket, and is in the trace
-pub record IsMadeNow (who : Who) (joined now c : ℕ) (write : Option ℤ) (x y : ShardValue) (old new : List Entry) (e : Entry) : Type 0 where
+pub record IsMadeNow (who : MarkedNode) (joined now c : ℕ) (write : Option ℤ) (x y : ShardValue) (old new : List Entry)
+    (e : Entry) : Type 0 where
   pub asked : IsAsked c write e.access
   pub cell : e.access.cell.0 ≡ c
   pub made : IsMade who joined e.ticket e.access x y

@@ -14,7 +14,7 @@ use Rattle.pipe_model.specs.Races.DeterminacyRaces.{Among}
 use Rattle.pipe_frame.specs.Ties.{SeenLists}
 use Rattle.cell_store.specs.ShardState.{IsStateAfter}
 use Rattle.access_history.specs.declared.history.History.{History}
-use Rattle.access_history.specs.declared.history.Who.{Who}
+use Rattle.access_history.specs.declared.history.MarkedNode.{MarkedNode}
 use Rattle.access_history.specs.KeptInstances.{AgreeOn, AllKept, IsHistoryAfter, nothing_kept}
 use Rattle.access_history.specs.KnownOrder.{AgreeOnKnown}
 use Rattle.frame_book.specs.BookStates.{BookState, events_of}
@@ -30,7 +30,7 @@ abbrev pub right_list : SeenLists → List ℕ
 right_list l = list_of_log l.right_log
 
 -- the instance of an entry, with its marks
-abbrev pub who_of : (NodeId → Marks) → ShardEntry → Who
+abbrev pub who_of : (NodeId → Marks) → ShardEntry → MarkedNode
 who_of marks e = record { node = e.node; marks = marks e.node }
 
 -- two orders agree with the lists on any two instances of the log
@@ -44,7 +44,7 @@ AgreeOnKnownLog joined log down right = (e f : ShardEntry) → Among e log → A
     (Some (joined e.node)) down right e.node f.node
 
 -- a kept instance has made one of the accesses in the log
-abbrev pub IsOfLog : (NodeId → Marks) → List ShardEntry → Who → Type 0
+abbrev pub IsOfLog : (NodeId → Marks) → List ShardEntry → MarkedNode → Type 0
 IsOfLog marks log w = (e : ShardEntry) × Among e log × (w ≡ who_of marks e)
 
 -- the history of cell c has noted the accesses in the log, by any two orders that agree with the lists and with what is known without them

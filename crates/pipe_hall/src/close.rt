@@ -135,7 +135,7 @@ pub fn close<R: Wait, M: Carrier>(
     hall: HallOf<M>,
     key: HallKey<M>,
 ) -> Result<HallEnd<M>, NoMemory>
-    requires same { IsSameHall key.hall hall.hall }
+    requires same_hall { IsSameHall key.hall hall.hall }
     ensures len { IfOk result (λ end. length end.shards.items ≡ 16) }
     ensures constants { IfOk result (λ end. hall.hall.constants ≡ Some (constants_of end.book)) }
     ensures ended { IfOk result (λ end. EndedHall (start_of end.book hall.before) key.seen end.book (shard_in end.shards.items)) }

@@ -25,7 +25,7 @@ use crate::shard::SHARDS;
 use crate::slot::Slot;
 use crate::view::View;
 use crate::worker::{stop_at, take_seat_of};
-use access_history::history::Who;
+use access_history::history::MarkedNode;
 use atomic_table::Seat;
 use order_2d::two_passes::TwoPasses;
 use pipe_frame::results::Reply;
@@ -40,7 +40,7 @@ fn access_by<R: Wait, M: Carrier>(
     rt: &R,
     hall: &Locks<M>,
     run: &mut Seat<Slot<M>, View>,
-    who: Who,
+    who: MarkedNode,
     joined: u32,
     now: u64,
     passes: &mut TwoPasses,
@@ -89,7 +89,7 @@ fn access_for<R: Wait, M: Carrier>(
     ensures trace { TraceAfter cell.0 write trace.old trace.new result }
     ensures token { token.new ≡ record token.old { now = now_after token.old.now result } }
 {
-    let who = Who {
+    let who = MarkedNode {
         node: NodeId {
             iteration: token.iteration,
             index: token.index,

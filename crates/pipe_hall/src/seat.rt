@@ -149,7 +149,7 @@ impl<'a, M: Carrier> Hall<M> for HallSeat<'a, M> {
 impl<'a, M: Carrier> HallSeat<'a, M> {
     /// Returns the seat beside its hall, of which the key must be.
     pub fn new(hall: &'a HallOf<M>, key: HallKey<M>) -> HallSeat<'a, M>
-        requires same { IsSameHall key.hall hall.now.hall }
+        requires same_hall { IsSameHall key.hall hall.now.hall }
         ensures { result ≡ key }
     {
         let HallKey { seat } = key;
@@ -166,7 +166,7 @@ impl<'a, M: Carrier> HallSeat<'a, M> {
 
     /// Returns a seat for a further worker, which has seen the same. It has given no token.
     pub fn split(&mut self) -> HallSeat<'a, M>
-        ensures same { self.new ≡ self.old }
+        ensures unchanged { self.new ≡ self.old }
         ensures new { result ≡ record self.old { tokens = no_tokens } }
     {
         let hall = self.hall;
@@ -178,7 +178,7 @@ impl<'a, M: Carrier> HallSeat<'a, M> {
     /// Takes in the seat of a worker of the same hall that has nothing to do any more. It has then
     /// seen what either had seen, and its tokens are those of both.
     pub fn join(&mut self, other: HallKey<M>)
-        requires same { IsSameHall other.hall self.old.hall }
+        requires same_hall { IsSameHall other.hall self.old.hall }
         ensures hall { self.new.hall ≡ self.old.hall }
         ensures own { BeginsWith self.new.seen self.old.seen }
         ensures theirs { BeginsWith self.new.seen other.seen }

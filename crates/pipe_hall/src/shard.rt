@@ -11,7 +11,7 @@ ghost use Rattle.pipe_hall.specs.ShardParts.{down_list, right_list, history_at};
 ghost use Rattle.access_history.specs.KeptInstances.{KeepsAmong, KeptAreIn};
 ghost use Rattle.pipe_model.specs.Orders.GrowingLists.{AreIn, KeepsOrder};
 
-use access_history::history::{Found, History, Who};
+use access_history::history::{Found, History, MarkedNode};
 use cell_store::cells::Cells;
 use cell_store::law::other_accesses_change_nothing;
 use frame_book::book::Book;
@@ -110,7 +110,7 @@ fn note_at<R: Wait>(
     rt: &R,
     history: &mut History,
     passes: &mut TwoPasses,
-    who: Who,
+    who: MarkedNode,
     joined: u32,
     kind: AccessKind,
 )
@@ -131,7 +131,7 @@ fn note_in<R: Wait>(
     histories: &mut Vec<History>,
     passes: &mut TwoPasses,
     slot: usize,
-    who: Who,
+    who: MarkedNode,
     joined: u32,
     kind: AccessKind,
 )
@@ -148,7 +148,7 @@ impl Shard {
     pub(crate) fn access<R: Wait>(
         &mut self,
         rt: &R,
-        who: Who,
+        who: MarkedNode,
         joined: u32,
         now: u64,
         cell: CellId,

@@ -61,7 +61,7 @@ fn empty_histories(alloc: Global, count: u32, number: u32) -> Result<Vec<History
     requires { number < 16 }
     ensures empty { IfOk result (λ histories. (slot : ℕ) → history_at histories.items slot ≡ nothing_kept) }
     ensures room { IfOk result (λ histories. count ≤ number + 16 * length histories.items) }
-    ensures few { IfOk result (λ histories. number + 16 * length histories.items < count + 16) }
+    ensures bounded { IfOk result (λ histories. number + 16 * length histories.items < count + 16) }
 {
     let own = count.saturating_sub(number).div_ceil(SHARDS);
     Ok(vec![in alloc; History::new(); own as usize]?)
@@ -84,7 +84,7 @@ impl Shard {
         ensures cells { IfOk result (λ shard. IsStateAfter (store_of (tree_of checked.now)) before.now shard.cells) }
         ensures histories { IfOk result (λ shard. (slot : ℕ) → history_at shard.histories slot ≡ nothing_kept) }
         ensures room { IfOk result (λ shard. shard.cells.shard.cells ≤ number + 16 * length shard.histories) }
-        ensures few { IfOk result (λ shard. number + 16 * length shard.histories < shard.cells.shard.cells + 16) }
+        ensures bounded { IfOk result (λ shard. number + 16 * length shard.histories < shard.cells.shard.cells + 16) }
         ensures log { IfOk result (λ shard. shard.log ≡ []) }
         ensures last { IfOk result (λ shard. shard.last ≡ 0) }
         ensures lists { IfOk result (λ shard. shard.lists ≡ passes) }

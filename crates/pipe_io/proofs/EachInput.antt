@@ -54,7 +54,7 @@ blank_or_not b = by_test (is_blank b) refl
 -- this holds after a `-`, or without one
 signed_or_flaw : (is_negative : Bool) (ds : List ℕ) (before : ℕ) → before ≤ MOST_NUMBERS → (is_negative ≡ false → BeginsPlain ds)
     → NumeralOrFlaw (with_sign is_negative ds) before
-signed_or_flaw is_negative ds before few plain = by_count (cases_lt 0 (prefix_len is_digit ds))
+signed_or_flaw is_negative ds before bounded plain = by_count (cases_lt 0 (prefix_len is_digit ds))
   where
     by_end : 0 < prefix_len is_digit ds → before < MOST_NUMBERS
         → FitsI64 (signed is_negative (number_of (take (prefix_len is_digit ds) ds)))
@@ -82,7 +82,7 @@ signed_or_flaw is_negative ds before few plain = by_count (cases_lt 0 (prefix_le
     by_room : 0 < prefix_len is_digit ds → (before < MOST_NUMBERS) ⊎ (MOST_NUMBERS ≤ before)
         → NumeralOrFlaw (with_sign is_negative ds) before
     by_room some (inl room) = by_value some room (fits_or_not is_negative (number_of (take (prefix_len is_digit ds) ds)))
-    by_room some (inr full) = inr (_, one_more is_negative ds before (prefix_len is_digit ds) refl some (omega (arith, full, few)))
+    by_room some (inr full) = inr (_, one_more is_negative ds before (prefix_len is_digit ds) refl some (omega (arith, full, bounded)))
 
     by_count : (0 < prefix_len is_digit ds) ⊎ (prefix_len is_digit ds ≤ 0) → NumeralOrFlaw (with_sign is_negative ds) before
     by_count (inl some) = by_room some (cases_lt before MOST_NUMBERS)
@@ -95,13 +95,13 @@ signed_or_flaw is_negative ds before few plain = by_count (cases_lt 0 (prefix_le
 -- this holds whatever the first byte is, if it is no separator
 numeral_or_flaw : (b : ℕ) (following : List ℕ) (before : ℕ) → before ≤ MOST_NUMBERS → is_blank b ≡ false
     → NumeralOrFlaw (b ∷ following) before
-numeral_or_flaw b following before few no_blank = by_sign (b == minus) refl
+numeral_or_flaw b following before bounded no_blank = by_sign (b == minus) refl
   where
     by_sign : (t : Bool) → (b == minus) ≡ t → NumeralOrFlaw (b ∷ following) before
     by_sign true e =
         let same : b ≡ minus = grind (arith, nat_tests, e) in
-        rw same (signed_or_flaw true following before few (λ h. absurd (false≢true (sym h))))
-    by_sign false e = signed_or_flaw false (b ∷ following) before few (λ h. (no_blank, e))
+        rw same (signed_or_flaw true following before bounded (λ h. absurd (false≢true (sym h))))
+    by_sign false e = signed_or_flaw false (b ∷ following) before bounded (λ h. (no_blank, e))
 
 -- ---- whole inputs
 
@@ -123,7 +123,7 @@ goes_on bound bytes found [] h r = inl (found, at_end bytes found r)
 goes_on zero bytes found (b ∷ following) h r = absurd (omega arith)
 goes_on (suc bound) bytes found (b ∷ following) h r = elim (blank_or_not b) [
   | inl blank ↦ goes_on bound bytes found following (omega (arith, h)) (past_separator bytes (b ∷ following) following found b r refl blank)
-  | inr no_blank ↦ elim (numeral_or_flaw b following (length found) r.few no_blank) [
+  | inr no_blank ↦ elim (numeral_or_flaw b following (length found) r.bounded no_blank) [
     | inl p ↦ (
         let some = p.1.some in
         goes_on bound bytes (found ++ p.0.value ∷ []) (drop p.0.length (b ∷ following))

@@ -84,15 +84,15 @@ one_more b ds before m counted some full = OneMore _ _ _ full (begins b ds m cou
 -- a number that is too wide
 pub wide : (b : Bool) (ds : List ℕ) (before m : ℕ) → m ≡ prefix_len is_digit ds → 0 < m → before < MOST_NUMBERS
     → (FitsI64 (signed b (number_of (take m ds))) → ⊥) → IsFlaw (with_sign b ds) before flaws.TooWide
-wide b ds before m counted some few never = WideNumber _ _ _ few (begins b ds m counted some) never
+wide b ds before m counted some bounded never = WideNumber _ _ _ bounded (begins b ds m counted some) never
 
 -- a number that a bad byte follows
 pub cut : (b : Bool) (ds : List ℕ) (before sign m : ℕ) (v : ℤ) → m ≡ prefix_len is_digit ds → 0 < m → before < MOST_NUMBERS
     → sign ≡ cond b 1 0
     → v ≡ signed b (number_of (take m ds)) → FitsI64 v
     → (EndsNumber (drop m ds) → ⊥) → IsFlaw (with_sign b ds) before (flaws.BadByte (sign + m))
-cut b ds before sign m v counted some few s value fits never =
-    rw (signed_length b ds sign m counted s) (CutNumber _ _ _ few (begins b ds m counted some) (rw value at fits) never)
+cut b ds before sign m v counted some bounded s value fits never =
+    rw (signed_length b ds sign m counted s) (CutNumber _ _ _ bounded (begins b ds m counted some) (rw value at fits) never)
 
 -- a number that a separator or the end follows
 pub numeral : (b : Bool) (ds : List ℕ) (sign m : ℕ) (v : ℤ) → m ≡ prefix_len is_digit ds → 0 < m → sign ≡ cond b 1 0

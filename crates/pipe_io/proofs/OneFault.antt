@@ -108,15 +108,15 @@ flaw_no_blank b bs (CutNumber t x n c s w u) e = not_blank b bs t x n s.value (s
 pub no_more_numbers : {a rest end : List ℕ} {k : ℕ} {f : Flaw} {others : List ℤ} → IsFlaw rest k f → ListsNumbers a others end → a ≡ rest
     → k + length others ≤ MOST_NUMBERS → All FitsI64 others
     → (others ≡ []) × (rest ≡ end)
-no_more_numbers h (EndsHere r) e few narrow = (refl, sym e)
-no_more_numbers h (Separator b p d) e few narrow = let bad : true ≡ false = sym p ∙ flaw_no_blank b _ h (sym e) in cc (bad)
-no_more_numbers {rest = rest} (StrayByte h) (Number t n v s d) e few narrow = absurd (no_number_there rest t _ n h v (sym e))
-no_more_numbers {rest = rest} (BareMinus h) (Number t n v s d) e few narrow = absurd (no_number_at_minus rest t _ n h v (sym e))
-no_more_numbers (OneMore t' x n' c g) (Number t n v s d) e few narrow = absurd (omega (arith, c, few))
-no_more_numbers (WideNumber t' x n' c g w) (Number {bytes = y} t n v s d) e few narrow =
+no_more_numbers h (EndsHere r) e bounded narrow = (refl, sym e)
+no_more_numbers h (Separator b p d) e bounded narrow = let bad : true ≡ false = sym p ∙ flaw_no_blank b _ h (sym e) in cc (bad)
+no_more_numbers {rest = rest} (StrayByte h) (Number t n v s d) e bounded narrow = absurd (no_number_there rest t _ n h v (sym e))
+no_more_numbers {rest = rest} (BareMinus h) (Number t n v s d) e bounded narrow = absurd (no_number_at_minus rest t _ n h v (sym e))
+no_more_numbers (OneMore t' x n' c g) (Number t n v s d) e bounded narrow = absurd (omega (arith, c, bounded))
+no_more_numbers (WideNumber t' x n' c g w) (Number {bytes = y} t n v s d) e bounded narrow =
     let same = one_number {u = t} {y = y} g (record { parts = sym e; value = v; whole = no_digit_after _ s }) in
     absurd (w (subst FitsI64 (sym same.2) (narrow 0 n (omega arith))))
-no_more_numbers (CutNumber t' x n' c g fits u) (Number {bytes = y} t n v s d) e few narrow =
+no_more_numbers (CutNumber t' x n' c g fits u) (Number {bytes = y} t n v s d) e bounded narrow =
     let same = one_number {u = t} {y = y} g (record { parts = sym e; value = v; whole = no_digit_after _ s }) in
     absurd (u (subst EndsNumber (sym same.1) s))
 
@@ -177,9 +177,9 @@ all_after (x ∷ xs) ys h = all_after xs ys (λ k d lt. h (suc k) d (omega (arit
 no_further : {bytes : List ℕ} {fault : InputFault} (end : List ℕ) (numbers : List ℤ) → (h : IsFlawed bytes fault)
     → Continues (drop h.place bytes) end h.before numbers → length numbers ≤ MOST_NUMBERS → All FitsI64 numbers
     → (numbers ≡ h.before) × (drop h.place bytes ≡ end)
-no_further end numbers h g few narrow =
+no_further end numbers h g bounded narrow =
     let parts : numbers ≡ h.before ++ g.0 = g.1 in
-    let count : length h.before + length g.0 ≤ MOST_NUMBERS = rw (← length-append h.before g.0, ← parts) few in
+    let count : length h.before + length g.0 ≤ MOST_NUMBERS = rw (← length-append h.before g.0, ← parts) bounded in
     let fits : All FitsI64 (h.before ++ g.0) = rw parts at narrow in
     let s = no_more_numbers h.wrong g.2 refl count (all_after h.before g.0 fits) in
     (parts ∙ ap (λ x. h.before ++ x) s.0 ∙ append-nil h.before, s.1)
@@ -196,9 +196,9 @@ one_fault_at {bytes} {f} {g} a b = by_side (one_continues a.reached.listed b.rea
 
     by_side : Continues (drop a.place bytes) (drop b.place bytes) a.before b.before
         ⊎ Continues (drop b.place bytes) (drop a.place bytes) b.before a.before → f ≡ g
-    by_side (inl s) = let e = no_further (drop b.place bytes) b.before a s b.reached.few b.reached.narrow in
+    by_side (inl s) = let e = no_further (drop b.place bytes) b.before a s b.reached.bounded b.reached.narrow in
         at_one e.1 (ap length (sym e.0))
-    by_side (inr s) = let e = no_further (drop a.place bytes) a.before b s a.reached.few a.reached.narrow in
+    by_side (inr s) = let e = no_further (drop a.place bytes) a.before b s a.reached.bounded a.reached.narrow in
         at_one (sym e.1) (ap length e.0)
 
 -- no number is written by no bytes
@@ -238,7 +238,7 @@ numbers_have_no_fault {bytes} {f} {numbers} h a = by_kind (flawed h)
   where
     by_side : (x : IsFlawed bytes f) → Continues (drop x.place bytes) [] x.before numbers ⊎ Continues []
         (drop x.place bytes) numbers x.before → ⊥
-    by_side x (inl s) = byte_there x.wrong (no_further [] numbers x s a.few a.narrow).1
+    by_side x (inl s) = byte_there x.wrong (no_further [] numbers x s a.bounded a.narrow).1
     by_side x (inr s) = byte_there x.wrong (nothing_left s.2 refl)
 
     by_kind : ((f ≡ faults.TooLong) × (LONGEST_INPUT < length bytes)) ⊎ IsFlawed bytes f → ⊥

@@ -18,7 +18,7 @@ pub record Reaches (bytes : List ℕ) (found : List ℤ) (rest : List ℕ) : Typ
   pub within : place + length rest ≡ length bytes
   pub here : drop place bytes ≡ rest
   pub keeps : (others : List ℤ) (end : List ℕ) → ListsNumbers rest others end → ListsNumbers bytes (found ++ others) end
-  pub few : length found ≤ MOST_NUMBERS
+  pub bounded : length found ≤ MOST_NUMBERS
   pub narrow : All FitsI64 found
 
 -- at the beginning no number is found
@@ -29,7 +29,7 @@ at_start bytes short = record {
   within = omega arith;
   here = refl;
   keeps = λ others end d. d;
-  few = omega arith;
+  bounded = omega arith;
   narrow = λ k d h. absurd (omega arith);
 }
 
@@ -42,7 +42,7 @@ past_separator bytes rest following found b r e blank = record {
   within = omega (arith, r.within, ap length e);
   here = sym (drop-drop 1 r.place bytes) ∙ ap (λ x. drop 1 x) (r.here ∙ e);
   keeps = λ others end d. r.keeps others end (rw e (Separator b blank d));
-  few = r.few;
+  bounded = r.bounded;
   narrow = r.narrow;
 }
 
@@ -61,7 +61,7 @@ lists_past rest text following n others end e value ends d = rw e (Number text n
 pub past_number : (bytes rest : List ℕ) (found : List ℤ) (numeral : Numeral) → Reaches bytes found rest → IsNumeralOf rest numeral
     → length found < MOST_NUMBERS
     → Reaches bytes (found ++ numeral.value ∷ []) (drop numeral.length rest)
-past_number bytes rest found numeral r p few =
+past_number bytes rest found numeral r p bounded =
     let n = numeral.length in
     let long : n ≤ length rest = parts_within rest p.text (drop n rest) p.number.parts p.measured in
     record {
@@ -72,7 +72,7 @@ past_number bytes rest found numeral r p few =
       keeps = λ others end d. rw (append_assoc found (numeral.value ∷ []) others)
           (r.keeps (numeral.value ∷ others) end (lists_past rest p.text (drop n rest) numeral.value others end p.number.parts p.number.value
           p.ends d));
-      few = rw (one_longer found numeral.value) few;
+      bounded = rw (one_longer found numeral.value) bounded;
       narrow = All-push FitsI64 found numeral.value r.narrow p.narrow;
     }
   where
@@ -88,7 +88,7 @@ pub at_end : (bytes : List ℕ) (found : List ℤ) → Reaches bytes found [] �
 at_end bytes found r = record {
   short = r.short;
   listed = subst (λ x. ListsNumbers bytes x []) (append-nil found) (r.keeps [] [] (EndsHere []));
-  few = r.few;
+  bounded = r.bounded;
   narrow = r.narrow;
 }
 
@@ -98,7 +98,7 @@ reached bytes rest found r = record {
   short = r.short;
   within = omega (arith, r.within);
   listed = rw r.here (subst (λ x. ListsNumbers bytes x rest) (append-nil found) (r.keeps [] rest (EndsHere rest)));
-  few = r.few;
+  bounded = r.bounded;
   narrow = r.narrow;
 }
 
@@ -113,7 +113,8 @@ at_flaw bytes rest found flaw place r f e = let same : place ≡ r.place = omega
         rw none (HasStrayByte r.place found (reached bytes rest found r) (rw r.here h))
     by_flaw (BareMinus h) = HasBareMinus r.place found (reached bytes rest found r) (rw r.here h)
     by_flaw (OneMore text following n full h) = HasTooMany r.place found text following n (reached bytes rest found r) full (rw r.here h)
-    by_flaw (WideNumber text following n few h never) = HasWideNumber r.place found text following n (reached bytes rest found r) few
+    by_flaw (WideNumber text following n bounded h never) =
+        HasWideNumber r.place found text following n (reached bytes rest found r) bounded
         (rw r.here h) never
-    by_flaw (CutNumber text following n few h fits never) =
-        HasCutNumber r.place found text following n (reached bytes rest found r) few (rw r.here h) fits never
+    by_flaw (CutNumber text following n bounded h fits never) =
+        HasCutNumber r.place found text following n (reached bytes rest found r) bounded (rw r.here h) fits never

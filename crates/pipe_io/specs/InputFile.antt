@@ -50,7 +50,7 @@ FitsI64 n = (neg_ℤ (pos (2 ^ 63)) ≤ℤ n) × (n ≤ℤ pos (2 ^ 63 - 1))
 pub record AreNumbersOf (bytes : List ℕ) (numbers : List ℤ) : Type 0 where
   pub short : length bytes ≤ LONGEST_INPUT
   pub listed : ListsNumbers bytes numbers []
-  pub few : length numbers ≤ MOST_NUMBERS
+  pub bounded : length numbers ≤ MOST_NUMBERS
   pub narrow : All FitsI64 numbers
 
 -- ---- faults
@@ -60,7 +60,7 @@ pub record IsReached (bytes : List ℕ) (place : ℕ) (numbers : List ℤ) : Typ
   pub short : length bytes ≤ LONGEST_INPUT
   pub within : place ≤ length bytes
   pub listed : ListsNumbers bytes numbers (drop place bytes)
-  pub few : length numbers ≤ MOST_NUMBERS
+  pub bounded : length numbers ≤ MOST_NUMBERS
   pub narrow : All FitsI64 numbers
 
 -- the bytes begin with a digit

@@ -69,7 +69,7 @@ fn first_named<'a>(files: &'a [(String, Bytes)], name: &str) -> Option<&'a [u8]>
 // Copies the bytes from offset `place` to the start of `part`, and returns their number.
 fn copy_part(bytes: &[u8], place: u64, most: u32, part: &mut [u8]) -> u32
     requires room { 0 < length part.old }
-    requires some { 0 < most }
+    requires positive { 0 < most }
     ensures count { result ≡ served_len bytes.now place (length part.old) most }
     ensures part { IsPartAt bytes.now place result part.new }
 {

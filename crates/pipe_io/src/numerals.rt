@@ -86,7 +86,7 @@ fn signed_value(is_negative: bool, digits: &[u8]) -> Option<i64>
 
 // Reads the number with which the bytes begin, after its sign; `before` numbers come before it.
 fn numeral_of(is_negative: bool, bytes: &[u8], before: usize) -> Result<Numeral, Flaw>
-    requires few { before ≤ bounds.MOST_NUMBERS }
+    requires bounded { before ≤ bounds.MOST_NUMBERS }
     requires plain { is_negative ≡ false → BeginsPlain bytes.now }
     ensures numeral { IfOk result (λ numeral. IsNumeralOf (with_sign is_negative bytes.now) numeral) }
     ensures flaw { IfErr result (λ flaw. IsFlaw (with_sign is_negative bytes.now) before flaw) }
@@ -117,7 +117,7 @@ fn numeral_of(is_negative: bool, bytes: &[u8], before: usize) -> Result<Numeral,
 /// `first`, which is no separator, and then `following`. Returns an error if no number within the
 /// bounds begins there, or a byte that is no separator follows it.
 pub fn numeral_at(bytes: &[u8], first: u8, following: &[u8], before: usize) -> Result<Numeral, Flaw>
-    requires few { before ≤ bounds.MOST_NUMBERS }
+    requires bounded { before ≤ bounds.MOST_NUMBERS }
     requires parts { bytes.now ≡ first ∷ following.now }
     requires no_blank { is_blank first ≡ false }
     ensures numeral { IfOk result (λ numeral. IsNumeralOf bytes.now numeral) }

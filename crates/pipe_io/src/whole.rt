@@ -32,7 +32,7 @@ const PART: usize = 4096;
 // the limit.
 fn next_room(limit: usize, read: usize) -> usize
     requires { read ≤ limit }
-    ensures some { 0 < result }
+    ensures positive { 0 < result }
     ensures fits { result ≤ 4096 }
     ensures within { read + result ≤ limit + 1 }
 {

@@ -1,5 +1,8 @@
 -- Readings of expressions and the faults of their readers, by the first symbols.
 use Rattle.std.proofs.Common.{◌≡◌, ℕ, ℤ, suc, List, [], ◌∷◌, ◌++◌, ap, ◌∙◌, ◌≤◌, arith}
+use Rattle.pipe_model.specs.declared.operator_codes.TheConstants as operator_codes
+use Rattle.pipe_model.specs.declared.sign_bytes.TheConstants as signs
+use Rattle.pipe_model.specs.declared.word_codes.TheConstants as words
 use Rattle.pipe_model.specs.declared.symbol.Symbol.{Symbol}
 use Rattle.pipe_model.specs.declared.symbol.Symbol.TheVariants as symbols
 use Rattle.pipe_model.specs.Language.SyntaxTree.{Expression, Number, Name, Element, More, Take, Iter, binary_expression}
@@ -54,12 +57,13 @@ passes_join level code b ts following mid l h i r below =
 
 -- ---- operands
 -- a name without an index
-pub name_read : (name : List ℕ) (ts : List Symbol) → NoSign 91 ts → Reads operand_level (symbols.Name name ∷ ts) (Name name) ts
+pub name_read : (name : List ℕ) (ts : List Symbol) → NoSign signs.OPEN_SQUARE ts
+    → Reads operand_level (symbols.Name name ∷ ts) (Name name) ts
 name_read name ts h = ReadsName name ts h
 
 -- a name with an index
-pub element_read : (name : List ℕ) (e : Expression) (ts inside rest : List Symbol) → ts ≡ symbols.Sign 91 ∷ inside
-    → Reads any_expression inside e (symbols.Sign 93 ∷ rest)
+pub element_read : (name : List ℕ) (e : Expression) (ts inside rest : List Symbol) → ts ≡ symbols.Sign signs.OPEN_SQUARE ∷ inside
+    → Reads any_expression inside e (symbols.Sign signs.CLOSE_SQUARE ∷ rest)
     → Reads operand_level (symbols.Name name ∷ ts) (Element name e) rest
 element_read name e ts inside rest h r = rw h (ReadsElement name r)
 
@@ -68,32 +72,36 @@ pub number_read : (ts : List Symbol) (n : ℤ) (rest : List Symbol) → ts ≡ s
 number_read ts n rest h = rw h (ReadsNumeral n rest)
 
 -- the word `more` and its brackets
-pub more_read : (ts rest left : List Symbol) → ts ≡ symbols.Word 17 ∷ rest → rest ≡ symbols.Sign 40 ∷ symbols.Sign 41 ∷ left
+pub more_read : (ts rest left : List Symbol) → ts ≡ symbols.Word words.MORE ∷ rest
+    → rest ≡ symbols.Sign signs.OPEN_ROUND ∷ symbols.Sign signs.CLOSE_ROUND ∷ left
     → Reads operand_level ts More left
 more_read ts rest left h i = rw (h, i) (ReadsMore left)
 
 -- the word `take` and its brackets
-pub take_read : (ts rest left : List Symbol) → ts ≡ symbols.Word 18 ∷ rest → rest ≡ symbols.Sign 40 ∷ symbols.Sign 41 ∷ left
+pub take_read : (ts rest left : List Symbol) → ts ≡ symbols.Word words.TAKE ∷ rest
+    → rest ≡ symbols.Sign signs.OPEN_ROUND ∷ symbols.Sign signs.CLOSE_ROUND ∷ left
     → Reads operand_level ts Take left
 take_read ts rest left h i = rw (h, i) (ReadsTake left)
 
 -- the word `iter` and its brackets
-pub iter_read : (ts rest left : List Symbol) → ts ≡ symbols.Word 19 ∷ rest → rest ≡ symbols.Sign 40 ∷ symbols.Sign 41 ∷ left
+pub iter_read : (ts rest left : List Symbol) → ts ≡ symbols.Word words.ITER ∷ rest
+    → rest ≡ symbols.Sign signs.OPEN_ROUND ∷ symbols.Sign signs.CLOSE_ROUND ∷ left
     → Reads operand_level ts Iter left
 iter_read ts rest left h i = rw (h, i) (ReadsIter left)
 
 -- a minus and its operand
-pub negative_read : (ts rest left : List Symbol) (e : Expression) → ts ≡ symbols.Operator 10 ∷ rest → ReadsUnary 1 rest e left
+pub negative_read : (ts rest left : List Symbol) (e : Expression) → ts ≡ symbols.Operator operator_codes.MINUS ∷ rest
+    → ReadsUnary 1 rest e left
     → Reads operand_level ts e left
 negative_read ts rest left e h u = rw (h, u.is) (ReadsNegative u.reads)
 
 -- a `!` and its operand
-pub not_read : (ts rest left : List Symbol) (e : Expression) → ts ≡ symbols.Sign 33 ∷ rest → ReadsUnary 2 rest e left
+pub not_read : (ts rest left : List Symbol) (e : Expression) → ts ≡ symbols.Sign signs.EXCLAMATION ∷ rest → ReadsUnary 2 rest e left
     → Reads operand_level ts e left
 not_read ts rest left e h u = rw (h, u.is) (ReadsNot u.reads)
 
 -- an expression in round brackets
-pub bracket_read : (ts inside rest : List Symbol) (e : Expression) → ts ≡ symbols.Sign 40 ∷ inside
-    → Reads any_expression inside e (symbols.Sign 41 ∷ rest)
+pub bracket_read : (ts inside rest : List Symbol) (e : Expression) → ts ≡ symbols.Sign signs.OPEN_ROUND ∷ inside
+    → Reads any_expression inside e (symbols.Sign signs.CLOSE_ROUND ∷ rest)
     → Reads operand_level ts e rest
 bracket_read ts inside rest e h r = rw h (ReadsBracketed r)

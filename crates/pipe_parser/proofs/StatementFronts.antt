@@ -1,5 +1,7 @@
 -- Readings of statements and the faults of their readers, by the first symbols.
 use Rattle.std.proofs.Common.{◌≡◌, ap, sym, ◌∙◌, subst, ℕ, List, [], ◌∷◌, ◌++◌, append_assoc, refl, Option, Some, None}
+use Rattle.pipe_model.specs.declared.sign_bytes.TheConstants as signs
+use Rattle.pipe_model.specs.declared.word_codes.TheConstants as words
 use Rattle.pipe_model.specs.declared.tree.StageKind.TheVariants as kinds
 use Rattle.pipe_model.specs.declared.symbol.Symbol.{Symbol}
 use Rattle.pipe_model.specs.declared.symbol.Symbol.TheVariants as symbols
@@ -37,9 +39,9 @@ before_none [] = refl
 before_none (s ∷ found) = ap (Then (statement_of s)) (before_none found)
 
 -- at the closing brace the statements found so far are all
-pub block_read : (ts all rest following : List Symbol) (found : List Stmt) → ts ≡ symbols.Sign 123 ∷ all
+pub block_read : (ts all rest following : List Symbol) (found : List Stmt) → ts ≡ symbols.Sign signs.OPEN_BRACE ∷ all
     → ((ss : Statements) (end : List Symbol) → ReadsStatements 256 rest ss end → ReadsStatements 256 all (before found ss) end)
-    → rest ≡ symbols.Sign 125 ∷ following
+    → rest ≡ symbols.Sign signs.CLOSE_BRACE ∷ following
     → ReadsBlock 256 ts (statements_of found) following
 block_read ts all rest following found h f e =
     let closed : ReadsStatements 256 rest Empty following = subst (λ x. ReadsStatements 256 x Empty following) (sym e)
@@ -78,47 +80,50 @@ pub fault_full : (others : List Want) (e : Expression) (ts mid : List Symbol) �
 fault_full others e ts mid r = fault_after (FullExpression ∷ others) others ts mid (λ below. passes_full r (others ++ below))
 
 -- a fault of the sign after an index
-pub fault_index : (index : Expression) (ts mid : List Symbol) → ReadsFull 256 ts index (symbols.Sign 93 ∷ mid) → (f : SyntaxFault)
-    → SyntaxStops (Sign 61 ∷ []) mid f
+pub fault_index : (index : Expression) (ts mid : List Symbol) → ReadsFull 256 ts index (symbols.Sign signs.CLOSE_SQUARE ∷ mid)
+    → (f : SyntaxFault)
+    → SyntaxStops (Sign signs.EQUALS ∷ []) mid f
     → SyntaxStops element ts f
 fault_index index ts mid r f x =
-    fault_after element (Sign 61 ∷ FullExpression ∷ Sign 59 ∷ []) ts mid
-    (λ below. passes_full r (Sign 93 ∷ Sign 61 ∷ FullExpression ∷ Sign 59 ∷ below)) f
-    (fault_before (Sign 61 ∷ []) (FullExpression ∷ Sign 59 ∷ []) mid f x)
+    fault_after element (Sign signs.EQUALS ∷ FullExpression ∷ Sign signs.SEMICOLON ∷ []) ts mid
+    (λ below. passes_full r (Sign signs.CLOSE_SQUARE ∷ Sign signs.EQUALS ∷ FullExpression ∷ Sign signs.SEMICOLON ∷ below)) f
+    (fault_before (Sign signs.EQUALS ∷ []) (FullExpression ∷ Sign signs.SEMICOLON ∷ []) mid f x)
 
 -- a fault of the value that an element is assigned
-pub fault_assigned : (index : Expression) (ts mid inside : List Symbol) → ReadsFull 256 ts index (symbols.Sign 93 ∷ mid)
-    → mid ≡ symbols.Sign 61 ∷ inside
-    → (f : SyntaxFault) → SyntaxStops (FullExpression ∷ Sign 59 ∷ []) inside f
+pub fault_assigned : (index : Expression) (ts mid inside : List Symbol) → ReadsFull 256 ts index (symbols.Sign signs.CLOSE_SQUARE ∷ mid)
+    → mid ≡ symbols.Sign signs.EQUALS ∷ inside
+    → (f : SyntaxFault) → SyntaxStops (FullExpression ∷ Sign signs.SEMICOLON ∷ []) inside f
     → SyntaxStops element ts f
 fault_assigned index ts mid inside r h =
-    fault_after element (FullExpression ∷ Sign 59 ∷ []) ts inside
-    (λ below. passes_full r (Sign 93 ∷ Sign 61 ∷ FullExpression ∷ Sign 59 ∷ below)
-    ∙ ap (λ x. judge 256 x (Outside (Sign 61 ∷ FullExpression ∷ Sign 59 ∷ below))) h)
+    fault_after element (FullExpression ∷ Sign signs.SEMICOLON ∷ []) ts inside
+    (λ below. passes_full r (Sign signs.CLOSE_SQUARE ∷ Sign signs.EQUALS ∷ FullExpression ∷ Sign signs.SEMICOLON ∷ below)
+    ∙ ap (λ x. judge 256 x (Outside (Sign signs.EQUALS ∷ FullExpression ∷ Sign signs.SEMICOLON ∷ below))) h)
 
 -- a fault of a stage number
-pub fault_number : (ts inside : List Symbol) → ts ≡ symbols.Sign 40 ∷ inside → NoSign 41 inside → (f : SyntaxFault)
-    → SyntaxStops (FullExpression ∷ Sign 41 ∷ []) inside f
+pub fault_number : (ts inside : List Symbol) → ts ≡ symbols.Sign signs.OPEN_ROUND ∷ inside → NoSign signs.CLOSE_ROUND inside
+    → (f : SyntaxFault)
+    → SyntaxStops (FullExpression ∷ Sign signs.CLOSE_ROUND ∷ []) inside f
     → SyntaxStops stage ts f
 fault_number ts inside h n f x =
-    fault_after stage (FullExpression ∷ Sign 41 ∷ Sign 59 ∷ []) ts inside
-    (λ below. ap (λ y. judge 256 y (Outside (stage ++ below))) h ∙ stage_number 256 inside (Sign 59 ∷ below) n) f
-    (fault_before (FullExpression ∷ Sign 41 ∷ []) (Sign 59 ∷ []) inside f x)
+    fault_after stage (FullExpression ∷ Sign signs.CLOSE_ROUND ∷ Sign signs.SEMICOLON ∷ []) ts inside
+    (λ below. ap (λ y. judge 256 y (Outside (stage ++ below))) h ∙ stage_number 256 inside (Sign signs.SEMICOLON ∷ below) n) f
+    (fault_before (FullExpression ∷ Sign signs.CLOSE_ROUND ∷ []) (Sign signs.SEMICOLON ∷ []) inside f x)
 
 -- a fault of the sign after a stage number
-pub fault_after_number : (e : Expression) (ts inside mid : List Symbol) → ts ≡ symbols.Sign 40 ∷ inside
-    → ReadsFull 256 inside e (symbols.Sign 41 ∷ mid)
-    → (f : SyntaxFault) → SyntaxStops (Sign 59 ∷ []) mid f
+pub fault_after_number : (e : Expression) (ts inside mid : List Symbol) → ts ≡ symbols.Sign signs.OPEN_ROUND ∷ inside
+    → ReadsFull 256 inside e (symbols.Sign signs.CLOSE_ROUND ∷ mid)
+    → (f : SyntaxFault) → SyntaxStops (Sign signs.SEMICOLON ∷ []) mid f
     → SyntaxStops stage ts f
 fault_after_number e ts inside mid h r =
-    fault_after stage (Sign 59 ∷ []) ts mid
-    (λ below. ap (λ y. judge 256 y (Outside (stage ++ below))) h ∙ passes_stage_number r (Sign 59 ∷ below))
+    fault_after stage (Sign signs.SEMICOLON ∷ []) ts mid
+    (λ below. ap (λ y. judge 256 y (Outside (stage ++ below))) h ∙ passes_stage_number r (Sign signs.SEMICOLON ∷ below))
 
 -- the machine passes a test
 pub passes_test : (e : Expression) (ts mid : List Symbol) → ReadsTest ts e mid → (below : List Want)
-    → judge 256 ts (Outside (Sign 40 ∷ FullExpression ∷ Sign 41 ∷ below)) ≡ judge 256 mid (Outside below)
+    → judge 256 ts (Outside (Sign signs.OPEN_ROUND ∷ FullExpression ∷ Sign signs.CLOSE_ROUND ∷ below)) ≡ judge 256 mid (Outside below)
 passes_test e ts mid t below =
-    ap (λ x. judge 256 x (Outside (Sign 40 ∷ FullExpression ∷ Sign 41 ∷ below))) t.opens ∙ passes_full t.reads (Sign 41 ∷ below)
+    ap (λ x. judge 256 x (Outside (Sign signs.OPEN_ROUND ∷ FullExpression ∷ Sign signs.CLOSE_ROUND ∷ below))) t.opens
+    ∙ passes_full t.reads (Sign signs.CLOSE_ROUND ∷ below)
 
 -- a fault of the body of a `while`
 pub fault_body : (e : Expression) (ts mid : List Symbol) → ReadsTest ts e mid → (f : SyntaxFault) → SyntaxStops block mid f
@@ -128,66 +133,68 @@ fault_body e ts mid t = fault_after repetition block ts mid (λ below. passes_te
 -- a fault of the first block of an `if`
 pub fault_then : (e : Expression) (ts mid : List Symbol) → ReadsTest ts e mid → (f : SyntaxFault) → SyntaxStops block mid f
     → SyntaxStops choice ts f
-fault_then e ts mid t f x = fault_before repetition (Part 14 ∷ []) ts f (fault_body e ts mid t f x)
+fault_then e ts mid t f x = fault_before repetition (Part words.ELSE ∷ []) ts f (fault_body e ts mid t f x)
 
 -- a fault of the `else` of an `if`
 pub fault_else : (e : Expression) (a : Statements) (ts mid following : List Symbol) → ReadsTest ts e mid → ReadsBlock 256 mid a following
     → (f : SyntaxFault)
-    → SyntaxStops (Part 14 ∷ []) following f
+    → SyntaxStops (Part words.ELSE ∷ []) following f
     → SyntaxStops choice ts f
 fault_else e a ts mid following t b =
-    fault_after choice (Part 14 ∷ []) ts following
-    (λ below. passes_test e ts mid t (Sign 123 ∷ machine.Statements ∷ Sign 125 ∷ Part 14 ∷ below) ∙ passes_block b (Part 14 ∷ below))
+    fault_after choice (Part words.ELSE ∷ []) ts following
+    (λ below. passes_test e ts mid t (Sign signs.OPEN_BRACE ∷ machine.Statements ∷ Sign signs.CLOSE_BRACE ∷ Part words.ELSE ∷ below)
+    ∙ passes_block b (Part words.ELSE ∷ below))
 
 -- ---- readings
 -- a `let`
 pub let_read : (name : List ℕ) (e : Expression) (ts following inside rest : List Symbol) → ts ≡ symbols.Name name ∷ following
-    → following ≡ symbols.Sign 61 ∷ inside
-    → ReadsFull 256 inside e (symbols.Sign 59 ∷ rest)
-    → ReadsStatement 256 (symbols.Word 12 ∷ ts) (Let name e) rest
+    → following ≡ symbols.Sign signs.EQUALS ∷ inside
+    → ReadsFull 256 inside e (symbols.Sign signs.SEMICOLON ∷ rest)
+    → ReadsStatement 256 (symbols.Word words.LET ∷ ts) (Let name e) rest
 let_read name e ts following inside rest h i r = rw (h, i) (ReadsLet name r)
 
 -- an assignment
-pub assign_read : (name : List ℕ) (e : Expression) (ts inside rest : List Symbol) → ts ≡ symbols.Sign 61 ∷ inside
-    → ReadsFull 256 inside e (symbols.Sign 59 ∷ rest)
+pub assign_read : (name : List ℕ) (e : Expression) (ts inside rest : List Symbol) → ts ≡ symbols.Sign signs.EQUALS ∷ inside
+    → ReadsFull 256 inside e (symbols.Sign signs.SEMICOLON ∷ rest)
     → ReadsStatement 256 (symbols.Name name ∷ ts) (Assign name e) rest
 assign_read name e ts inside rest h r = rw h (ReadsAssign name r)
 
 -- an assignment to an element
 pub element_read : (name : List ℕ) (index e : Expression) (ts mid inside rest : List Symbol)
-    → ReadsFull 256 ts index (symbols.Sign 93 ∷ mid)
-    → mid ≡ symbols.Sign 61 ∷ inside → ReadsFull 256 inside e (symbols.Sign 59 ∷ rest)
-    → ReadsStatement 256 (symbols.Name name ∷ symbols.Sign 91 ∷ ts) (AssignElement name index e) rest
+    → ReadsFull 256 ts index (symbols.Sign signs.CLOSE_SQUARE ∷ mid)
+    → mid ≡ symbols.Sign signs.EQUALS ∷ inside → ReadsFull 256 inside e (symbols.Sign signs.SEMICOLON ∷ rest)
+    → ReadsStatement 256 (symbols.Name name ∷ symbols.Sign signs.OPEN_SQUARE ∷ ts) (AssignElement name index e) rest
 element_read name index e ts mid inside rest r h r' =
-    ReadsAssignElement name (subst (λ x. ReadsFull 256 ts index (symbols.Sign 93 ∷ x)) h r) r'
+    ReadsAssignElement name (subst (λ x. ReadsFull 256 ts index (symbols.Sign signs.CLOSE_SQUARE ∷ x)) h r) r'
 
 -- an `emit`
-pub emit_read : (e : Expression) (ts rest : List Symbol) → ReadsFull 256 ts e (symbols.Sign 59 ∷ rest)
-    → ReadsStatement 256 (symbols.Word 16 ∷ ts) (Emit e) rest
+pub emit_read : (e : Expression) (ts rest : List Symbol) → ReadsFull 256 ts e (symbols.Sign signs.SEMICOLON ∷ rest)
+    → ReadsStatement 256 (symbols.Word words.EMIT ∷ ts) (Emit e) rest
 emit_read e ts rest r = ReadsEmit r
 
 -- a wait, with or without a stage number
-pub wait_read : (number : Option Expr) (ts us rest : List Symbol) → us ≡ symbols.Word 9 ∷ ts → ReadsStage ts number rest
+pub wait_read : (number : Option Expr) (ts us rest : List Symbol) → us ≡ symbols.Word words.PIPE_WAIT ∷ ts → ReadsStage ts number rest
     → ReadsStatement 256 us (stage_statement kinds.Wait number) rest
 wait_read None ts us rest h s = rw (h, s) (ReadsWaitNext rest)
 wait_read (Some e) ts us rest h s = rw (h, s.opens) (ReadsWait s.reads)
 
 -- a continue, with or without a stage number
-pub continue_read : (number : Option Expr) (ts us rest : List Symbol) → us ≡ symbols.Word 10 ∷ ts → ReadsStage ts number rest
+pub continue_read : (number : Option Expr) (ts us rest : List Symbol) → us ≡ symbols.Word words.PIPE_CONTINUE ∷ ts
+    → ReadsStage ts number rest
     → ReadsStatement 256 us (stage_statement kinds.Continue number) rest
 continue_read None ts us rest h s = rw (h, s) (ReadsContinueNext rest)
 continue_read (Some e) ts us rest h s = rw (h, s.opens) (ReadsContinue s.reads)
 
 -- a `while`, by its parts
 pub while_read : (e : Expression) (a : Statements) (ts mid rest : List Symbol) → ReadsTest ts e mid → ReadsBlock 256 mid a rest
-    → ReadsStatement 256 (symbols.Word 15 ∷ ts) (While e a) rest
+    → ReadsStatement 256 (symbols.Word words.WHILE ∷ ts) (While e a) rest
 while_read e a ts mid rest t b = rw t.opens (ReadsWhile t.reads b)
 
 -- an `if`, by its parts
 pub if_read : (e : Expression) (a b : Statements) (ts mid following rest : List Symbol) → ReadsTest ts e mid
     → ReadsBlock 256 mid a following
     → ReadsPart 256 14 following b rest
-    → ReadsStatement 256 (symbols.Word 13 ∷ ts) (If e a b) rest
+    → ReadsStatement 256 (symbols.Word words.IF ∷ ts) (If e a b) rest
 if_read e a b ts mid following rest t c p = rw t.opens (ReadsIf t.reads c p)
 
 -- a part that is present

@@ -1,6 +1,6 @@
 //! Programs of the whole language, parsed from the tokens of their source.
 
-ghost use Rattle.std.specs.Prelude.{◌≡◌, ◌<◌, IfErr, IfOk, length};
+ghost use Rattle.std.specs.Prelude.{◌≡◌, ◌<◌, ◌^◌, IfErr, IfOk, length};
 ghost use Rattle.pipe_model.specs.Language.MarkPlaces.{is_mark, mark_places};
 ghost use Rattle.pipe_model.specs.Language.SourceRefusals.{fault_place};
 ghost use Rattle.pipe_model.specs.Language.SyntaxTree.{tree_of};
@@ -99,7 +99,7 @@ fn read_bounded(alloc: Global, symbols: &Symbols) -> Result<Program, SyntaxFault
 // The offset of the token at index `before`, in bytes; after the last token, the length of the
 // source.
 fn place_at(source: &[u8], tokens: &[Token], before: usize) -> u32
-    requires { length source.now < 4294967296 }
+    requires { length source.now < 2 ^ 32 }
     ensures { result ≡ fault_place source.now tokens.now before }
 {
     match tokens.get(before) {
@@ -110,7 +110,7 @@ fn place_at(source: &[u8], tokens: &[Token], before: usize) -> u32
 
 // The fault with its offset in the source; `all` is the number of symbols.
 fn placed(source: &[u8], tokens: &[Token], all: usize, fault: SyntaxFault) -> ParseFault
-    requires { length source.now < 4294967296 }
+    requires { length source.now < 2 ^ 32 }
     ensures { IsPlaced source.now tokens.now all fault result }
 {
     match fault {

@@ -98,7 +98,7 @@ one_more_row columns weights rows more row n h len entries below e =
 
 pub all_rows : (columns : List (List Node)) (weights : List ℕ) (rows : List (List Entry)) (n : ℕ) → n ≡ length columns
     → instances_before columns (length columns) ≤ most_entries → HasRows columns weights rows n → AreRows columns weights rows
-all_rows columns weights rows n e few h = record {
+all_rows columns weights rows n e bounded h = record {
   whole = h.whole ∙ e;
   lengths = λ i. elim (cases_lt i n) [
     | inl less ↦ h.lengths i less
@@ -115,7 +115,7 @@ all_rows columns weights rows n e few h = record {
     bound i k (inl less) =
         let a = (h.below i less).each k in
         let b = column_within columns i (omega (arith, less, e)) in
-        omega (arith, a, b, few)
+        omega (arith, a, b, bounded)
     bound i k (inr past) =
         let whole = h.whole in
         subst (λ r. weight_in r k ≤ most_weight * most_entries) (sym (get_or_past rows i [] (omega (arith, past, whole)))) (omega arith)
@@ -124,15 +124,15 @@ all_rows columns weights rows n e few h = record {
 pub few_rows : (columns : List (List Node)) (weights : List ℕ) (rows : List (List Entry)) → AreColumns columns
     → AreRows columns weights rows
     → instances_before columns (length columns) ≤ most_entries → AreFew rows
-few_rows columns weights rows full h few =
+few_rows columns weights rows full h bounded =
     let whole = h.whole in
     record {
-      columns = (let a = at_least columns (length columns) full (omega arith) in omega (arith, a, few, whole));
+      columns = (let a = at_least columns (length columns) full (omega arith) in omega (arith, a, bounded, whole));
       instances = λ i. elim (cases_lt i (length columns)) [
         | inl less ↦ (
             let a = column_within columns i less in
             let b = h.lengths i in
-            omega (arith, a, b, few))
+            omega (arith, a, b, bounded))
         | inr past ↦ (
             let a = ap length (get_or_past rows i [] (omega (arith, past, whole))) in
             omega (arith, a))

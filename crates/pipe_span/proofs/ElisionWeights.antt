@@ -38,7 +38,7 @@ use Rattle.run_laws.proofs.RunStates.IterationCounts.{runs_keep_rules}
 use Rattle.stage_code.specs.declared.instr.Part.TheVariants as parts
 use Rattle.stage_code.specs.FlatCode.{FlatCode}
 use Rattle.stage_code.specs.LimitRanges.{HasRangesOfLimits}
-use Rattle.stage_interp.specs.Standing.{IsCodeOf}
+use Rattle.stage_interp.specs.RemainingBehaviour.{IsCodeOf}
 use Rattle.stage_interp.specs.TreeRuns.{interaction_in}
 use Rattle.serial_elision.specs.ElisionSteps.{iteration_steps, program_steps, step_counts, steps_from}
 use Rattle.serial_elision.proofs.PartRuns.{natural_most}
@@ -196,7 +196,7 @@ instances_have_steps tree input =
 pub record MeetsElision (tree : SyntaxTree) (input : List ℤ) : Type 0 where
   pub columns : AreColumns (node_columns (program_columns (whole_of tree input)))
   pub rising : (i : ℕ) → IsRising (nodes_at (node_columns (program_columns (whole_of tree input))) i)
-  pub few : length (program_steps tree input) ≤ most_instances tree
+  pub bounded : length (program_steps tree input) ≤ most_instances tree
 
 -- a run of a program has rising columns, and no more instances than its limits allow
 run_rises : (w : WholeProgram) (events : List Event) (s : State) → ProgramRun w 1 events s → (i : ℕ) → IsRising (nodes_at (own_columns s) i)
@@ -220,7 +220,7 @@ elision_meets tree input form =
     record {
       columns = subst AreColumns (sym traces) (record { full = traces_full (loop_traces w); first = traces_first (loop_traces w) });
       rising = subst (λ cs. (i : ℕ) → IsRising (nodes_at cs i)) same (run_rises w _ end h.run.run);
-      few = subst (λ n. n ≤ most_instances tree) (ap instances_in same ∙ sym (steps_whole tree input)) small;
+      bounded = subst (λ n. n ≤ most_instances tree) (ap instances_in same ∙ sym (steps_whole tree input)) small;
     }
 
 -- ---- what `heaviest` takes
@@ -229,7 +229,7 @@ pub record CanBeWeighed (columns : List Column) (steps : List ℤ) : Type 0 wher
   pub full : AreColumns (node_columns columns)
   pub rising : (i : ℕ) → IsRising (nodes_at (node_columns columns) i)
   pub whole : length steps ≡ instances_before (node_columns columns) (length columns)
-  pub few : length steps ≤ most_entries
+  pub bounded : length steps ≤ most_entries
   pub each : AreSteps steps
 
 few_instances : (tree : SyntaxTree) → HasRangesOfLimits tree.limits → most_instances tree ≤ most_entries
@@ -248,11 +248,11 @@ can_be_weighed tree code input limits columns steps of same given is are =
     let meets = elision_meets tree input (record { obeys = of.accepted }) in
     let own = instances_have_steps tree input in
     let most : natural tree.limits.steps ≤ most_weight = natural_most tree.limits.steps most_weight ranges.steps.1 in
-    let few : length (program_steps tree input) ≤ most_entries = le_trans meets.few (few_instances tree ranges) in
+    let bounded : length (program_steps tree input) ≤ most_entries = le_trans meets.bounded (few_instances tree ranges) in
     subst (λ s. CanBeWeighed columns s) (sym are) (subst (λ c. CanBeWeighed c (program_steps tree input)) (sym is) (record {
       full = meets.columns;
       rising = meets.rising;
       whole = own.whole;
-      few = few;
+      bounded = bounded;
       each = record { least = own.least; most = λ k. let h = own.most k in omega (arith, ints, h, most) };
     }))

@@ -38,7 +38,7 @@ pub(crate) fn entry_of(
 ) -> Entry
     requires weights { AreWeights weights.now }
     requires place { place < length weights.now }
-    requires few { place < most_entries }
+    requires bounded { place < most_entries }
     requires left_row { IsBounded place left_row.now }
     requires row { IsBounded place row.now }
     requires left { (j : ℕ) → left ≡ Some j → j < length left_row.now }

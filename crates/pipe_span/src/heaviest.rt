@@ -55,7 +55,7 @@ fn weights(alloc: Global, steps: &[i64]) -> Result<Vec<u64>, NoMemory>
 // The sum of the weights.
 fn sum_of(weights: &[u64]) -> u64
     requires weights { AreWeights weights.now }
-    requires few { length weights.now ≤ most_entries }
+    requires bounded { length weights.now ≤ most_entries }
     ensures sum { result ≡ sum weights.now }
     ensures below { result ≤ most_weight * most_entries }
 {
@@ -72,12 +72,12 @@ fn heaviest_path(
     columns: &[Nodes],
     weights: &[u64],
 ) -> Result<(u64, Vec<NodeId>), NoMemory>
-    requires some { 0 < length columns.now }
+    requires nonempty { 0 < length columns.now }
     requires columns { AreColumns columns.now }
     requires rising { (i : ℕ) → IsRising (nodes_at columns.now i) }
     requires weights { AreWeights weights.now }
     requires whole { length weights.now ≡ instances_before columns.now (length columns.now) }
-    requires few { instances_before columns.now (length columns.now) ≤ most_entries }
+    requires bounded { instances_before columns.now (length columns.now) ≤ most_entries }
     ensures heaviest { IfOk result (λ r. IsHeaviest columns.now weights.now r.1.items r.0) }
     ensures below { IfOk result (λ r. r.0 ≤ most_weight * most_entries) }
 {
@@ -107,7 +107,7 @@ pub fn heaviest(alloc: Global, columns: &Columns, steps: &Numbers) -> Result<Spa
     requires columns { AreColumns (node_columns columns.now) }
     requires rising { (i : ℕ) → IsRising (nodes_at (node_columns columns.now) i) }
     requires whole { length steps.now ≡ instances_before (node_columns columns.now) (length columns.now) }
-    requires few { length steps.now ≤ most_entries }
+    requires bounded { length steps.now ≤ most_entries }
     requires steps { AreSteps steps.now }
     ensures { IfOk result (λ span. IsWorkAndSpan (node_columns columns.now) steps.now span) }
 {

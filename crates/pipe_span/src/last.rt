@@ -24,8 +24,8 @@ fn first_heaviest(row: &[Entry]) -> usize
 /// Returns the instance to which the heaviest path of all leads; of several, the first in column
 /// order.
 pub fn heaviest_last(rows: &[Row]) -> NodeId
-    requires few { AreFew rows.now }
-    requires some { 0 < length rows.now }
+    requires bounded { AreFew rows.now }
+    requires nonempty { 0 < length rows.now }
     requires full { (i : ℕ) → i < length rows.now → 0 < length (row_at rows.now i) }
     ensures { IsHeaviestLast rows.now result }
 {

@@ -24,7 +24,7 @@ pub fn row_of(
 ) -> Result<Row, NoMemory>
     requires weights { AreWeights weights.now }
     requires place { first + length right.now ≤ length weights.now }
-    requires few { first + length right.now ≤ most_entries }
+    requires bounded { first + length right.now ≤ most_entries }
     requires left_row { IsBounded first left_row.now }
     requires whole { length left_row.now ≡ length left.now }
     requires left { IsRising left.now }

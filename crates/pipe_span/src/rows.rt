@@ -60,7 +60,7 @@ pub fn rows_of(alloc: Global, columns: &[Nodes], weights: &[u64]) -> Result<List
     requires rising { (i : ℕ) → IsRising (nodes_at columns.now i) }
     requires weights { AreWeights weights.now }
     requires whole { length weights.now ≡ instances_before columns.now (length columns.now) }
-    requires few { instances_before columns.now (length columns.now) ≤ most_entries }
+    requires bounded { instances_before columns.now (length columns.now) ≤ most_entries }
     ensures { IfOk result (λ rows. AreRows columns.now weights.now rows) }
 {
     let mut rows: ListOf<Row> = ListOf::with_capacity(alloc, columns.len())?;

@@ -14,7 +14,7 @@ use std::alloc::Global;
 
 // The instance from which the heaviest path to `x` comes, if it has a predecessor.
 fn before(rows: &[Row], x: NodeId) -> Option<NodeId>
-    requires few { AreFew rows.now }
+    requires bounded { AreFew rows.now }
     requires within { IsIn rows.now x }
     requires predecessor { HasPredecessor rows.now x }
     ensures { result ≡ predecessor_of x (entry_to rows.now x).predecessor }
@@ -43,7 +43,7 @@ pub fn traced(
     last: NodeId,
 ) -> Result<Vec<NodeId>, NoMemory>
     requires columns { AreColumns columns.now }
-    requires few { AreFew rows.now }
+    requires bounded { AreFew rows.now }
     requires rows { AreRows columns.now weights.now rows.now }
     requires last { IsIn rows.now last }
     ensures traced { IfOk result (λ path. IsTraced columns.now weights.now last path.items) }

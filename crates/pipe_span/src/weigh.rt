@@ -6,7 +6,7 @@ ghost use Rattle.pipe_model.specs.Language.SyntaxTree.{tree_of};
 ghost use Rattle.pipe_model.specs.Pipelines.WholePrograms.{program_columns};
 ghost use Rattle.pipe_model.specs.Races.Columns.{AreColumns, IsRising, nodes_at};
 ghost use Rattle.serial_elision.specs.ElisionSteps.{program_steps};
-ghost use Rattle.stage_interp.specs.Standing.{IsCodeOf};
+ghost use Rattle.stage_interp.specs.RemainingBehaviour.{IsCodeOf};
 ghost use Rattle.pipe_span.specs.Entries.{most_entries};
 ghost use Rattle.pipe_span.specs.HeaviestPaths.{instances_before};
 ghost use Rattle.pipe_span.specs.WorkAndSpan.{AreSteps, node_columns};
@@ -52,7 +52,7 @@ pub fn weigh(
     ensures columns { IfOk result (λ w. AreColumns (node_columns w.columns)) }
     ensures rising { IfOk result (λ w. (i : ℕ) → IsRising (nodes_at (node_columns w.columns) i)) }
     ensures whole { IfOk result (λ w. length w.steps ≡ instances_before (node_columns w.columns) (length w.columns)) }
-    ensures few { IfOk result (λ w. length w.steps ≤ most_entries) }
+    ensures bounded { IfOk result (λ w. length w.steps ≤ most_entries) }
     ensures steps { IfOk result (λ w. AreSteps w.steps) }
 {
     let _limits = code.limits();

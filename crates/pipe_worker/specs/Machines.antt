@@ -5,8 +5,9 @@ use Rattle.pipe_frame.specs.Ties.{HallName}
 use Rattle.pipe_model.specs.Language.Programs.{pipeline_of, store_of}
 use Rattle.pipe_model.specs.Language.SyntaxTree.{SyntaxTree}
 use Rattle.stage_code.specs.FlatCode.{FlatCode}
+use Rattle.stage_interp.specs.CellNumbers.{most_cell_ids}
 use Rattle.stage_interp.specs.MachineState.{IsMadeFor, MachineState}
-use Rattle.stage_interp.specs.Standing.{IsCodeOf, StandsFor}
+use Rattle.stage_interp.specs.RemainingBehaviour.{IsCodeOf, Represents}
 
 -- how many cells a program has
 abbrev pub cells_of : SyntaxTree → ℕ
@@ -21,7 +22,7 @@ pub record CanRun (code : FlatCode) (tree : SyntaxTree) (m : MachineState) : Typ
 pub record IsAtInstance (code : FlatCode) (tree : SyntaxTree) (input : List ℤ) (m : MachineState) (i : ℕ)
     (replies : List (List ℤ)) : Type 0 where
   pub can : CanRun code tree m
-  pub stands : StandsFor code (cells_of tree) input m.run (after_instances ((pipeline_of tree input).behaviour i) replies)
+  pub stands : Represents code (cells_of tree) input m.run (after_instances ((pipeline_of tree input).behaviour i) replies)
 
 -- there is a machine, and this holds of it
 abbrev pub HasMachine : Option MachineState → (MachineState → Type 0) → Type 0
@@ -38,4 +39,4 @@ ready_whole code tree input (Some m) i replies h = h.can
 pub record CanDrive (own : FlatCode) (h : HallName) (code : FlatCode) (input : List ℤ) : Type 0 where
   pub code_is : code ≡ own
   pub input_is : input ≡ h.input
-  pub few : cells_of h.tree ≤ 4294967296
+  pub bounded : cells_of h.tree ≤ most_cell_ids

@@ -8,9 +8,10 @@ ghost use Rattle.pipe_model.specs.Pipelines.Behaviour.{Behaviour};
 ghost use Rattle.pipe_worker.specs.HeldInstances.{MayAdvance};
 ghost use Rattle.pipe_worker.specs.Machines.{CanDrive};
 ghost use Rattle.stage_code.specs.FlatCode.{FlatCode};
+ghost use Rattle.stage_interp.specs.CellNumbers.{most_cell_ids};
 ghost use Rattle.stage_interp.specs.Executions.{StopsOnly};
 ghost use Rattle.stage_interp.specs.MachineState.{IsMadeFor};
-ghost use Rattle.stage_interp.specs.Standing.{RanInstance, StandsFor};
+ghost use Rattle.stage_interp.specs.RemainingBehaviour.{RanInstance, Represents};
 
 use crate::lent::LentHall;
 use crate::memory::{InstanceMemory, RunningInstance};
@@ -34,9 +35,9 @@ fn run_stage_by<M: Memory>(
     input: &Numbers,
     memory: &mut M,
 ) -> StageEnd
-    requires before { (t : Behaviour) × StandsFor code.now (M.served memory.old) input.now machine.old.run t }
-    requires few { M.served memory.old ≤ 4294967296 }
-    ensures ran { (t : Behaviour) → StandsFor code.now (M.served memory.old) input.now machine.old.run t
+    requires before { (t : Behaviour) × Represents code.now (M.served memory.old) input.now machine.old.run t }
+    requires bounded { M.served memory.old ≤ most_cell_ids }
+    ensures ran { (t : Behaviour) → Represents code.now (M.served memory.old) input.now machine.old.run t
         → RanInstance code.now (M.served memory.old) input.now t (M.made memory.old) (M.made memory.new) machine.new.run result }
     ensures made { (c : FlatCode) → IsMadeFor c machine.old → IsMadeFor c machine.new }
     ensures stops { StopsOnly (Some result) (M.stopped memory.new) }

@@ -17,20 +17,20 @@ use Rattle.run_laws.proofs.RunStates.RunInvariant.{run_consistent}
 pub record HasSmallColumns (columns : List Column) : Type 0 where
   pub count : length columns ≤ 4294967296
   pub some : All (λ (c : Column). 0 < length c.nodes) columns
-  pub few : All (λ (c : Column). length c.nodes ≤ 4294967296) columns
+  pub bounded : All (λ (c : Column). length c.nodes ≤ 4294967296) columns
 
 -- the columns have at most `bound` instances in all
 record AreSmall (bound : ℕ) (columns : List Column) : Type 0 where
   count : length columns ≤ bound
   some : All (λ (c : Column). 0 < length c.nodes) columns
-  few : All (λ (c : Column). length c.nodes ≤ bound) columns
+  bounded : All (λ (c : Column). length c.nodes ≤ bound) columns
 
 small : (frames : List Frame) (bound : ℕ) → ((i : ℕ) (f : Frame) → frame_at frames i ≡ Some f → 0 < length f.nodes)
     → instances_in (map (λ (f : Frame). f.nodes) frames) ≤ bound → AreSmall bound (map column_of_frame frames)
 small [] bound filled within = record {
   count = omega arith;
   some = λ k d w. absurd (omega (arith, w));
-  few = λ k d w. absurd (omega (arith, w));
+  bounded = λ k d w. absurd (omega (arith, w));
 }
 small (f ∷ frames) bound filled within =
     let first = filled 0 f refl in
@@ -39,28 +39,28 @@ small (f ∷ frames) bound filled within =
     record {
       count = omega (arith, count, first, within);
       some = some rest;
-      few = few rest;
+      bounded = bounded rest;
     }
   where
     some : AreSmall (bound - 1) (map column_of_frame frames) → All (λ (c : Column). 0 < length c.nodes) (map column_of_frame (f ∷ frames))
     some rest zero d w = filled 0 f refl
     some rest (suc k) d w = rest.some k d (omega (arith, w))
 
-    few : AreSmall (bound - 1) (map column_of_frame frames) → All (λ (c : Column). length c.nodes ≤ bound)
+    bounded : AreSmall (bound - 1) (map column_of_frame frames) → All (λ (c : Column). length c.nodes ≤ bound)
         (map column_of_frame (f ∷ frames))
-    few rest zero d w = omega (arith, within)
-    few rest (suc k) d w = let h = rest.few k d (omega (arith, w)) in omega (arith, h)
+    bounded rest zero d w = omega (arith, within)
+    bounded rest (suc k) d w = let h = rest.bounded k d (omega (arith, w)) in omega (arith, h)
 
 pub columns_are_small : (tree : SyntaxTree) (input : List ℤ) (limit : ℕ) (events : List Event) → BreaksNoRule tree
     → Run (pipeline_after_init tree input) limit events (state_after events) → HasSmallColumns (ended_columns_after events)
 columns_are_small tree input limit events accepted run =
     let s = state_after events in
-    let bounded = program_instances_are_bounded tree input limit events s accepted run in
-    let planned = (accepted_programs_are_planned tree input accepted).few in
-    let h = small s.frames 262145 (λ i f there. ((run_consistent run).sound.well i f there).filled) (omega (arith, bounded, planned)) in
+    let counted = program_instances_are_bounded tree input limit events s accepted run in
+    let planned = (accepted_programs_are_planned tree input accepted).bounded in
+    let h = small s.frames 262145 (λ i f there. ((run_consistent run).sound.well i f there).filled) (omega (arith, counted, planned)) in
     let count = h.count in
     record {
       count = omega (arith, count);
       some = h.some;
-      few = λ k d w. let one = h.few k d w in omega (arith, one);
+      bounded = λ k d w. let one = h.bounded k d w in omega (arith, one);
     }

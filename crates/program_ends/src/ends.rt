@@ -14,7 +14,7 @@ ghost use Rattle.pipe_model.specs.Runs.State.{accesses_of, initial_state};
 ghost use Rattle.program_ends.specs.ProgramEnds.{HasResults, reaches_final};
 ghost use Rattle.serial_elision.specs.PartRuns.{Serves};
 ghost use Rattle.stage_interp.specs.MachineState.{IsMadeFor};
-ghost use Rattle.stage_interp.specs.Standing.{IsCodeOf};
+ghost use Rattle.stage_interp.specs.RemainingBehaviour.{IsCodeOf};
 
 use cell_store::cells::Cells;
 use pipe_model::event::RunLog;

@@ -290,13 +290,13 @@ so_far NoTurn well = record { run = EmptyRun; going = refl; busy = omega arith }
 so_far {p} {limit} {workers} (OneTurn {events} {s} r e m) well =
     let k = so_far r well in
     let h = candidate_is_good p limit workers events s e k.run well k.going m in
-    let few = few_after p limit s e h.allowed in
+    let bounded = few_after p limit s e h.allowed in
     record {
       run = RunThen k.run e h.allowed;
       going = going_after s e h.no_stop k.going;
       busy = elim h.room_for [
-        | inl room ↦ (let l = ltb-true (running_instances s) workers room in let q = few.most in omega (arith, l, q))
-        | inr none ↦ (let l = k.busy in let q = few.none none in omega (arith, l, q))
+        | inl room ↦ (let l = ltb-true (running_instances s) workers room in let q = bounded.most in omega (arith, l, q))
+        | inr none ↦ (let l = k.busy in let q = bounded.none none in omega (arith, l, q))
       ];
     }
 

@@ -104,10 +104,10 @@ names_few each left more (Ending e) (Ended f ∷ xs) p b = names_few each left m
 frame_is_small : (p : Pipeline) (each more i : ℕ) (f : Frame) → IsTraced p i f → HasBoundedWork each each more (p.behaviour i)
     → length f.nodes ≤ more + 1
 frame_is_small p each more i f t b =
-    let few = names_few each each more (p.behaviour i) f.trace t.performs b in
+    let bounded = names_few each each more (p.behaviour i) f.trace t.performs b in
     let all : suc (length (nodes_in f.trace)) ≡ length f.nodes + length (pending_node f.status) =
     ap (λ (l : List Node). length l) t.nodes ∙ length-append f.nodes (pending_node f.status) in
-    omega (arith, few, all)
+    omega (arith, bounded, all)
 
 -- ---- the instances of all iterations
 

@@ -68,11 +68,11 @@ module _ (columns : List (List Node)) (book : List BookEntry) (shards : ℕ → 
           let n : suc k ≡ k + 1 = omega arith in
           let u = h.instances.up (suc i) k start (subst (λ m. start_ticket_of book (suc i) m ≡ Some start) n is) in
           let s = h.instances.from_start_to_end (suc i) k u.end u.ends in
-          let few : j ≤ joined_at columns i k = elim (cases_lt (joined_at columns i k) (joined_at columns i (suc k))) [
+          let bounded : j ≤ joined_at columns i k = elim (cases_lt (joined_at columns i k) (joined_at columns i (suc k))) [
             | inl more ↦ absurd (let x = lt-ltb (joined_at columns i k) (joined_at columns i (suc k)) more in cc)
             | inr same ↦ omega (arith, same, le)
           ] in
-          let r = again s.0 s.1 few in
+          let r = again s.0 s.1 bounded in
           let starts = r.starts in
           let first = s.1 in
           let e : r.start ≡ s.0 = cc in

@@ -4,7 +4,7 @@ use Rattle.std.proofs.Common.{inr, subst, arith}
 use Rattle.std.proofs.lemmas.Bool.{or_cases}
 use Rattle.std.proofs.lemmas.Bool.Decides.{nat_tests}
 use Rattle.access_history.specs.declared.history.History.{History}
-use Rattle.access_history.specs.declared.history.Who.{Who}
+use Rattle.access_history.specs.declared.history.MarkedNode.{MarkedNode}
 use Rattle.access_history.specs.KeptInstances.{AllKept}
 use Rattle.access_history.specs.KnownOrder.{AgreeOnKnown, AgreeOnKnownKept}
 use Rattle.order_2d.specs.StartedNodes.{left_joined}
@@ -56,7 +56,7 @@ known_one columns starts ok ordered started x y in_x in_y = λ known.
     (both.down, both.right)
 
 known_of : (columns : List (List Node)) (starts : List NodeId) → AreColumns columns → AreStarts columns starts
-    → ((y : NodeId) → IsNodeOf columns y → IsStarted starts y) → (x : NodeId) → IsNodeOf columns x → (kept : Option Who)
+    → ((y : NodeId) → IsNodeOf columns y → IsStarted starts y) → (x : NodeId) → IsNodeOf columns x → (kept : Option MarkedNode)
     → IfSome kept (IsMarked columns starts)
     → IfSome kept (λ y. AgreeOnKnown (Some (left_joined columns x.iteration x.index)) (down_place starts)
     (right_place columns starts) x y.node)

@@ -5,7 +5,7 @@ use Rattle.access_history.specs.declared.history.Found.{Found}
 use Rattle.access_history.specs.declared.history.History.{History}
 use Rattle.access_history.specs.declared.history.Verdict.{Verdict}
 use Rattle.access_history.specs.declared.history.Verdict.TheVariants.{Clean, Race}
-use Rattle.access_history.specs.declared.history.Who.{Who}
+use Rattle.access_history.specs.declared.history.MarkedNode.{MarkedNode}
 use Rattle.access_history.specs.KnownOrder.{AgreeOnKnownKept}
 use Rattle.access_history.specs.KeptInstances.{AgreeOn, AgreeOnKept, AllKept, IsEither, IsHistoryAfter, KeepsAmong, earlier_access, kept_of}
 use Rattle.access_history.specs.KeptInstances.{node_of, report_after}
@@ -26,7 +26,7 @@ use Rattle.race_detection.specs.NotedRuns.{HasNoted, IsMarked}
 -- ---- the orders of the starts agree with the lists
 
 agree : (columns : List (List Node)) (starts : List NodeId) (d r : List ℕ) → d ≡ list_of_log (down_first_log starts)
-    → r ≡ list_of_log (right_first_log columns starts) → (x y : Who) → IsMarked columns starts x → IsMarked columns starts y
+    → r ≡ list_of_log (right_first_log columns starts) → (x y : MarkedNode) → IsMarked columns starts x → IsMarked columns starts y
     → AgreeOn d r (down_place starts) (right_place columns starts) x y
 agree columns starts d r same_down same_right x y hx hy =
     let xd : place x.marks.down_first d ≡ down_place starts x.node = λ i. place (hx.marks i).down_first (same_down i) in
@@ -39,12 +39,12 @@ agree columns starts d r same_down same_right x y hx hy =
     }
 
 -- what holds of a kept instance
-each_kept : (P Q : Who → Type 0) (kept : Option Who) → ((w : Who) → P w → Q w) → IfSome kept P → IfSome kept Q
+each_kept : (P Q : MarkedNode → Type 0) (kept : Option MarkedNode) → ((w : MarkedNode) → P w → Q w) → IfSome kept P → IfSome kept Q
 each_kept P Q None f h = tt
 each_kept P Q (Some w) f h = f w h
 
 pub agree_on_kept : (columns : List (List Node)) (starts : List NodeId) (d r : List ℕ) → d ≡ list_of_log (down_first_log starts)
-    → r ≡ list_of_log (right_first_log columns starts) → (x : Who) (h : History) → IsMarked columns starts x
+    → r ≡ list_of_log (right_first_log columns starts) → (x : MarkedNode) (h : History) → IsMarked columns starts x
     → AllKept (IsMarked columns starts) h
     → AgreeOnKept d r (down_place starts) (right_place columns starts) x h
 agree_on_kept columns starts d r same_down same_right x h hx kept =
@@ -57,12 +57,13 @@ agree_on_kept columns starts d r same_down same_right x h hx kept =
 
 -- ---- what is kept after one more access
 
-one_kept : (P : Who → Type 0) (kept new : Option Who) (x : Who) → IfSome kept P → P x → IfSome new (IsEither kept x) → IfSome new P
+one_kept : (P : MarkedNode → Type 0) (kept new : Option MarkedNode) (x : MarkedNode) → IfSome kept P → P x → IfSome new (IsEither kept x)
+    → IfSome new P
 one_kept P kept None x k p e = tt
 one_kept P kept (Some y) x k p (inl e) = rw e p
 one_kept P kept (Some y) x k p (inr e) = rw e at k
 
-pub still_kept : (P : Who → Type 0) (h h' : History) (x : Who) → AllKept P h → P x → KeepsAmong h x h' → AllKept P h'
+pub still_kept : (P : MarkedNode → Type 0) (h h' : History) (x : MarkedNode) → AllKept P h → P x → KeepsAmong h x h' → AllKept P h'
 still_kept P h h' x k p among = record {
   writer = one_kept P h.writer h'.writer x k.writer p among.writer;
   rightmost = one_kept P h.rightmost h'.rightmost x k.rightmost p among.rightmost;
@@ -80,7 +81,8 @@ either_access : (P : NodeId → Type 0) (b : Bool) (x y : Option NotedAccess) �
 either_access P true x y p q = p
 either_access P false x y p q = q
 
-race_at : (P : NodeId → Type 0) (down right : NodeId → ℕ) (x : NodeId) (kind : AccessKind) (kept : Option Who) (rest : Option NotedAccess)
+race_at : (P : NodeId → Type 0) (down right : NodeId → ℕ) (x : NodeId) (kind : AccessKind) (kept : Option MarkedNode)
+    (rest : Option NotedAccess)
     → IfSome kept (λ w. P w.node) → IfSome rest (IsAt P) → IfSome (race_with down right x kind (node_of kept) rest) (IsAt P)
 race_at P down right x kind None rest k r = r
 race_at P down right x kind (Some w) rest k r = either_access P (is_ordered down right w.node x) rest (Some (noted_access w.node kind)) r k
@@ -124,7 +126,7 @@ pub marked_as : (columns : List (List Node)) (starts : List NodeId) (x : NodeId)
 marked_as columns starts x s inside is = record { inside = inside; marks = ap (λ n. n.marks) is }
 
 pub noted_again : (columns : List (List Node)) (starts : List NodeId) (d r : List ℕ) → d ≡ list_of_log (down_first_log starts)
-    → r ≡ list_of_log (right_first_log columns starts) → (x : Who) (kind : AccessKind) (h h' : History) (verdict : Verdict)
+    → r ≡ list_of_log (right_first_log columns starts) → (x : MarkedNode) (kind : AccessKind) (h h' : History) (verdict : Verdict)
     (accesses : List NotedAccess)
     → IsMarked columns starts x → HasNoted columns starts accesses h
     → (joined : Option ℕ) → AgreeOnKnownKept joined (down_place starts) (right_place columns starts) x.node h

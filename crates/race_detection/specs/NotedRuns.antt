@@ -2,7 +2,7 @@
 use Rattle.std.specs.Prelude.{◌≡◌, ◌<◌, ℕ, zero, suc, List, [], ◌∷◌, ◌++◌, length, slice_index_or, Option, Some, None, IfSome}
 use Rattle.access_history.specs.declared.history.Found.{Found}
 use Rattle.access_history.specs.declared.history.History.{History}
-use Rattle.access_history.specs.declared.history.Who.{Who}
+use Rattle.access_history.specs.declared.history.MarkedNode.{MarkedNode}
 use Rattle.access_history.specs.KeptInstances.{AllKept, IsHistoryAfter, nothing_kept}
 use Rattle.order_2d.specs.declared.replay.Replayed.{Replayed}
 use Rattle.order_2d.specs.StartedNodes.{HasStarted}
@@ -31,7 +31,7 @@ pub record IsReplayOf (columns : List (List Node)) (r : Replayed) : Type 0 where
       → AreIn (list_of_log r.orders.down.log) (list_of_log r.orders.right.log) (instance_marks columns r.nodes x.iteration x.index)
 
 -- an instance of the columns, with its own marks
-pub record IsMarked (columns : List (List Node)) (starts : List NodeId) (w : Who) : Type 0 where
+pub record IsMarked (columns : List (List Node)) (starts : List NodeId) (w : MarkedNode) : Type 0 where
   pub inside : IsNodeOf columns w.node
   pub marks : w.marks ≡ instance_marks columns starts w.node.iteration w.node.index
 

@@ -1,6 +1,6 @@
 //! The races of a logged run.
 
-ghost use Rattle.std.specs.Prelude.{◌≡◌, ◌≤◌, ◌<◌, ℕ, All, [], IfOk, length, OnOk};
+ghost use Rattle.std.specs.Prelude.{◌≡◌, ◌≤◌, ◌<◌, ◌^◌, ℕ, All, [], IfOk, length, OnOk};
 ghost use Rattle.order_2d.specs.LogStarts.{IsOwnLog, log_columns, log_starts, nodes_of_columns};
 ghost use Rattle.order_2d.specs.declared.starts.TheConstants.{MOST_STARTS};
 ghost use Rattle.pipe_model.specs.Races.Columns.{IsNodeOf};
@@ -21,7 +21,7 @@ use std::alloc::Global;
 // The least number that is greater than the number of each accessed cell.
 fn cell_bound(accesses: &[NodeAccess]) -> usize
     ensures bound { result ≡ cell_bound accesses.now }
-    ensures small { result ≤ 4294967296 }
+    ensures small { result ≤ 2 ^ 32 }
 {
     let mut bound = 0;
     for access in accesses {
@@ -61,7 +61,7 @@ fn note_all(run: &StartedRun<'_>, accesses: &[NodeAccess], histories: &mut Vec<H
 
 // The races that the histories have found, by cell.
 fn found_races(alloc: Global, histories: &[History]) -> Result<Vec<(CellId, Found)>, NoMemory>
-    requires { length histories.now ≤ 4294967296 }
+    requires { length histories.now ≤ 2 ^ 32 }
     ensures { IfOk result (λ found. found.items ≡ found_below histories.now (length histories.now)) }
 {
     let mut found = Vec::new(alloc);
@@ -80,7 +80,7 @@ fn found_races(alloc: Global, histories: &[History]) -> Result<Vec<(CellId, Foun
 /// if memory runs out.
 pub fn detect(alloc: Global, run_log: &RunLog, accesses: &NodeAccesses) -> Result<Reports, NoMemory>
     requires own { IsOwnLog run_log.now }
-    requires few { length (log_starts run_log.now.events) ≤ MOST_STARTS }
+    requires bounded { length (log_starts run_log.now.events) ≤ MOST_STARTS }
     requires inside { All (λ (a : PlainAccess). IsNodeOf (log_columns run_log.now.events) a.node) accesses.now }
     ensures { IfOk result (λ reports. reports ≡ found_reports (log_columns run_log.now.events)
         (log_starts run_log.now.events) accesses.now) }

@@ -7,7 +7,7 @@ ghost use Rattle.pipe_model.specs.Races.CellRaces.{NotedAccess, noted_access};
 ghost use Rattle.pipe_model.specs.Races.Columns.{IsNodeOf};
 ghost use Rattle.race_detection.specs.NotedRuns.{HasNoted, IsReplayOf};
 
-use access_history::history::{History, Who};
+use access_history::history::{History, MarkedNode};
 use order_2d::replay::Replayed;
 use order_2d::started::StartedNode;
 use pipe_model::access::NodeAccess;
@@ -44,7 +44,7 @@ pub(crate) fn note(run: &StartedRun<'_>, history: &mut History, access: NodeAcce
         (accesses ++ noted_access access.node access.access.kind ∷ []) history.new }
 {
     let started = started_node(run, access.node);
-    let who = Who {
+    let who = MarkedNode {
         node: access.node,
         marks: started.marks,
     };

@@ -11,7 +11,8 @@ ghost use Rattle.pipe_model.specs.declared.event.Event.TheVariants as plain;
 ghost use Rattle.record_check.specs.CheckedLoops.{IsFirstStop, IsLoopAnswer, kind_of, with_stop};
 ghost use Rattle.schedule_play.specs.OneAccess.{HasAllCells};
 ghost use Rattle.schedule_play.specs.PlayStates.{IsPlay, pipeline_played};
-ghost use Rattle.stage_interp.specs.Standing.{IsCodeOf};
+ghost use Rattle.stage_interp.specs.CellNumbers.{most_cell_ids};
+ghost use Rattle.stage_interp.specs.RemainingBehaviour.{IsCodeOf};
 
 use crate::answer::{RecordAnswer, RunKind};
 use crate::follow::follow;
@@ -114,7 +115,7 @@ fn check_coded<B: PlayedCode>(
     requires accepted { BreaksNoRule (tree_of checked.now) }
     requires throttle { 0 < throttle }
     requires served { cell_total (tree_of checked.now).cells + 2 ≤ cells.shard.cells }
-    requires few { cells.shard.cells ≤ 4294967296 }
+    requires bounded { cells.shard.cells ≤ most_cell_ids }
     requires all { HasAllCells cells }
     requires state { IsStateAfter (store_of (tree_of checked.now)) (init_accesses (whole_of (tree_of checked.now) input.now)) cells }
     requires short { length events.now < 2 ^ 32 }
@@ -149,7 +150,7 @@ pub fn check_loop(
     requires accepted { BreaksNoRule (tree_of checked.now) }
     requires throttle { 0 < throttle }
     requires served { cell_total (tree_of checked.now).cells + 2 ≤ cells.shard.cells }
-    requires few { cells.shard.cells ≤ 4294967296 }
+    requires bounded { cells.shard.cells ≤ most_cell_ids }
     requires all { HasAllCells cells }
     requires state { IsStateAfter (store_of (tree_of checked.now)) (init_accesses (whole_of (tree_of checked.now) input.now)) cells }
     requires short { length events.now < 2 ^ 32 }

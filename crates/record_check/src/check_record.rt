@@ -7,7 +7,7 @@ ghost use Rattle.pipe_model.specs.Language.SyntaxTree.{tree_of};
 ghost use Rattle.pipe_model.specs.Pipelines.WholePrograms as whole_programs;
 ghost use Rattle.record_check.specs.CheckedRecords.{IsRecordAnswer};
 ghost use Rattle.stage_interp.specs.MachineState.{IsMadeFor};
-ghost use Rattle.stage_interp.specs.Standing.{IsCodeOf};
+ghost use Rattle.stage_interp.specs.RemainingBehaviour.{IsCodeOf};
 
 use crate::answer::{RecordAnswer, RunKind};
 use crate::check_loop::check_loop;

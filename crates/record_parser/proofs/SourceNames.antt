@@ -125,50 +125,50 @@ is_cell_own (b ∷ bs) d = by (bytes_eq b.name d.name) (is_cell_own bs d)
 no_later : (before ds : List Declaration) (d : Declaration) (k l : ℕ) → AreNew before ds → AreWritableCells ds → IsName d.name
     → is_cell before d.name ≡ true
     → k < declared_size d.size → k < 2 ^ 64 → l < cell_total ds → cell_total ds < 2 ^ 64 → element_name d k ≡ declared_name ds l → ⊥
-no_later before [] d k l new names h own w small v few e = omega (arith, v)
-no_later before (x ∷ ds) d k l new names h own w small v few e = elim (cases_lt l (declared_size x.size)) [
+no_later before [] d k l new names h own w small v bounded e = omega (arith, v)
+no_later before (x ∷ ds) d k l new names h own w small v bounded e = elim (cases_lt l (declared_size x.size)) [
   | inl less ↦ (
       let same = one_element d.name x.name d.size x.size k l (name_free 91 d.name refl h) (name_free 91 x.name refl names.0) w less small
-      (omega (arith, v, few))
+      (omega (arith, v, bounded))
       (e ∙ own_name x ds l less) in
       let z : true ≡ false = sym own ∙ ap (is_cell before) same.names ∙ new.0 in
       absurd (cc))
   | inr past ↦ no_later (before ++ x ∷ []) ds d k (l - declared_size x.size) new.1 names.3 h (is_cell_more before x d.name own) w small
-      (omega (arith, v, past)) (omega (arith, few)) (e ∙ later_name x ds l past)
+      (omega (arith, v, past)) (omega (arith, bounded)) (e ∙ later_name x ds l past)
 ]
 
 one_declared : (before ds : List Declaration) (k l : ℕ) → AreNew before ds → AreWritableCells ds → k < cell_total ds → l < cell_total ds
     → cell_total ds < 2 ^ 64
     → declared_name ds k ≡ declared_name ds l → k ≡ l
-one_declared before [] k l new names w v few e = absurd (omega (arith, w))
-one_declared before (d ∷ ds) k l new names w v few e = elim (cases_lt k (declared_size d.size)) [
+one_declared before [] k l new names w v bounded e = absurd (omega (arith, w))
+one_declared before (d ∷ ds) k l new names w v bounded e = elim (cases_lt k (declared_size d.size)) [
   | inl less ↦ elim (cases_lt l (declared_size d.size)) [
     | inl also ↦ (one_element d.name d.name d.size d.size k l (name_free 91 d.name refl names.0)
         (name_free 91 d.name refl names.0) less also
-        (omega (arith, w, few)) (omega (arith, v, few)) (sym (own_name d ds k less) ∙ e ∙ own_name d ds l also)).places
+        (omega (arith, w, bounded)) (omega (arith, v, bounded)) (sym (own_name d ds k less) ∙ e ∙ own_name d ds l also)).places
     | inr past ↦ absurd (no_later (before ++ d ∷ []) ds d k (l - declared_size d.size) new.1 names.3 names.0 (is_cell_own before d) less
-        (omega (arith, w, few))
-        (omega (arith, v, past)) (omega (arith, few)) (sym (own_name d ds k less) ∙ e ∙ later_name d ds l past))
+        (omega (arith, w, bounded))
+        (omega (arith, v, past)) (omega (arith, bounded)) (sym (own_name d ds k less) ∙ e ∙ later_name d ds l past))
   ]
   | inr past ↦ elim (cases_lt l (declared_size d.size)) [
     | inl also ↦ absurd (no_later (before ++ d ∷ []) ds d l (k - declared_size d.size) new.1 names.3 names.0 (is_cell_own before d) also
-        (omega (arith, v, few))
-        (omega (arith, w, past)) (omega (arith, few)) (sym (own_name d ds l also) ∙ sym e ∙ later_name d ds k past))
+        (omega (arith, v, bounded))
+        (omega (arith, w, past)) (omega (arith, bounded)) (sym (own_name d ds l also) ∙ sym e ∙ later_name d ds k past))
     | inr beyond ↦ (
         let rest = one_declared (before ++ d ∷ []) ds (k - declared_size d.size) (l - declared_size d.size) new.1 names.3
         (omega (arith, w, past)) (omega (arith, v, beyond))
-        (omega (arith, few)) (sym (later_name d ds k past) ∙ e ∙ later_name d ds l beyond) in
+        (omega (arith, bounded)) (sym (later_name d ds k past) ∙ e ∙ later_name d ds l beyond) in
         omega (arith, rest, past, beyond))
   ]
 ]
 
 declared_free : (ds : List Declaration) (k : ℕ) → AreWritableCells ds → k < cell_total ds → cell_total ds < 2 ^ 64
     → IsFreeOf line_feed (declared_name ds k)
-declared_free [] k names w few = absurd (omega (arith, w))
-declared_free (d ∷ ds) k names w few = elim (cases_lt k (declared_size d.size)) [
-  | inl less ↦ subst (IsFreeOf line_feed) (sym (own_name d ds k less)) (element_free d k (omega (arith, w, few)) names.0)
+declared_free [] k names w bounded = absurd (omega (arith, w))
+declared_free (d ∷ ds) k names w bounded = elim (cases_lt k (declared_size d.size)) [
+  | inl less ↦ subst (IsFreeOf line_feed) (sym (own_name d ds k less)) (element_free d k (omega (arith, w, bounded)) names.0)
   | inr past ↦ subst (IsFreeOf line_feed) (sym (later_name d ds k past))
-      (declared_free ds (k - declared_size d.size) names.3 (omega (arith, w, past)) (omega (arith, few)))
+      (declared_free ds (k - declared_size d.size) names.3 (omega (arith, w, past)) (omega (arith, bounded)))
 ]
 
 no_reserved : (word : List ℕ) → IsFreeOf 91 word → ((x : List ℕ) → symbol_of x ≡ Some (symbols.Name x) → x ≡ word → ⊥)
@@ -183,7 +183,7 @@ no_reserved word free apart (d ∷ ds) k names w e = elim (cases_lt k (declared_
 -- ---- cells
 
 plain_names : (ds : List Declaration) → AreNew [] ds → AreWritableCells ds → cell_total ds ≤ 65536 → HasPlainNames ds
-plain_names ds new names few = record { distinct = distinct; free = free }
+plain_names ds new names bounded = record { distinct = distinct; free = free }
   where
     input_free : IsFreeOf 91 (codes "input")
     input_free = free_by_test 91 (codes "input") refl
@@ -205,12 +205,12 @@ plain_names ds new names few = record { distinct = distinct; free = free }
     distinct (suc (suc k)) zero p q e = absurd (no_reserved (codes "input") input_free no_input ds k names (omega (arith, p)) e)
     distinct (suc (suc k)) (suc zero) p q e = absurd (no_reserved (codes "output") output_free no_output ds k names (omega (arith, p)) e)
     distinct (suc (suc k)) (suc (suc l)) p q e =
-        ap (λ n. suc (suc n)) (one_declared [] ds k l new names (omega (arith, p)) (omega (arith, q)) (omega (arith, few)) e)
+        ap (λ n. suc (suc n)) (one_declared [] ds k l new names (omega (arith, p)) (omega (arith, q)) (omega (arith, bounded)) e)
 
     free : (c : ℕ) → IsCell ds c → IsFreeOf line_feed (cell_name ds c)
     free zero p = free_by_test line_feed (codes "input") refl
     free (suc zero) p = free_by_test line_feed (codes "output") refl
-    free (suc (suc k)) p = declared_free ds k names (omega (arith, p)) (omega (arith, few))
+    free (suc (suc k)) p = declared_free ds k names (omega (arith, p)) (omega (arith, bounded))
 
 pub accepted_names : (source : List ℕ) (tree : SyntaxTree) → IsAccepted source tree → HasPlainNames tree.cells
 accepted_names source tree h =
@@ -218,5 +218,5 @@ accepted_names source tree h =
     let of : IsWritingOf source (symbols_in source s.tokens) = record { tokens = s.tokens; lexed = s.lexed; same = refl } in
     let written = writable_program source (symbols_in source s.tokens) s.spelled.pieces tree of s.spelled.split s.spelled.derived in
     let prepared = ready tree (spelled_is_spellable source tree s) h.obeys in
-    let few = prepared.few in
-    plain_names tree.cells prepared.new written.cells (omega (arith, few))
+    let bounded = prepared.bounded in
+    plain_names tree.cells prepared.new written.cells (omega (arith, bounded))

@@ -75,7 +75,7 @@ fn trap_fields(bytes: &[u8]) -> Option<TrapFields>
 
 // The name of a cell may have any bytes here, so the value is what follows the last space.
 fn access_fields(cells: &[Declaration], bytes: &[u8]) -> Option<AccessFields>
-    requires few { cell_total cells.now ≤ MOST_CELLS }
+    requires bounded { cell_total cells.now ≤ MOST_CELLS }
     ensures some { IfSome result (λ f. IsAccessText cells.now bytes.now f.iteration f.cell.0 f.value) }
     ensures none { IfNone result ((i c : ℕ) (v : ℤ) → IsAccessText cells.now bytes.now i c v → ⊥) }
 {
@@ -103,7 +103,7 @@ fn access_fields(cells: &[Declaration], bytes: &[u8]) -> Option<AccessFields>
 
 // The event of an access, by the fields after its word.
 fn access_event(cells: &[Declaration], kind: AccessKind, fields: &[u8]) -> Option<Event>
-    requires few { cell_total cells.now ≤ MOST_CELLS }
+    requires bounded { cell_total cells.now ≤ MOST_CELLS }
     ensures some { IfSome result (λ e. HasFields cells.now fields.now (LogWord.Access kind) e) }
     ensures none { IfNone result ((e : PlainEvent) → HasFields cells.now fields.now (LogWord.Access kind) e → ⊥) }
 {
@@ -160,7 +160,7 @@ fn iteration_event(cells: &[Declaration], word: LogWord, fields: &[u8]) -> Optio
 
 // The event of a word and the fields after it.
 fn event_of(cells: &[Declaration], word: LogWord, fields: &[u8]) -> Option<Event>
-    requires few { cell_total cells.now ≤ MOST_CELLS }
+    requires bounded { cell_total cells.now ≤ MOST_CELLS }
     ensures some { IfSome result (λ e. HasFields cells.now fields.now word e) }
     ensures none { IfNone result ((e : PlainEvent) → HasFields cells.now fields.now word e → ⊥) }
 {
@@ -195,7 +195,7 @@ fn event_of_word(cells: &[Declaration], line: &[u8]) -> Option<Event>
 
 /// Returns the event whose line, without its line feed, these bytes are. Returns `None` if there is none.
 pub fn event_of_line(cells: &[Declaration], line: &[u8]) -> Option<Event>
-    requires few { cell_total cells.now ≤ MOST_CELLS }
+    requires bounded { cell_total cells.now ≤ MOST_CELLS }
     ensures some { IfSome result (λ e. IsLogLine cells.now line.now e) }
     ensures none { IfNone result ((e : PlainEvent) → IsLogLine cells.now line.now e → ⊥) }
 {

@@ -76,7 +76,7 @@ fn element_field(declaration: &Declaration, bytes: &[u8]) -> Option<u64>
 
 // Returns the index of the declared cell with this name, counted from 0 over all declarations.
 fn declared_field(cells: &[Declaration], bytes: &[u8]) -> Option<u64>
-    requires few { cell_total cells.now ≤ MOST_CELLS }
+    requires bounded { cell_total cells.now ≤ MOST_CELLS }
     ensures some { IfSome result (λ k. bytes.now ≡ declared_name cells.now k) }
     ensures below { IfSome result (λ k. k < cell_total cells.now) }
     ensures none { IfNone result ((k : ℕ) → k < cell_total cells.now → bytes.now ≡ declared_name cells.now k → ⊥) }
@@ -93,7 +93,7 @@ fn declared_field(cells: &[Declaration], bytes: &[u8]) -> Option<u64>
 
 /// Returns the cell with this name. Returns `None` if there is none.
 pub fn cell_field(cells: &[Declaration], bytes: &[u8]) -> Option<CellId>
-    requires few { cell_total cells.now ≤ MOST_CELLS }
+    requires bounded { cell_total cells.now ≤ MOST_CELLS }
     ensures some { IfSome result (λ c. bytes.now ≡ cell_name cells.now c.0) }
     ensures there { IfSome result (λ c. IsCell cells.now c.0) }
     ensures none { IfNone result ((c : ℕ) → IsCell cells.now c → bytes.now ≡ cell_name cells.now c → ⊥) }

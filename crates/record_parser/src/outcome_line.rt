@@ -53,7 +53,7 @@ fn without_access(bytes: &[u8]) -> Option<&[u8]>
 
 // Whether these are a cell and two accesses.
 fn is_race(cells: &[Declaration], bytes: &[u8]) -> bool
-    requires few { cell_total cells.now ≤ MOST_CELLS }
+    requires bounded { cell_total cells.now ≤ MOST_CELLS }
     ensures yes { OnTrue result (IsRaceText cells.now bytes.now) }
     ensures no { OnFalse result (IsRaceText cells.now bytes.now → ⊥) }
 {
@@ -139,7 +139,7 @@ fn is_trap_word(bytes: &[u8]) -> bool
 
 // Whether the line is one of a race or a trap.
 fn is_worded(cells: &[Declaration], line: &[u8]) -> bool
-    requires few { cell_total cells.now ≤ MOST_CELLS }
+    requires bounded { cell_total cells.now ≤ MOST_CELLS }
     ensures yes { OnTrue result (IsWordedOutcome cells.now line.now) }
     ensures no { OnFalse result (IsWordedOutcome cells.now line.now → ⊥) }
 {
@@ -157,7 +157,7 @@ fn is_worded(cells: &[Declaration], line: &[u8]) -> bool
 
 /// Returns whether this is a line of a run's outcome, without its line feed.
 pub fn is_outcome_line(cells: &[Declaration], line: &[u8]) -> bool
-    requires few { cell_total cells.now ≤ MOST_CELLS }
+    requires bounded { cell_total cells.now ≤ MOST_CELLS }
     ensures yes { OnTrue result (IsOutcomeLine cells.now line.now) }
     ensures no { OnFalse result (IsOutcomeLine cells.now line.now → ⊥) }
 {

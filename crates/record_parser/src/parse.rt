@@ -28,7 +28,7 @@ struct Divided<'a> {
 
 // Takes the first line from a text that is not empty.
 fn first_line(text: &[u8]) -> Divided<'_>
-    requires some { 0 < length text.now }
+    requires nonempty { 0 < length text.now }
     ensures lines { lines_of text.now ≡ result.line.now ∷ lines_of result.following.now }
     ensures shorter { length result.following.now < length text.now }
 {
@@ -44,7 +44,7 @@ fn first_line(text: &[u8]) -> Divided<'_>
 // Adds the event of a line; a line of an outcome before the first event is passed over. Returns whether
 // the line is one of these.
 fn read_line(events: &mut Events, cells: &[Declaration], line: &[u8]) -> Result<bool, NoMemory>
-    requires few { cell_total cells.now ≤ MOST_CELLS }
+    requires bounded { cell_total cells.now ≤ MOST_CELLS }
     ensures yes { IfOk result (λ b. OnTrue b ((lines : List (List ℕ)) → IsRecord cells.now lines events.old
         → IsRecord cells.now (lines ++ line.now ∷ []) events.new)) }
     ensures no { IfOk result (λ b. OnFalse b (CannotFollow cells.now events.old line.now)) }
@@ -61,10 +61,10 @@ fn read_line(events: &mut Events, cells: &[Declaration], line: &[u8]) -> Result<
 
 // Reads the lines of a text that is not too long.
 fn read_lines(alloc: Global, cells: &[Declaration], text: &[u8]) -> Result<Events, RecordFault>
-    requires few { cell_total cells.now ≤ MOST_CELLS }
+    requires bounded { cell_total cells.now ≤ MOST_CELLS }
     requires short { length text.now ≤ bounds.LONGEST_RECORD }
     ensures read { IfOk result (IsRecord cells.now (lines_of text.now)) }
-    ensures few { IfOk result (λ events. length events ≤ length text.now) }
+    ensures bounded { IfOk result (λ events. length events ≤ length text.now) }
     ensures fault { IfErr result (IsFaultOf cells.now text.now) }
 {
     let mut events = Events::new(alloc);
@@ -95,7 +95,7 @@ fn read_lines(alloc: Global, cells: &[Declaration], text: &[u8]) -> Result<Event
 pub fn parse_record(alloc: Global, bytes: &[u8], checked: &Checked) -> Result<Events, RecordFault>
     ensures read { IfOk result (IsRecord checked.now.cells (lines_of bytes.now)) }
     ensures short { IfOk result (λ events. length bytes.now ≤ bounds.LONGEST_RECORD) }
-    ensures few { IfOk result (λ events. length events ≤ length bytes.now) }
+    ensures bounded { IfOk result (λ events. length events ≤ length bytes.now) }
     ensures fault { IfErr result (IsFaultOf checked.now.cells bytes.now) }
 {
     let _count = checked.cell_count();

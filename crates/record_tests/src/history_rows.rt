@@ -5,7 +5,7 @@
 ghost use Rattle.std.specs.Prelude.{◌≡◌};
 
 use crate::listed_orders::ListedOrders;
-use access_history::history::{Found, History, Verdict, Who};
+use access_history::history::{Found, History, MarkedNode, Verdict};
 use pipe_model::access::AccessKind;
 use pipe_model::access::AccessKind::{Read, Write};
 use pipe_model::marks::{Marks, Placeholder};
@@ -82,12 +82,12 @@ fn name(number: u32) -> NodeId {
     NodeId { iteration, index }
 }
 
-fn who(number: u32) -> Who {
+fn who(number: u32) -> MarkedNode {
     let unused = Placeholder {
         down_first: 0,
         right_first: 0,
     };
-    Who {
+    MarkedNode {
         node: name(number),
         marks: Marks {
             down_first: number,

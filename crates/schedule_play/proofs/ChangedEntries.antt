@@ -21,7 +21,7 @@ use Rattle.run_laws.proofs.RunStates.FrameMoves.{entered_frame, enter_pending_is
 use Rattle.run_laws.proofs.RunStates.Frames.{frame_at_other, frame_at_push, frame_at_updated, frame_at_within, length-update_frame}
 use Rattle.schedule_play.specs.declared.changes.Change.TheVariants.{Named, Entered, Ended}
 use Rattle.schedule_play.specs.declared.turns.Alive.{Alive}
-use Rattle.schedule_play.specs.declared.turns.Standing.TheVariants.{Running, MayEnter, MustWait}
+use Rattle.schedule_play.specs.declared.turns.Readiness.TheVariants.{Running, MayEnter, MustWait}
 use Rattle.schedule_play.specs.AliveChanges.{after_change, passes_left, released}
 use Rattle.schedule_play.specs.Turns.{alive_entry, alive_from}
 
@@ -100,7 +100,7 @@ entry_other : (all : List Frame) (j : ℕ) (u : Frame → Frame) (k : ℕ) → k
     → alive_entry all k w nodes ≡ alive_entry (update_frame all j u) k w nodes
 entry_other all j u k ne statuses.Running nodes = refl
 entry_other all j u k ne (statuses.Pending kind n) nodes =
-    ap (λ b. record { iteration = k; number = n; standing = if b then MayEnter else MustWait } ∷ [])
+    ap (λ b. record { iteration = k; number = n; readiness = if b then MayEnter else MustWait } ∷ [])
     (sym (may_enter_other all j u k ne kind n))
 entry_other all j u k ne (statuses.Completed e) nodes = refl
 
@@ -112,7 +112,7 @@ released_up false false h = refl
 
 -- the entry after an event of the left neighbour
 abbrev release : (ℤ → Bool) → Alive → Alive
-release new a = record a { standing = released (new a.number) a.standing }
+release new a = record a { readiness = released (new a.number) a.readiness }
 
 -- the entry of the right neighbour, if the updated iteration has passed what it had passed before
 entry_right : (all : List Frame) (j : ℕ) (f : Frame) (u : Frame → Frame) (new : ℤ → Bool) → frame_at all j ≡ Some f
@@ -128,7 +128,7 @@ entry_right all j f u new is now grows (statuses.Pending kinds.Wait n) nodes =
     ∙ ap (λ o. frame_has_passed o n) is in
     let after : left_has_passed (update_frame all j u) (j + 1) n ≡ new n =
     ap (λ i. left_has_passed (update_frame all j u) i n) z ∙ ap (λ o. frame_has_passed o n) (frame_at_updated all j f u is) ∙ now n in
-    ap (λ x. record { iteration = j + 1; number = n; standing = x } ∷ [])
+    ap (λ x. record { iteration = j + 1; number = n; readiness = x } ∷ [])
     (released_up (left_has_passed all (j + 1) n) (new n) (λ e. grows n (sym before ∙ e)) ∙ ap (λ b. if b then MayEnter else MustWait)
     (sym after))
 entry_right all j f u new is now grows (statuses.Completed e) nodes = refl
@@ -157,13 +157,13 @@ named_right : (j : ℕ) (n : ℤ) (free : Bool) (a : Alive) → a.iteration ≡ 
 named_right j n free a e =
     let apart : eqb a.iteration j ≡ false = apart_eqb a.iteration j (λ q. absurd (omega (arith, e, q))) in
     let right : eqb a.iteration (j + 1) ≡ true = eq-eqb a.iteration (j + 1) e in
-    ap (λ b. if b then record { iteration = j; number = n; standing = if free then MayEnter else MustWait }
+    ap (λ b. if b then record { iteration = j; number = n; readiness = if free then MayEnter else MustWait }
     else (if a.iteration == j + 1 then release (λ m. int_lt m n) a else a)) apart
     ∙ ap (λ b. if b then release (λ m. int_lt m n) a else a) right
 
 named_other : (j : ℕ) (n : ℤ) (free : Bool) (a : Alive) → a.iteration ≢ j → a.iteration ≢ j + 1 → after_change (Named j n free) a ≡ a
 named_other j n free a ne far =
-    ap (λ b. if b then record { iteration = j; number = n; standing = if free then MayEnter else MustWait }
+    ap (λ b. if b then record { iteration = j; number = n; readiness = if free then MayEnter else MustWait }
     else (if a.iteration == j + 1 then release (λ m. int_lt m n) a else a)) (apart_eqb a.iteration j ne)
     ∙ ap (λ b. if b then release (λ m. int_lt m n) a else a) (apart_eqb a.iteration (j + 1) far)
 
@@ -188,11 +188,11 @@ named all j f kind n free is runs above may = updated (map change) (map_parts ch
     own =
         let same : j ≢ j + 1 = λ q. absurd (omega (arith, q)) in
         ap (λ w. map change (alive_entry all j w f.nodes)) runs
-        ∙ ap (λ b. (if b then record { iteration = j; number = n; standing = if free then MayEnter else MustWait }
+        ∙ ap (λ b. (if b then record { iteration = j; number = n; readiness = if free then MayEnter else MustWait }
         else (if j == j + 1 then release (λ m. int_lt m n)
-        (record { iteration = j; number = (last_node f.nodes).number; standing = Running })
-        else record { iteration = j; number = (last_node f.nodes).number; standing = Running })) ∷ []) (eq-eqb j j refl)
-        ∙ ap (λ b. record { iteration = j; number = n; standing = if b then MayEnter else MustWait } ∷ [])
+        (record { iteration = j; number = (last_node f.nodes).number; readiness = Running })
+        else record { iteration = j; number = (last_node f.nodes).number; readiness = Running })) ∷ []) (eq-eqb j j refl)
+        ∙ ap (λ b. record { iteration = j; number = n; readiness = if b then MayEnter else MustWait } ∷ [])
         (may ∙ sym (may_enter_other all j u j same kind n))
 
     grows : (m : ℤ) → has_passed f.status f.nodes m ≡ true → int_lt m n ≡ true
@@ -212,7 +212,7 @@ named all j f kind n free is runs above may = updated (map change) (map_parts ch
 
 entered_other : (j : ℕ) (a : Alive) → a.iteration ≢ j → after_change (Entered j) a ≡ a
 entered_other j a ne =
-    ap (λ b. if b then record { iteration = j; number = a.number; standing = Running } else a) (apart_eqb a.iteration j ne)
+    ap (λ b. if b then record { iteration = j; number = a.number; readiness = Running } else a) (apart_eqb a.iteration j ne)
 
 -- the updated iteration has passed the same as before
 may_enter_same : (all : List Frame) (j : ℕ) (f : Frame) (u : Frame → Frame) → frame_at all j ≡ Some f
@@ -231,7 +231,7 @@ entry_same : (all all' : List Frame) (k : ℕ) → ((kind : Kind) (n : ℤ) → 
     → (w : Status) (nodes : List Node) → alive_entry all k w nodes ≡ alive_entry all' k w nodes
 entry_same all all' k same statuses.Running nodes = refl
 entry_same all all' k same (statuses.Pending kind n) nodes =
-    ap (λ b. record { iteration = k; number = n; standing = if b then MayEnter else MustWait } ∷ []) (sym (same kind n))
+    ap (λ b. record { iteration = k; number = n; readiness = if b then MayEnter else MustWait } ∷ []) (sym (same kind n))
 entry_same all all' k same (statuses.Completed e) nodes = refl
 
 pub entered : (all : List Frame) (j : ℕ) (f : Frame) (kind : Kind) (n : ℤ) → frame_at all j ≡ Some f → f.status ≡ statuses.Pending kind n
@@ -253,10 +253,10 @@ entered all j f kind n is named' = updated (map change) (map_parts change) all j
 
     own : map change (alive_entry all j f.status f.nodes) ≡ alive_entry (update_frame all j u) j (u f).status (u f).nodes
     own =
-        let old : Alive = record { iteration = j; number = n; standing = if may_enter all j kind n then MayEnter else MustWait } in
+        let old : Alive = record { iteration = j; number = n; readiness = if may_enter all j kind n then MayEnter else MustWait } in
         ap (λ w. map change (alive_entry all j w f.nodes)) named'
-        ∙ ap (λ b. (if b then record { iteration = j; number = n; standing = Running } else old) ∷ []) (eq-eqb j j refl)
-        ∙ ap (λ m. record { iteration = j; number = m; standing = Running } ∷ []) (sym number)
+        ∙ ap (λ b. (if b then record { iteration = j; number = n; readiness = Running } else old) ∷ []) (eq-eqb j j refl)
+        ∙ ap (λ m. record { iteration = j; number = m; readiness = Running } ∷ []) (sym number)
         ∙ ap (λ (g : Frame). alive_entry (update_frame all j u) j g.status g.nodes) (sym now)
 
     passed : (m : ℤ) → has_passed (u f).status (u f).nodes m ≡ has_passed f.status f.nodes m
@@ -283,10 +283,10 @@ ended_other j a far = ap (λ b. if b then release (λ m. true) a else a) (apart_
 others_stay : (all : List Frame) (j k : ℕ) (w : Status) (nodes : List Node) → k ≢ j → filter (is_other j)
     (alive_entry all k w nodes) ≡ alive_entry all k w nodes
 others_stay all j k statuses.Running nodes ne =
-    let a : Alive = record { iteration = k; number = (last_node nodes).number; standing = Running } in
+    let a : Alive = record { iteration = k; number = (last_node nodes).number; readiness = Running } in
     ap (λ b. cond (not b) (a ∷ []) []) (apart_eqb k j ne)
 others_stay all j k (statuses.Pending kind n) nodes ne =
-    let a : Alive = record { iteration = k; number = n; standing = if may_enter all k kind n then MayEnter else MustWait } in
+    let a : Alive = record { iteration = k; number = n; readiness = if may_enter all k kind n then MayEnter else MustWait } in
     ap (λ b. cond (not b) (a ∷ []) []) (apart_eqb k j ne)
 others_stay all j k (statuses.Completed e) nodes ne = refl
 
@@ -313,7 +313,7 @@ ended all j f e is runs = updated act parts all j f u is own other
 
     own : act (alive_entry all j f.status f.nodes) ≡ []
     own =
-        let a : Alive = record { iteration = j; number = (last_node f.nodes).number; standing = Running } in
+        let a : Alive = record { iteration = j; number = (last_node f.nodes).number; readiness = Running } in
         let stays : change a ≡ a = ended_other j a (λ q. absurd (omega (arith, q))) in
         ap (λ w. act (alive_entry all j w f.nodes)) runs ∙ ap (λ x. filter (is_other j) (x ∷ [])) stays
         ∙ ap (λ b. cond (not b) (a ∷ []) []) (eq-eqb j j refl)
@@ -343,7 +343,7 @@ alive_append all i (f ∷ fs) gs =
     ∙ sym (append_assoc (alive_entry all i f.status f.nodes) (alive_from all (i + 1) fs) (alive_from all (i + suc (length fs)) gs))
 
 pub begun : (all : List Frame) → alive_from (all ++ fresh_frame ∷ []) 0 (all ++ fresh_frame ∷ [])
-    ≡ alive_from all 0 all ++ record { iteration = length all; number = pos 0; standing = Running } ∷ []
+    ≡ alive_from all 0 all ++ record { iteration = length all; number = pos 0; readiness = Running } ∷ []
 begun all = alive_append all' 0 all (fresh_frame ∷ []) ∙ ap₂ (λ a b. a ++ b) (sym front) last
   where
     all' : List Frame
@@ -364,8 +364,8 @@ begun all = alive_append all' 0 all (fresh_frame ∷ []) ∙ ap₂ (λ a b. a ++
         (λ k. let z : 0 + k ≡ k = omega arith in subst (λ n. entry_at all n (frame_at all k) ≡ entry_at all' n (frame_at all k)) (sym z)
         (at k (frame_at all k) refl))
 
-    last : alive_from all' (0 + length all) (fresh_frame ∷ []) ≡ record { iteration = length all; number = pos 0; standing = Running } ∷ []
-    last = let z : 0 + length all ≡ length all = omega arith in ap (λ i. record { iteration = i; number = pos 0; standing = Running } ∷ [])
+    last : alive_from all' (0 + length all) (fresh_frame ∷ []) ≡ record { iteration = length all; number = pos 0; readiness = Running } ∷ []
+    last = let z : 0 + length all ≡ length all = omega arith in ap (λ i. record { iteration = i; number = pos 0; readiness = Running } ∷ [])
         z
 
 -- ---- the left neighbour

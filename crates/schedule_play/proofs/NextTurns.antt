@@ -19,12 +19,12 @@ use Rattle.stage_code.specs.FlatCode.{FlatCode}
 use Rattle.schedule_play.specs.RunningIterations.{RunningIterationState}
 use Rattle.schedule_play.specs.PlayStates.{FitsStatus, IsPlay, PlayState, pipeline_played, run_state}
 use Rattle.schedule_play.specs.declared.turns.Alive.{Alive}
-use Rattle.schedule_play.specs.declared.turns.Standing.TheVariants.{MayEnter, MustWait}
+use Rattle.schedule_play.specs.declared.turns.Readiness.TheVariants.{MayEnter, MustWait}
 use Rattle.schedule_play.specs.Turns.{alive_entry, alive_from, alive_iterations, may_go}
 
 -- the entry of this iteration has a turn
 abbrev pub goes : ℕ → Alive → Bool
-goes i a = nat_eq a.iteration i && may_go true a.standing
+goes i a = nat_eq a.iteration i && may_go true a.readiness
 
 or_false : (b : Bool) → (b || false) ≡ b
 or_false true = refl
@@ -51,7 +51,7 @@ own_entry p s i (statuses.Pending k n) nodes t = by (may_enter s.frames i k n)
     same : nat_eq i i ≡ true
     same = grind arith
 
-    by : (b : Bool) → list_any (goes i) (record { iteration = i; number = n; standing = if b then MayEnter else MustWait } ∷ []) ≡ is_some
+    by : (b : Bool) → list_any (goes i) (record { iteration = i; number = n; readiness = if b then MayEnter else MustWait } ∷ []) ≡ is_some
         (event_if b (events.Enter i))
     by true = rw same refl
     by false = rw same refl

@@ -18,7 +18,7 @@ use Rattle.stage_interp.specs.declared.pending.Pending.{Pending}
 use Rattle.stage_interp.specs.declared.pending.Pending.TheVariants as pendings
 use Rattle.stage_interp.specs.Executions.{StopsOnly}
 use Rattle.stage_interp.specs.MachineState.{RunState}
-use Rattle.stage_interp.specs.Standing.{EndsAs, IsAccess, IsPending, IsStopped, RanInstance, Within, setting_in}
+use Rattle.stage_interp.specs.RemainingBehaviour.{EndsAs, IsAccess, IsPending, IsStopped, RanInstance, Within, setting_in}
 use Rattle.schedule_play.specs.OneAccess.{access_list}
 
 -- the next action is an access

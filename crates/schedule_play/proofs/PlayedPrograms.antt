@@ -224,10 +224,10 @@ bounded tree input limits choices r accepted throttle workers h = by (is_some (i
         let run = loop_run tree input limits choices r accepted throttle workers h none in
         let events = r.run_log.events in
         let counted = starts_are_counted p limits.throttle events (state_after events) run.run in
-        let few = program_instances_are_bounded tree input limits.throttle events (state_after events) accepted run.run in
+        let within = program_instances_are_bounded tree input limits.throttle events (state_after events) accepted run.run in
         record {
           most = (program_runs_are_bounded tree input limits.throttle events (state_after events) accepted run.run run.not_stopped).0;
-          starts = omega (arith, counted, few);
+          starts = omega (arith, counted, within);
         }
 
 pub plays_meet_the_headline : (tree : SyntaxTree) (input : List ℤ) (limits : PlayLimits) (choices : List ℕ) (r : Played)

@@ -58,7 +58,7 @@ column_inside (c ∷ cs) (suc i) k w = let h = column_inside cs i k w in omega (
 pub record IsDetectable (columns : List Column) (events : List Event) (accesses : List NodeAccess) : Type 0 where
   pub ended : columns ≡ ended_columns_after events
   pub own : IsOwnLog (record { columns = columns; events = events })
-  pub few : length (log_starts events) ≤ MOST_STARTS
+  pub bounded : length (log_starts events) ≤ MOST_STARTS
   pub inside : All (λ (a : NodeAccess). IsNodeOf (log_columns events) a.node) accesses
   pub found : found_reports (log_columns events) (log_starts events) accesses ≡ found_reports (own_columns (state_after events))
       (starts_of events) accesses
@@ -74,12 +74,12 @@ detectable tree input limit events columns accesses accepted run made are =
     let ended : columns ≡ ended_columns_after events = made ∙ runs_make_their_columns p limit events run in
     let counted = starts_are_counted p limit events s run in
     let small = program_instances_are_bounded tree input limit events s accepted run in
-    let few = (accepted_programs_are_planned tree input accepted).few in
+    let bounded = (accepted_programs_are_planned tree input accepted).bounded in
     let starts = ap length d.starts in
     record {
       ended = ended;
       own = record { control = d.control; columns = ap nodes_of_columns ended ∙ nodes_of_frames s.frames ∙ sym d.columns };
-      few = omega (arith, counted, small, few, starts);
+      bounded = omega (arith, counted, small, bounded, starts);
       inside = subst (λ cs. All (λ (a : NodeAccess). IsNodeOf cs a.node) accesses) (sym d.columns)
           (subst (All (λ (a : NodeAccess). IsNodeOf (own_columns s) a.node)) (sym are)
           (λ k x w. let inside = rules.inside (get_or s.accesses k x) (among_at s.accesses k x w) in

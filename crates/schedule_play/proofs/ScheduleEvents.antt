@@ -17,7 +17,7 @@ use Rattle.pipe_model.specs.Runs.State.{Frame, State, alive, enter_pending, fram
 use Rattle.run_laws.proofs.RunStates.FrameMoves.{entered_frame, enter_pending_is, frame_at_begun, frame_at_moved}
 use Rattle.run_laws.proofs.RunStates.Frames.{frame_at_last, frame_at_other, frame_at_updated, frame_at_within, length-update_frame}
 use Rattle.schedule_play.specs.declared.changes.Change.TheVariants.{Named, Entered, Ended}
-use Rattle.schedule_play.specs.declared.turns.Standing.TheVariants.{Running}
+use Rattle.schedule_play.specs.declared.turns.Readiness.TheVariants.{Running}
 use Rattle.schedule_play.specs.AliveChanges.{after_change}
 use Rattle.schedule_play.specs.ScheduleStates.{IsScheduleOf, ScheduleState, goes_on}
 use Rattle.schedule_play.specs.Turns.{alive_iterations}
@@ -168,7 +168,7 @@ finished s v j e h runs =
 pub has_begun : (s : State) (v : ScheduleState) (i : ℕ) → IsScheduleOf s v
     → IsScheduleOf (next_state s (events.Begin i))
     (record v {
-      alive = v.alive ++ record { iteration = v.begun; number = pos 0; standing = Running } ∷ [];
+      alive = v.alive ++ record { iteration = v.begun; number = pos 0; readiness = Running } ∷ [];
       begun =
           v.begun + 1;
       continues = false;
@@ -178,8 +178,8 @@ has_begun s v i h =
     let longer = length_push all fresh_frame in
     let at : length (all ++ fresh_frame ∷ []) - 1 ≡ length all = omega (arith, longer) in
     record {
-      alive = ap (λ l. l ++ record { iteration = v.begun; number = pos 0; standing = Running } ∷ []) h.alive
-          ∙ ap (λ n. alive_iterations s ++ record { iteration = n; number = pos 0; standing = Running } ∷ []) h.begun ∙ sym (begun all);
+      alive = ap (λ l. l ++ record { iteration = v.begun; number = pos 0; readiness = Running } ∷ []) h.alive
+          ∙ ap (λ n. alive_iterations s ++ record { iteration = n; number = pos 0; readiness = Running } ∷ []) h.begun ∙ sym (begun all);
       begun = ap (λ n. n + 1) h.begun ∙ sym longer;
       continues = sym (ap (λ n. frame_continues_loop (frame_at (all ++ fresh_frame ∷ []) n)) at
           ∙ ap frame_continues_loop (frame_at_last all fresh_frame));

@@ -20,7 +20,7 @@ use Rattle.pipe_model.specs.Runs.Schedules.{candidates, candidates_from, chosen,
 use Rattle.pipe_model.specs.Runs.Schedules.{running_of_status, starts_instance}
 use Rattle.pipe_model.specs.Runs.State.{Frame, State, accesses_of, alive, frame_at}
 use Rattle.schedule_play.specs.declared.turns.Alive.{Alive}
-use Rattle.schedule_play.specs.declared.turns.Standing.TheVariants.{MayEnter, MustWait}
+use Rattle.schedule_play.specs.declared.turns.Readiness.TheVariants.{MayEnter, MustWait}
 use Rattle.schedule_play.specs.declared.turns.Turn.{Turn}
 use Rattle.schedule_play.specs.declared.turns.Turn.TheVariants.{Next, Begin}
 use Rattle.schedule_play.specs.Turns.{alive_entry, alive_from, alive_iterations, chosen_turn, is_running, iteration_turns, may_go}
@@ -29,7 +29,7 @@ use Rattle.schedule_play.specs.Turns.{turn_event, turns}
 -- ---- the iterations
 
 abbrev going : Bool → Alive → Bool
-going room a = may_go room a.standing
+going room a = may_go room a.readiness
 
 -- the next event of a kept iteration
 abbrev kept_event : Pipeline → State → Alive → Option Event
@@ -59,7 +59,7 @@ entry_events p s room i statuses.Running nodes t q =
 entry_events p s room i (statuses.Pending k n) nodes t q = by (may_enter s.frames i k n) room q
   where
     by : (b r : Bool) → next_event p s i ≡ event_if b (events.Enter i)
-        → map (kept_event p s) (filter (going r) (record { iteration = i; number = n; standing = if b then MayEnter else MustWait } ∷ []))
+        → map (kept_event p s) (filter (going r) (record { iteration = i; number = n; readiness = if b then MayEnter else MustWait } ∷ []))
         ≡ map Some (if_room r (event_if b (events.Enter i)))
     by true true q = ap (λ o. o ∷ []) q
     by true false q = refl
@@ -84,7 +84,7 @@ frame_events p s room i (f ∷ fs) h =
     ∙ sym (map-append Some one (candidates_from p s room (i + 1) fs))
 
 abbrev runs : Alive → Bool
-runs a = is_running a.standing
+runs a = is_running a.readiness
 
 running_kept : (all : List Frame) (i : ℕ) (fs : List Frame) → length (filter runs (alive_from all i fs)) ≡ running_in_frames fs
 running_kept all i [] = refl
@@ -98,7 +98,7 @@ running_kept all i (f ∷ fs) = by f.status (running_kept all (i + 1) fs)
 
     waiting : (b : Bool) → length (filter runs rest) ≡ running_in_frames fs
         → (n : ℤ)
-        → length (filter runs (record { iteration = i; number = n; standing = if b then MayEnter else MustWait } ∷ rest)) ≡ 0
+        → length (filter runs (record { iteration = i; number = n; readiness = if b then MayEnter else MustWait } ∷ rest)) ≡ 0
         + running_in_frames fs
     waiting true e n = e ∙ sym none
     waiting false e n = e ∙ sym none
@@ -110,7 +110,7 @@ running_kept all i (f ∷ fs) = by f.status (running_kept all (i + 1) fs)
     by (statuses.Completed x) e = e ∙ sym none
 
 -- the number of running instances
-pub running_are : (s : State) (kept : List Alive) → kept ≡ alive_iterations s → count_by (λ (a : Alive). is_running a.standing) kept
+pub running_are : (s : State) (kept : List Alive) → kept ≡ alive_iterations s → count_by (λ (a : Alive). is_running a.readiness) kept
     ≡ running_instances s
 running_are s kept is = sym (length-filter runs kept) ∙ ap (λ l. length (filter runs l)) is ∙ running_kept s.frames 0 s.frames
 
@@ -149,7 +149,7 @@ turns_are p limit workers s room begins kept are begin is =
 
 -- the number of turns
 pub turns_counted : (room begins : Bool) (kept : List Alive)
-    → length (turns room begins kept) ≡ count_by (λ (a : Alive). may_go room a.standing) kept + (if room && begins then 1 else 0)
+    → length (turns room begins kept) ≡ count_by (λ (a : Alive). may_go room a.readiness) kept + (if room && begins then 1 else 0)
 turns_counted room begins kept =
     let own = filter (going room) kept in
     let last : List Turn = if room && begins then Begin ∷ [] else [] in
@@ -236,7 +236,7 @@ filtered_here {X} test (x ∷ xs) (suc k) d lt passes = by (test x) (filtered_he
 
 -- the turn of an iteration, by the number of those before it
 pub turn_here : (room : Bool) (kept : List Alive) (k n : ℕ) (d : Alive) → k < length kept → may_go room
-    (slice_index_or kept k d).standing ≡ true
+    (slice_index_or kept k d).readiness ≡ true
     → length (iteration_turns room (take k kept)) ≡ n → Next (slice_index_or kept k d).iteration ≡ slice_index_or
     (iteration_turns room kept) n Begin
 turn_here room kept k n d lt goes before =

@@ -3,11 +3,11 @@ use Rattle.std.specs.Prelude.{ℕ, ℤ, Bool, true, ◌==◌, ◌+◌, ◌||◌,
 use Rattle.schedule_play.specs.declared.changes.Change.{Change}
 use Rattle.schedule_play.specs.declared.changes.Change.TheVariants.{Named, Entered, Ended}
 use Rattle.schedule_play.specs.declared.turns.Alive.{Alive}
-use Rattle.schedule_play.specs.declared.turns.Standing.{Standing}
-use Rattle.schedule_play.specs.declared.turns.Standing.TheVariants.{Running, MayEnter, MustWait}
+use Rattle.schedule_play.specs.declared.turns.Readiness.{Readiness}
+use Rattle.schedule_play.specs.declared.turns.Readiness.TheVariants.{Running, MayEnter, MustWait}
 
 -- after an event of the left neighbour, which has passed the stage that is waited for or not
-abbrev pub released : Bool → Standing → Standing
+abbrev pub released : Bool → Readiness → Readiness
 released passed Running = Running
 released passed MayEnter = MayEnter
 released passed MustWait = if passed then MayEnter else MustWait
@@ -15,10 +15,10 @@ released passed MustWait = if passed then MayEnter else MustWait
 -- an entry after an event; the entry of an iteration that ends is removed separately
 abbrev pub after_change : Change → Alive → Alive
 after_change (Named i n free) a =
-    if a.iteration == i then record { iteration = i; number = n; standing = if free then MayEnter else MustWait }
-    else (if a.iteration == i + 1 then record a { standing = released (int_lt a.number n) a.standing } else a)
-after_change (Entered i) a = if a.iteration == i then record { iteration = i; number = a.number; standing = Running } else a
-after_change (Ended i) a = if a.iteration == i + 1 then record a { standing = released true a.standing } else a
+    if a.iteration == i then record { iteration = i; number = n; readiness = if free then MayEnter else MustWait }
+    else (if a.iteration == i + 1 then record a { readiness = released (int_lt a.number n) a.readiness } else a)
+after_change (Entered i) a = if a.iteration == i then record { iteration = i; number = a.number; readiness = Running } else a
+after_change (Ended i) a = if a.iteration == i + 1 then record a { readiness = released true a.readiness } else a
 
 -- the entry does not belong to the left neighbour of iteration i, or has named a stage with a number greater than n
 abbrev pub passes_left : ℕ → ℤ → Alive → Bool

@@ -22,6 +22,7 @@ use Rattle.schedule_play.specs.RunningIterations.{RunningIterationState, IsRunni
 use Rattle.schedule_play.specs.OneAccess.{HasAllCells}
 use Rattle.schedule_play.specs.Runners.{no_tie}
 use Rattle.schedule_play.specs.ScheduleStates.{IsScheduleOf, ScheduleState}
+use Rattle.stage_interp.specs.CellNumbers.{most_cell_ids}
 
 -- the book, the schedule, for each iteration its running instance if there is one, the cells, the events so far, and their accesses
 pub record PlayState : Type 0 where
@@ -86,7 +87,7 @@ pub record IsPlay (code : FlatCode) (cells : ℕ) (v : PlayState) : Type 0 where
   pub state : IsStateAfter (pipeline_played v).store ((pipeline_played v).preamble ++ accesses_of (run_state v).accesses) v.cells
   pub all : HasAllCells v.cells
   pub count : v.cells.shard.cells ≡ cells
-  pub few : cells ≤ 4294967296
+  pub bounded : cells ≤ most_cell_ids
   pub accesses : v.accesses ≡ (run_state v).accesses
 
 -- the program, the input and the limit are the same

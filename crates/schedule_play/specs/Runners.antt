@@ -7,7 +7,7 @@ use Rattle.pipe_model.specs.Language.Programs.{pipeline_of}
 use Rattle.pipe_model.specs.Language.SyntaxTree.{SyntaxTree}
 use Rattle.stage_code.specs.FlatCode.{FlatCode}
 use Rattle.stage_interp.specs.MachineState.{IsMadeFor, MachineState}
-use Rattle.stage_interp.specs.Standing.{IsCodeOf, StandsFor}
+use Rattle.stage_interp.specs.RemainingBehaviour.{IsCodeOf, Represents}
 
 -- a machine for this code can run the program over a memory of this many cells
 pub record CanRun (code : FlatCode) (cells : ℕ) (tree : SyntaxTree) (m : MachineState) : Type 0 where
@@ -19,7 +19,7 @@ pub record CanRun (code : FlatCode) (cells : ℕ) (tree : SyntaxTree) (m : Machi
 pub record IsAtInstance (code : FlatCode) (cells : ℕ) (tree : SyntaxTree) (input : List ℤ) (m : MachineState) (i : ℕ)
     (replies : List (List ℤ)) : Type 0 where
   pub whole : CanRun code cells tree m
-  pub stands : StandsFor code cells input m.run (after_instances ((pipeline_of tree input).behaviour i) replies)
+  pub stands : Represents code cells input m.run (after_instances ((pipeline_of tree input).behaviour i) replies)
 
 -- a payload that belongs to no order lists and to no seat
 abbrev pub no_tie : Tie

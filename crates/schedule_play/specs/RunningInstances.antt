@@ -11,7 +11,7 @@ use Rattle.pipe_model.specs.Pipelines.Pipeline.{Pipeline}
 use Rattle.pipe_model.specs.Runs.NextEvents.{event_of_behaviour}
 use Rattle.stage_code.specs.FlatCode.{FlatCode}
 use Rattle.stage_interp.specs.MachineState.{RunState}
-use Rattle.stage_interp.specs.Standing.{EndsAs, IsStopped}
+use Rattle.stage_interp.specs.RemainingBehaviour.{EndsAs, IsStopped}
 use Rattle.schedule_play.specs.declared.running_instance.NextAction.{NextAction}
 use Rattle.schedule_play.specs.declared.running_instance.NextAction.TheVariants.{Access as MakesAccess, End}
 

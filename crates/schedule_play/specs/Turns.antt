@@ -10,8 +10,8 @@ use Rattle.pipe_model.specs.Races.Columns.{node_at}
 use Rattle.pipe_model.specs.Runs.NextEvents.{may_enter, next_begin, next_event}
 use Rattle.pipe_model.specs.Runs.State.{Frame, State}
 use Rattle.schedule_play.specs.declared.turns.Alive.{Alive}
-use Rattle.schedule_play.specs.declared.turns.Standing.{Standing}
-use Rattle.schedule_play.specs.declared.turns.Standing.TheVariants.{Running, MayEnter, MustWait}
+use Rattle.schedule_play.specs.declared.turns.Readiness.{Readiness}
+use Rattle.schedule_play.specs.declared.turns.Readiness.TheVariants.{Running, MayEnter, MustWait}
 use Rattle.schedule_play.specs.declared.turns.Turn.{Turn}
 use Rattle.schedule_play.specs.declared.turns.Turn.TheVariants.{Next, Begin}
 
@@ -22,11 +22,11 @@ abbrev pub alive_entry : List Frame → ℕ → Status → List Node → List Al
 alive_entry all i statuses.Running nodes = record {
   iteration = i;
   number = (node_at nodes (length nodes - 1)).number;
-  standing =
+  readiness =
       Running;
 } ∷ []
 alive_entry all i (statuses.Pending k n) nodes =
-    record { iteration = i; number = n; standing = if may_enter all i k n then MayEnter else MustWait } ∷ []
+    record { iteration = i; number = n; readiness = if may_enter all i k n then MayEnter else MustWait } ∷ []
 alive_entry all i (statuses.Completed e) nodes = []
 
 -- the iterations of this list that have not ended; the first of the list has number i
@@ -40,20 +40,20 @@ alive_iterations s = alive_from s.frames 0 s.frames
 
 -- ---- turns
 
-abbrev pub is_running : Standing → Bool
+abbrev pub is_running : Readiness → Bool
 is_running Running = true
 is_running MayEnter = false
 is_running MustWait = false
 
 -- the next event of the iteration is a candidate; `room` says whether an instance may start
-abbrev pub may_go : Bool → Standing → Bool
+abbrev pub may_go : Bool → Readiness → Bool
 may_go room Running = true
 may_go room MayEnter = room
 may_go room MustWait = false
 
 -- the turns of the iterations
 abbrev pub iteration_turns : Bool → List Alive → List Turn
-iteration_turns room alive = map (λ (a : Alive). Next a.iteration) (filter (λ (a : Alive). may_go room a.standing) alive)
+iteration_turns room alive = map (λ (a : Alive). Next a.iteration) (filter (λ (a : Alive). may_go room a.readiness) alive)
 
 -- all turns, the beginning of the next iteration last
 abbrev pub turns : Bool → Bool → List Alive → List Turn

@@ -5,7 +5,7 @@ ghost use Rattle.std.specs.List.{list_all};
 ghost use Rattle.schedule_play.specs.AliveChanges.{after_change, passes_left, released};
 ghost use Rattle.schedule_play.specs.declared.turns.Alive.{Alive as Kept};
 
-use crate::turns::{Alive, Standing};
+use crate::turns::{Alive, Readiness};
 
 /// An event of an iteration, as far as it changes what is kept of the iterations.
 #[derive(Clone, Copy, PartialEq, Eq, Debug)]
@@ -18,27 +18,27 @@ pub enum Change {
     Ended(u32),
 }
 
-impl Standing {
+impl Readiness {
     // Returns how far an iteration is that has named a stage.
-    fn of_waiting(may_enter: bool) -> Standing
-        ensures { result ≡ (if may_enter then Standing.MayEnter else Standing.MustWait) }
+    fn of_waiting(may_enter: bool) -> Readiness
+        ensures { result ≡ (if may_enter then Readiness.MayEnter else Readiness.MustWait) }
     {
         if may_enter {
-            Standing::MayEnter
+            Readiness::MayEnter
         } else {
-            Standing::MustWait
+            Readiness::MustWait
         }
     }
 
     // Returns how far the iteration is after an event of its left neighbour, which may have passed the
     // stage for which it waits.
-    fn released(self, passed: bool) -> Standing
+    fn released(self, passed: bool) -> Readiness
         ensures { result ≡ released passed self }
     {
         match self {
-            Standing::Running => Standing::Running,
-            Standing::MayEnter => Standing::MayEnter,
-            Standing::MustWait => Standing::of_waiting(passed),
+            Readiness::Running => Readiness::Running,
+            Readiness::MayEnter => Readiness::MayEnter,
+            Readiness::MustWait => Readiness::of_waiting(passed),
         }
     }
 }
@@ -53,12 +53,12 @@ impl Alive {
 
     // Returns the entry after an event of its left neighbour.
     fn with_left(self, passed: bool) -> Alive
-        ensures { result ≡ record self { standing = released passed self.standing } }
+        ensures { result ≡ record self { readiness = released passed self.readiness } }
     {
         Alive {
             iteration: self.iteration,
             number: self.number,
-            standing: self.standing.released(passed),
+            readiness: self.readiness.released(passed),
         }
     }
 
@@ -69,11 +69,11 @@ impl Alive {
         match change {
             Change::Named(iteration, number, may_enter) => {
                 if self.iteration == iteration {
-                    let standing = Standing::of_waiting(may_enter);
+                    let readiness = Readiness::of_waiting(may_enter);
                     Alive {
                         iteration,
                         number,
-                        standing,
+                        readiness,
                     }
                 } else if self.is_right_of(iteration) {
                     self.with_left(self.number < number)
@@ -86,7 +86,7 @@ impl Alive {
                     Alive {
                         iteration,
                         number: self.number,
-                        standing: Standing::Running,
+                        readiness: Readiness::Running,
                     }
                 } else {
                     self

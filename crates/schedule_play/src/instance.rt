@@ -8,9 +8,10 @@ ghost use Rattle.pipe_model.specs.Pipelines.Behaviour.{Behaviour};
 ghost use Rattle.pipe_model.specs.Pipelines.Store.{HasReply, InitialStore};
 ghost use Rattle.schedule_play.specs.OneAccess.{HasAllCells, IsNextAccess};
 ghost use Rattle.stage_code.specs.FlatCode.{FlatCode};
+ghost use Rattle.stage_interp.specs.CellNumbers.{most_cell_ids};
 ghost use Rattle.stage_interp.specs.Executions.{Counts};
 ghost use Rattle.stage_interp.specs.MachineState.{IsMadeFor};
-ghost use Rattle.stage_interp.specs.Standing.{IsStopped, RanInstance, StandsFor};
+ghost use Rattle.stage_interp.specs.RemainingBehaviour.{IsStopped, RanInstance, Represents};
 
 use crate::one_access::{CellsBefore, NoAccess, OneAccess};
 use cell_store::cells::Cells;
@@ -25,9 +26,9 @@ use std::marker::Brand;
 /// how the machine has come to rest: `Stopped` if an access is pending, and otherwise the instance's
 /// end. It does not allocate.
 pub fn run_to_access(machine: &mut Machine, code: &Code, input: &Numbers, cells: &Cells) -> StageEnd
-    requires before { (t : Behaviour) × StandsFor code.now cells.now.shard.cells input.now machine.old.run t }
-    requires few { cells.now.shard.cells ≤ 4294967296 }
-    ensures ran { (t : Behaviour) → StandsFor code.now cells.now.shard.cells input.now machine.old.run t
+    requires before { (t : Behaviour) × Represents code.now cells.now.shard.cells input.now machine.old.run t }
+    requires bounded { cells.now.shard.cells ≤ most_cell_ids }
+    ensures ran { (t : Behaviour) → Represents code.now cells.now.shard.cells input.now machine.old.run t
         → RanInstance code.now cells.now.shard.cells input.now t [] [] machine.new.run result }
     ensures made { (c : FlatCode) → IsMadeFor c machine.old → IsMadeFor c machine.new }
     ensures counts { Counts (Some result) machine.old.run.state.stage.count machine.new.run.state.stage.count
@@ -47,7 +48,7 @@ fn next_access<B: CellsBefore>(
 ) -> (Access, StageEnd)
     requires cells { cells.now ≡ B.cells }
     requires all { HasAllCells cells.now }
-    requires few { cells.now.shard.cells ≤ 4294967296 }
+    requires bounded { cells.now.shard.cells ≤ most_cell_ids }
     requires before { (t : Behaviour) × IsStopped code.now cells.now.shard.cells input.now machine.old.run t }
     ensures ran { (t : Behaviour) → IsStopped code.now cells.now.shard.cells input.now machine.old.run t
         → RanInstance code.now cells.now.shard.cells input.now t [] (result.0 ∷ []) machine.new.run result.1 }
@@ -89,7 +90,7 @@ pub fn make_access(
 ) -> (Access, StageEnd)
     requires before { (t : Behaviour) × IsStopped code.now cells.old.shard.cells input.now machine.old.run t }
     requires all { HasAllCells cells.old }
-    requires few { cells.old.shard.cells ≤ 4294967296 }
+    requires bounded { cells.old.shard.cells ≤ most_cell_ids }
     ensures ran { (t : Behaviour) → IsStopped code.now cells.old.shard.cells input.now machine.old.run t
         → RanInstance code.now cells.old.shard.cells input.now t [] (result.0 ∷ []) machine.new.run result.1 }
     ensures reply { (store : InitialStore) (before : List Accessed) → IsStateAfter store before cells.old → HasReply store before result.0 }

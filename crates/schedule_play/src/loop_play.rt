@@ -11,7 +11,8 @@ ghost use Rattle.pipe_model.specs.Pipelines.WholePrograms.{init_accesses};
 ghost use Rattle.schedule_play.specs.LoopPlays.{IsEndOf, IsLoopPlay};
 ghost use Rattle.schedule_play.specs.OneAccess.{HasAllCells};
 ghost use Rattle.schedule_play.specs.PlayStates.{IsPlay};
-ghost use Rattle.stage_interp.specs.Standing.{IsCodeOf};
+ghost use Rattle.stage_interp.specs.CellNumbers.{most_cell_ids};
+ghost use Rattle.stage_interp.specs.RemainingBehaviour.{IsCodeOf};
 
 use crate::play::play_turns;
 use crate::player::Player;
@@ -93,7 +94,7 @@ fn play_coded<B: PlayedCode>(
     requires workers { 0 < limits.workers }
     requires throttle { 0 < limits.throttle }
     requires served { cell_total (tree_of checked.now).cells + 2 ≤ cells.shard.cells }
-    requires few { cells.shard.cells ≤ 4294967296 }
+    requires bounded { cells.shard.cells ≤ most_cell_ids }
     requires all { HasAllCells cells }
     requires state { IsStateAfter (store_of (tree_of checked.now)) (init_accesses (whole_of (tree_of checked.now) input.now)) cells }
     ensures { IfOk result (IsLoopPlay (tree_of checked.now) input.now limits choices.now) }
@@ -130,7 +131,7 @@ pub fn play_loop(
     requires workers { 0 < limits.workers }
     requires throttle { 0 < limits.throttle }
     requires served { cell_total (tree_of checked.now).cells + 2 ≤ cells.shard.cells }
-    requires few { cells.shard.cells ≤ 4294967296 }
+    requires bounded { cells.shard.cells ≤ most_cell_ids }
     requires all { HasAllCells cells }
     requires state { IsStateAfter (store_of (tree_of checked.now)) (init_accesses (whole_of (tree_of checked.now) input.now)) cells }
     ensures { IfOk result (IsLoopPlay (tree_of checked.now) input.now limits choices.now) }

@@ -10,7 +10,8 @@ ghost use Rattle.pipe_model.specs.Language.ProgramsOfTrees.{whole_of};
 ghost use Rattle.pipe_model.specs.Language.CheckingRules.{BreaksNoRule};
 ghost use Rattle.pipe_model.specs.Language.SyntaxTree.{tree_of};
 ghost use Rattle.pipe_model.specs.Pipelines.WholePrograms.{init_accesses};
-ghost use Rattle.stage_interp.specs.Standing.{IsCodeOf};
+ghost use Rattle.stage_interp.specs.CellNumbers.{most_cell_ids};
+ghost use Rattle.stage_interp.specs.RemainingBehaviour.{IsCodeOf};
 ghost use Rattle.schedule_play.specs.OneAccess.{HasAllCells};
 ghost use Rattle.pipe_model.specs.declared.event.Event.{Event as PlainEvent};
 ghost use Rattle.pipe_model.specs.declared.event.Event.TheVariants as events;
@@ -91,7 +92,7 @@ impl<B: PlayedCode> Player<B> {
         requires throttle { 0 < throttle }
         requires cells { cells.shard.cells ≡ B.cells }
         requires served { cell_total (tree_of checked.now).cells + 2 ≤ cells.shard.cells }
-        requires few { cells.shard.cells ≤ 4294967296 }
+        requires bounded { cells.shard.cells ≤ most_cell_ids }
         requires all { HasAllCells cells }
         requires state { IsStateAfter (store_of (tree_of checked.now)) (init_accesses (whole_of (tree_of checked.now) input.now)) cells }
         ensures play { IfOk result (λ player. IsPlay B.code B.cells player) }

@@ -2,6 +2,7 @@
 
 ghost use Rattle.std.specs.Prelude.{◌≡◌, ◌≢◌, ◌↔◌, ◌<◌, ◌≤◌, ◌++◌, ◌+◌, ◌*◌, [], ℕ, List, IfOk, None, IsTrue, false, is_some, length};
 ghost use Rattle.cell_store.specs.ShardState.{IsStateAfter};
+ghost use Rattle.pipe_model.specs.declared.bounds.TheConstants.{MOST_ITERATIONS, MOST_STAGES, MOST_STEPS};
 ghost use Rattle.pipe_model.specs.declared.event.Event.{Event as EventOf};
 ghost use Rattle.pipe_model.specs.Language.Programs.{natural, store_of};
 ghost use Rattle.pipe_model.specs.Language.ProgramsOfTrees.{pipeline_after_init, whole_of};
@@ -25,7 +26,7 @@ ghost use Rattle.schedule_play.specs.ProgramPlays.{played_events};
 ghost use Rattle.serial_elision.specs.PartRuns.{Serves};
 ghost use Rattle.stage_code.specs.LimitRanges.{HasRangesOfLimits};
 ghost use Rattle.stage_interp.specs.MachineState.{IsMadeFor};
-ghost use Rattle.stage_interp.specs.Standing.{IsCodeOf};
+ghost use Rattle.stage_interp.specs.RemainingBehaviour.{IsCodeOf};
 
 use crate::loop_play::{LoopPlay, PlayLimits, play_loop};
 use cell_store::cells::Cells;
@@ -169,7 +170,7 @@ fn play_prepared(
 fn most_instances(limits: Limits) -> u64
     requires { HasRangesOfLimits limits }
     ensures count { result ≡ natural limits.iterations * natural limits.stages + 1 }
-    ensures few { result ≤ 268435457 }
+    ensures bounded { result ≤ natural MOST_ITERATIONS * natural MOST_STAGES + 1 }
 {
     limits.iterations as u64 * limits.stages as u64 + 1
 }
@@ -178,7 +179,7 @@ fn most_instances(limits: Limits) -> u64
 fn turns_of_instance(limits: Limits) -> u64
     requires { HasRangesOfLimits limits }
     ensures count { result ≡ 2 * natural limits.steps + 2 }
-    ensures few { result ≤ 2000002 }
+    ensures bounded { result ≤ 2 * natural MOST_STEPS + 2 }
 {
     2 * limits.steps as u64 + 2
 }

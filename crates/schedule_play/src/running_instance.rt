@@ -10,8 +10,9 @@ ghost use Rattle.pipe_model.specs.Pipelines.Store.{InitialStore};
 ghost use Rattle.schedule_play.specs.OneAccess.{HasAllCells};
 ghost use Rattle.schedule_play.specs.RunningInstances.{IsUnderWay, action_at, next_of};
 ghost use Rattle.stage_code.specs.FlatCode.{FlatCode};
+ghost use Rattle.stage_interp.specs.CellNumbers.{most_cell_ids};
 ghost use Rattle.stage_interp.specs.MachineState.{IsMadeFor};
-ghost use Rattle.stage_interp.specs.Standing.{StandsFor};
+ghost use Rattle.stage_interp.specs.RemainingBehaviour.{Represents};
 
 use crate::instance::{make_access, run_to_access};
 use cell_store::cells::Cells;
@@ -66,9 +67,9 @@ impl RunningInstance {
         input: &Numbers,
         cells: &Cells,
     ) -> Self
-        requires before { (t : Behaviour) × StandsFor code.now cells.now.shard.cells input.now machine.old.run t }
-        requires few { cells.now.shard.cells ≤ 4294967296 }
-        ensures begun { (t : Behaviour) → StandsFor code.now cells.now.shard.cells input.now machine.old.run t
+        requires before { (t : Behaviour) × Represents code.now cells.now.shard.cells input.now machine.old.run t }
+        requires bounded { cells.now.shard.cells ≤ most_cell_ids }
+        ensures begun { (t : Behaviour) → Represents code.now cells.now.shard.cells input.now machine.old.run t
             → IsUnderWay code.now cells.now.shard.cells input.now t machine.new.run [] result.next }
         ensures empty { result.trace.items ≡ [] }
         ensures made { (c : FlatCode) → IsMadeFor c machine.old → IsMadeFor c machine.new }
@@ -93,7 +94,7 @@ impl RunningInstance {
         requires before { (t : Behaviour) × IsUnderWay code.now cells.old.shard.cells input.now t machine.old.run self.old.trace.items
             self.old.next }
         requires all { HasAllCells cells.old }
-        requires few { cells.old.shard.cells ≤ 4294967296 }
+        requires bounded { cells.old.shard.cells ≤ most_cell_ids }
         ensures goes_on { IfOk result (λ a. (t : Behaviour)
             → IsUnderWay code.now cells.old.shard.cells input.now t machine.old.run self.old.trace.items self.old.next
             → IsUnderWay code.now cells.old.shard.cells input.now t machine.new.run self.new.trace.items self.new.next) }

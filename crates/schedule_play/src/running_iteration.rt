@@ -19,6 +19,7 @@ ghost use Rattle.schedule_play.specs.RunningIterations.{IsRunningIteration};
 ghost use Rattle.schedule_play.specs.OneAccess.{HasAllCells};
 ghost use Rattle.schedule_play.specs.RunningInstances.{next_of};
 ghost use Rattle.schedule_play.specs.Runners.{IsAtInstance, no_tie};
+ghost use Rattle.stage_interp.specs.CellNumbers.{most_cell_ids};
 
 use crate::runner::{PlayedCode, Runner};
 use crate::running_instance::{NextAction, RunningInstance};
@@ -70,7 +71,7 @@ impl<B: PlayedCode> RunningIteration<B> {
     ) -> Self
         requires code { code.now ≡ B.code }
         requires cells { cells.now.shard.cells ≡ B.cells }
-        requires few { cells.now.shard.cells ≤ 4294967296 }
+        requires bounded { cells.now.shard.cells ≤ most_cell_ids }
         requires at_instance { (tree : SyntaxTree) × ((replies : List (List ℤ)) × IsAtInstance B.code B.cells tree input.now
             token.payload.machine token.iteration replies) }
         ensures instance { (tree : SyntaxTree) (replies : List (List ℤ)) → IsAtInstance B.code B.cells tree input.now token.payload.machine
@@ -112,7 +113,7 @@ impl<B: PlayedCode> RunningIteration<B> {
         requires code { code.now ≡ B.code }
         requires cells { cells.old.shard.cells ≡ B.cells }
         requires all { HasAllCells cells.old }
-        requires few { cells.old.shard.cells ≤ 4294967296 }
+        requires bounded { cells.old.shard.cells ≤ most_cell_ids }
         requires pending { self.old.next ≡ NextAction.Access }
         requires instance { (tree : SyntaxTree) × ((replies : List (List ℤ)) × IsRunningIteration B.code B.cells tree input.now replies
             self.old) }

@@ -13,7 +13,7 @@ ghost use Rattle.schedule_play.specs.ScheduleStates.{IsScheduleOf, goes_on};
 ghost use Rattle.schedule_play.specs.Turns.{turn_event};
 
 use crate::changes::{Change, change_each, passes_left};
-use crate::turns::{Alive, Standing, Turn, choose, has_next};
+use crate::turns::{Alive, Readiness, Turn, choose, has_next};
 use pipe_model::column::ColumnEnd;
 use pipe_model::event::Event;
 use pipe_model::memory::NoMemory;
@@ -104,14 +104,14 @@ impl Schedule {
     /// Notes that the next iteration begins.
     pub fn begin(&mut self)
         requires room { length self.old.alive < self.old.limit }
-        requires few { self.old.begun < 2 ^ 32 - 1 }
+        requires bounded { self.old.begun < 2 ^ 32 - 1 }
         ensures schedule { (s : State) → IsScheduleOf s self.old → IsScheduleOf (next_state s (events.Begin self.old.begun)) self.new }
         ensures limit { self.new.limit ≡ self.old.limit }
     {
         self.alive.push_reserved(Alive {
             iteration: self.begun,
             number: 0,
-            standing: Standing::Running,
+            readiness: Readiness::Running,
         });
         self.begun += 1;
         self.continues = false;

@@ -13,7 +13,7 @@ ghost use Rattle.schedule_play.specs.declared.turns.Alive.{Alive as Kept};
 
 /// How far an iteration is that has not ended.
 #[derive(Clone, Copy, PartialEq, Eq, Debug)]
-pub enum Standing {
+pub enum Readiness {
     /// Its current instance runs.
     Running,
     /// It has named a stage, and may enter it.
@@ -22,15 +22,15 @@ pub enum Standing {
     MustWait,
 }
 
-impl Standing {
+impl Readiness {
     // Returns whether the current instance runs.
     fn is_running(self) -> bool
         ensures { result ≡ is_running self }
     {
         match self {
-            Standing::Running => true,
-            Standing::MayEnter => false,
-            Standing::MustWait => false,
+            Readiness::Running => true,
+            Readiness::MayEnter => false,
+            Readiness::MustWait => false,
         }
     }
 
@@ -39,9 +39,9 @@ impl Standing {
         ensures { result ≡ may_go room self }
     {
         match self {
-            Standing::Running => true,
-            Standing::MayEnter => room,
-            Standing::MustWait => false,
+            Readiness::Running => true,
+            Readiness::MayEnter => room,
+            Readiness::MustWait => false,
         }
     }
 }
@@ -54,7 +54,7 @@ pub struct Alive {
     /// The number of the stage that it has named last; 0 until it names one.
     pub number: i64,
     /// How far it is.
-    pub standing: Standing,
+    pub readiness: Readiness,
 }
 
 /// Whose turn it is.
@@ -68,27 +68,27 @@ pub enum Turn {
 
 // Returns whether fewer than `workers` instances run.
 fn has_room(alive: &[Alive], workers: u32) -> bool
-    ensures { result ≡ nat_lt (count_by (λ (a : Kept). is_running a.standing) alive.now) workers }
+    ensures { result ≡ nat_lt (count_by (λ (a : Kept). is_running a.readiness) alive.now) workers }
 {
-    let running = alive.iter().filter(|a| a.standing.is_running()).count();
+    let running = alive.iter().filter(|a| a.readiness.is_running()).count();
     running < workers as usize
 }
 
 /// Returns whether the iteration with this number has a next event: it runs an instance, or may enter
 /// the stage that it has named.
 pub fn has_next(alive: &[Alive], iteration: u32) -> bool
-    ensures { result ≡ list_any (λ (a : Kept). nat_eq a.iteration iteration && may_go true a.standing) alive.now }
+    ensures { result ≡ list_any (λ (a : Kept). nat_eq a.iteration iteration && may_go true a.readiness) alive.now }
 {
     alive
         .iter()
-        .any(|a| a.iteration == iteration && a.standing.may_go(true))
+        .any(|a| a.iteration == iteration && a.readiness.may_go(true))
 }
 
 // Returns how many iterations have a turn.
 fn count_iterations(alive: &[Alive], room: bool) -> usize
-    ensures { result ≡ count_by (λ (a : Kept). may_go room a.standing) alive.now }
+    ensures { result ≡ count_by (λ (a : Kept). may_go room a.readiness) alive.now }
 {
-    alive.iter().filter(|a| a.standing.may_go(room)).count()
+    alive.iter().filter(|a| a.readiness.may_go(room)).count()
 }
 
 // Returns the turn of an iteration, and after the last turn the next iteration's.
@@ -97,7 +97,7 @@ fn turn_at(alive: &[Alive], room: bool, index: usize) -> Turn
 {
     let mut left = index;
     for entry in alive {
-        if entry.standing.may_go(room) {
+        if entry.readiness.may_go(room) {
             if left == 0 {
                 return Turn::Next(entry.iteration);
             }
@@ -109,7 +109,7 @@ fn turn_at(alive: &[Alive], room: bool, index: usize) -> Turn
 
 // Returns the number of turns, with the beginning of the next iteration if it may begin.
 fn count_turns(alive: &[Alive], room: bool, begins: bool) -> usize
-    requires few { length alive.now < 2 ^ 63 }
+    requires bounded { length alive.now < 2 ^ 63 }
     ensures { result ≡ length (turns room begins alive.now) }
 {
     let iterations = count_iterations(alive, room);
@@ -124,7 +124,7 @@ fn count_turns(alive: &[Alive], room: bool, begins: bool) -> usize
 /// by rising number, and in which the next iteration may begin or not. An instance may start only while
 /// fewer than `workers` run. The time grows with the number of these iterations.
 pub fn count(alive: &[Alive], begins: bool, workers: u32) -> usize
-    requires few { length alive.now < 2 ^ 63 }
+    requires bounded { length alive.now < 2 ^ 63 }
     ensures { (p : Pipeline) (limit : ℕ) (s : State) → alive.now ≡ alive_iterations s → begins ≡ is_some (next_begin limit s)
         → result ≡ length (candidates p limit workers s) }
 {
@@ -135,7 +135,7 @@ pub fn count(alive: &[Alive], begins: bool, workers: u32) -> usize
 /// are the next event of each iteration, by rising number, and then the beginning of the next one, as
 /// for `count`. Returns `None` if there is none.
 pub fn choose(alive: &[Alive], begins: bool, workers: u32, choice: u32) -> Option<Turn>
-    requires few { length alive.now < 2 ^ 63 }
+    requires bounded { length alive.now < 2 ^ 63 }
     ensures { (p : Pipeline) (limit : ℕ) (s : State) → alive.now ≡ alive_iterations s → begins ≡ is_some (next_begin limit s)
         → option_map (turn_event p limit s) result ≡ option_map Some (chosen choice (candidates p limit workers s)) }
 {

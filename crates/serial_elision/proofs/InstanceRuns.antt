@@ -17,7 +17,7 @@ use Rattle.serial_elision.specs.InstanceRuns.{EndsSo, EndsSoTree, IsEnd, RanFrom
 use Rattle.serial_elision.specs.Recording.{Adds}
 use Rattle.stage_code.specs.FlatCode.{FlatCode}
 use Rattle.stage_interp.specs.MachineState.{RunState}
-use Rattle.stage_interp.specs.Standing.{EndsAs, RanInstance}
+use Rattle.stage_interp.specs.RemainingBehaviour.{EndsAs, RanInstance}
 use Rattle.stage_interp.specs.TreeRuns.{Comes, EndsAsTree, RanTree}
 
 ends_so : (code : FlatCode) (cells : ℕ) (input : List ℤ) (run : RunState) (t : Behaviour) (e : StageEnd) (end : InstanceEnd)

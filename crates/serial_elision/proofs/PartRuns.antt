@@ -26,7 +26,7 @@ use Rattle.serial_elision.specs.PartRuns.{PartRan, column_closes}
 use Rattle.serial_elision.specs.Recording.{Adds, HaveReplies, IsWhole, access_events, placed}
 use Rattle.stage_code.specs.FlatCode.{FlatCode}
 use Rattle.stage_interp.specs.MachineState.{RunState}
-use Rattle.stage_interp.specs.Standing.{StandsFor}
+use Rattle.stage_interp.specs.RemainingBehaviour.{Represents}
 
 -- ---- traces
 
@@ -221,14 +221,14 @@ pub record Left (code : FlatCode) (cells : ℕ) (input : List ℤ) (store : Init
     (run : RunState)
     (nodes : List Node) (now : Log) : Type 0 where
   pub t : Behaviour
-  pub stands : StandsFor code cells input run t
+  pub stands : Represents code cells input run t
   pub so_far : (before : List Access) → IsStateAfter store before log.cells → SoFar store whole before i log t nodes now
 
 -- a part begins
 pub left_begun : (code : FlatCode) (cells : ℕ) (input : List ℤ) (store : InitialStore) (whole : Behaviour) (i : ℕ) (log : Log)
     (run : RunState)
     (nodes : List Node) (now : Log)
-    → StandsFor code cells input run whole → nodes ≡ no_node ∷ [] → now ≡ record log { events = log.events ++ events.Begin i ∷ [] }
+    → Represents code cells input run whole → nodes ≡ no_node ∷ [] → now ≡ record log { events = log.events ++ events.Begin i ∷ [] }
     → Left code cells input store whole i log run nodes now
 left_begun code cells input store whole i log run nodes now stands first begun = record {
   t = whole;
@@ -240,19 +240,19 @@ left_begun code cells input store whole i log run nodes now stands first begun =
 -- an instance ran over the cells of the log
 one_ran : (code : FlatCode) (cells cells' : ℕ) (input : List ℤ) (t : Behaviour) (i : ℕ) (node : NodeId) (nodes : List Node) (now ran : Log)
     (run run' : RunState) (end end' : InstanceEnd)
-    → ((d : Behaviour) → StandsFor code cells' input run d → RanFrom code cells' input d node now ran run' end)
-    → StandsFor code cells input run t → cells' ≡ cells → node ≡ at i (length nodes - 1) → end ≡ end'
+    → ((d : Behaviour) → Represents code cells' input run d → RanFrom code cells' input d node now ran run' end)
+    → Represents code cells input run t → cells' ≡ cells → node ≡ at i (length nodes - 1) → end ≡ end'
     → RanFrom code cells input t (at i (length nodes - 1)) now ran run' end'
 one_ran code cells cells' input t i node nodes now ran run run' end end' h stands same here is =
     subst (λ c. RanFrom code c input t (at i (length nodes - 1)) now ran run' end') same
     (subst (λ x. RanFrom code cells' input t x now ran run' end') here
-    (subst (λ x. RanFrom code cells' input t node now ran run' x) is (h t (subst (λ c. StandsFor code c input run t) (sym same) stands))))
+    (subst (λ x. RanFrom code cells' input t node now ran run' x) is (h t (subst (λ c. Represents code c input run t) (sym same) stands))))
 
 -- an instance ran, and the next is entered
 pub left_entered : (code : FlatCode) (cells cells' : ℕ) (input : List ℤ) (store : InitialStore) (whole : Behaviour) (i : ℕ) (log : Log)
     (run run' : RunState) (node : NodeId) (nodes nodes' : List Node)
     (now ran now' : Log) (end : InstanceEnd) (kind : Kind) (n : ℤ) (h : Left code cells input store whole i log run nodes now)
-    → ((d : Behaviour) → StandsFor code cells' input run d → RanFrom code cells' input d node now ran run' end)
+    → ((d : Behaviour) → Represents code cells' input run d → RanFrom code cells' input d node now ran run' end)
     → cells' ≡ cells → node ≡ at i (length nodes - 1) → end ≡ instance_ends.Next kind n → nodes' ≡ nodes ++ node_of kind n ∷ []
     → now' ≡ record ran { events = ran.events ++ events.Advance i kind n ∷ (events.Enter i ∷ []) }
     → Left code cells input store whole i log run' nodes' now'
@@ -274,7 +274,7 @@ pub left_ended : (code : FlatCode) (cells cells' : ℕ) (input : List ℤ) (stor
     (run run' : RunState) (node : NodeId) (nodes : List Node)
     (now ran now' : Log) (end : InstanceEnd) (e : ColumnEnd) (before : List Access)
     (h : Left code cells input store whole i log run nodes now)
-    → ((d : Behaviour) → StandsFor code cells' input run d → RanFrom code cells' input d node now ran run' end)
+    → ((d : Behaviour) → Represents code cells' input run d → RanFrom code cells' input d node now ran run' end)
     → cells' ≡ cells → node ≡ at i (length nodes - 1) → end ≡ instance_ends.Ended e → now' ≡ record ran
     { events = ran.events ++ events.Finish i e ∷ [] }
     → IsStateAfter store before log.cells

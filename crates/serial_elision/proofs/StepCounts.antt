@@ -20,7 +20,7 @@ use Rattle.serial_elision.specs.InstanceRuns.{IsEnd, RanTreeFrom}
 use Rattle.serial_elision.specs.Recording.{HaveReplies}
 use Rattle.stage_code.specs.FlatCode.{FlatCode}
 use Rattle.stage_interp.specs.MachineState.{RunState, steps_of}
-use Rattle.stage_interp.specs.TreeRuns.{Comes, Here, Stepped, Spent, Got, Put, StandsForTree}
+use Rattle.stage_interp.specs.TreeRuns.{Comes, Here, Stepped, Spent, Got, Put, RepresentsTree}
 
 -- ---- trees
 
@@ -108,14 +108,14 @@ pub record StepsLeft (code : FlatCode) (cells : ℕ) (input : List ℤ) (store :
     (old : List ℤ)
     (run : RunState) (now : Log) (steps : List ℤ) : Type 0 where
   pub d : Interaction ColumnEnd
-  pub stands : StandsForTree code cells input run d
+  pub stands : RepresentsTree code cells input run d
   pub counted : (before : List Access) → IsStateAfter store before log.cells
       → Counted store (natural code.limits.steps) whole before old d now steps
 
 -- a part begins
 pub steps_begun : (code : FlatCode) (cells : ℕ) (input : List ℤ) (store : InitialStore) (whole : Interaction ColumnEnd) (i : ℕ) (log : Log)
     (old : List ℤ) (run : RunState) (now : Log)
-    → StandsForTree code cells input run whole → now ≡ record log { events = log.events ++ events.Begin i ∷ [] }
+    → RepresentsTree code cells input run whole → now ≡ record log { events = log.events ++ events.Begin i ∷ [] }
     → StepsLeft code cells input store whole log old run now old
 steps_begun code cells input store whole i log old run now stands begun = record {
   d = whole;
@@ -132,12 +132,12 @@ steps_begun code cells input store whole i log old run now stands begun = record
 -- an instance ran over the cells of the log
 one_tree_ran : (code : FlatCode) (cells cells' : ℕ) (input : List ℤ) (d : Interaction ColumnEnd) (node : NodeId) (now ran : Log)
     (run run' : RunState) (end end' : InstanceEnd)
-    → ((d : Interaction ColumnEnd) → StandsForTree code cells' input run d → RanTreeFrom code cells' input d node now ran run' end)
-    → StandsForTree code cells input run d → cells' ≡ cells → end ≡ end' → RanTreeFrom code cells input d node now ran run' end'
+    → ((d : Interaction ColumnEnd) → RepresentsTree code cells' input run d → RanTreeFrom code cells' input d node now ran run' end)
+    → RepresentsTree code cells input run d → cells' ≡ cells → end ≡ end' → RanTreeFrom code cells input d node now ran run' end'
 one_tree_ran code cells cells' input d node now ran run run' end end' h stands same is =
     subst (λ c. RanTreeFrom code c input d node now ran run' end') same
     (subst (λ x. RanTreeFrom code cells' input d node now ran run' x) is
-    (h d (subst (λ c. StandsForTree code c input run d) (sym same) stands)))
+    (h d (subst (λ c. RepresentsTree code c input run d) (sym same) stands)))
 
 -- the steps of one instance are counted
 one_counted : (steps grown old : List ℤ) (all rest counts : List ℕ) (budget left n : ℕ) (z : ℤ)
@@ -155,7 +155,7 @@ pub steps_entered : (code : FlatCode) (cells cells' : ℕ) (input : List ℤ) (s
     (old : List ℤ) (run run' : RunState) (node : NodeId) (now ran now' : Log) (steps grown : List ℤ) (z : ℤ) (end : InstanceEnd)
     (kind : Kind) (n : ℤ)
     → StepsLeft code cells input store whole log old run now steps
-    → ((d : Interaction ColumnEnd) → StandsForTree code cells' input run d → RanTreeFrom code cells' input d node now ran run' end)
+    → ((d : Interaction ColumnEnd) → RepresentsTree code cells' input run d → RanTreeFrom code cells' input d node now ran run' end)
     → cells' ≡ cells → end ≡ instance_ends.Next kind n → run'.budget ≡ natural code.limits.steps → z ≡ pos (steps_of run')
     → grown ≡ steps ++ z ∷ []
     → now' ≡ record ran { events = ran.events ++ events.Advance i kind n ∷ (events.Enter i ∷ []) }
@@ -189,7 +189,7 @@ steps_entered code cells cells' input store whole i log old run run' node now ra
 pub steps_ended : (code : FlatCode) (cells cells' : ℕ) (input : List ℤ) (store : InitialStore) (whole : Interaction ColumnEnd) (log : Log)
     (old : List ℤ) (run run' : RunState) (node : NodeId) (now ran : Log) (steps grown : List ℤ) (z : ℤ) (end : InstanceEnd) (e : ColumnEnd)
     (before : List Access) (budget : ℕ) → StepsLeft code cells input store whole log old run now steps
-    → ((d : Interaction ColumnEnd) → StandsForTree code cells' input run d → RanTreeFrom code cells' input d node now ran run' end)
+    → ((d : Interaction ColumnEnd) → RepresentsTree code cells' input run d → RanTreeFrom code cells' input d node now ran run' end)
     → cells' ≡ cells → end ≡ instance_ends.Ended e → run'.budget ≡ natural code.limits.steps → z ≡ pos (steps_of run')
     → grown ≡ steps ++ z ∷ []
     → natural code.limits.steps ≡ budget → IsStateAfter store before log.cells

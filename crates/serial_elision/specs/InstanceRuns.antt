@@ -16,8 +16,8 @@ use Rattle.serial_elision.specs.declared.log.Log.{Log}
 use Rattle.serial_elision.specs.Recording.{Adds}
 use Rattle.stage_code.specs.FlatCode.{FlatCode}
 use Rattle.stage_interp.specs.MachineState.{RunState}
-use Rattle.stage_interp.specs.Standing.{StandsFor}
-use Rattle.stage_interp.specs.TreeRuns.{Comes, StandsForTree}
+use Rattle.stage_interp.specs.RemainingBehaviour.{Represents}
+use Rattle.stage_interp.specs.TreeRuns.{Comes, RepresentsTree}
 
 -- how an instance ended, unless it was stopped
 abbrev pub instance_end : StageEnd → Option InstanceEnd
@@ -30,7 +30,7 @@ instance_end stage_ends.Stopped = None
 
 -- the next of the behaviour is the naming of a next instance, with which the machine can go on, or the end of the part
 abbrev pub EndsSo : FlatCode → ℕ → List ℤ → InstanceEnd → RunState → Behaviour → Type 0
-EndsSo code cells input (instance_ends.Next kind n) run t = (t' : Behaviour) × (t ≡ Staging kind n t') × StandsFor code cells input run t'
+EndsSo code cells input (instance_ends.Next kind n) run t = (t' : Behaviour) × (t ≡ Staging kind n t') × Represents code cells input run t'
 EndsSo code cells input (instance_ends.Ended e) run t = t ≡ Ending e
 
 -- a next instance counts, and there was room for it
@@ -51,7 +51,7 @@ IsEnd (Stage k n d) = ⊥
 -- end
 abbrev pub EndsSoTree : FlatCode → ℕ → List ℤ → InstanceEnd → RunState → Interaction ColumnEnd → Type 0
 EndsSoTree code cells input (instance_ends.Next kind n) run d = (d' : Interaction ColumnEnd) × (d ≡ Stage kind n d')
-    × StandsForTree code cells input run d'
+    × RepresentsTree code cells input run d'
 EndsSoTree code cells input (instance_ends.Ended e) run d = IsEnd d
 
 -- an instance of the behaviour ran from one log to another, up to its end

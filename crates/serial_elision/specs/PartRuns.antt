@@ -20,7 +20,7 @@ use Rattle.serial_elision.specs.Recording.{IsWhole}
 pub record Serves (tree : SyntaxTree) (cells : ShardState) : Type 0 where
   pub whole : IsWhole cells
   pub count : cells.shard.cells ≡ cell_total tree.cells + 2
-  pub few : cells.shard.cells ≤ MOST_CELLS + 2
+  pub bounded : cells.shard.cells ≤ MOST_CELLS + 2
 
 -- the most instances of an iteration: instance 0, and one for each stage that it enters
 abbrev pub longest_column : ℕ

@@ -7,7 +7,7 @@ ghost use Rattle.pipe_model.specs.Pipelines.WholePrograms as whole_programs;
 ghost use Rattle.pipe_model.specs.Pipelines.WholePrograms.{init_trap, loop_accesses, loop_after_init, program_columns, program_log};
 ghost use Rattle.pipe_model.specs.Pipelines.WholePrograms.{program_output, program_trap};
 ghost use Rattle.stage_interp.specs.MachineState.{IsMadeFor};
-ghost use Rattle.stage_interp.specs.Standing.{IsCodeOf};
+ghost use Rattle.stage_interp.specs.RemainingBehaviour.{IsCodeOf};
 ghost use Rattle.serial_elision.specs.Elisions.{IsElision};
 ghost use Rattle.serial_elision.specs.LoopRuns.{LoopRan};
 ghost use Rattle.serial_elision.specs.PartRuns.{Serves};

@@ -6,9 +6,10 @@ ghost use Rattle.pipe_model.specs.Language.Interaction.{Interaction};
 ghost use Rattle.pipe_model.specs.Language.Programs.{natural};
 ghost use Rattle.pipe_model.specs.Pipelines.Behaviour.{Behaviour};
 ghost use Rattle.stage_code.specs.FlatCode.{FlatCode};
+ghost use Rattle.stage_interp.specs.CellNumbers.{most_cell_ids};
 ghost use Rattle.stage_interp.specs.MachineState.{IsMadeFor};
-ghost use Rattle.stage_interp.specs.Standing.{StandsFor};
-ghost use Rattle.stage_interp.specs.TreeRuns.{StandsForTree};
+ghost use Rattle.stage_interp.specs.RemainingBehaviour.{Represents};
+ghost use Rattle.stage_interp.specs.TreeRuns.{RepresentsTree};
 ghost use Rattle.serial_elision.specs.Recording.{IsWhole};
 ghost use Rattle.serial_elision.specs.InstanceRuns.{CountsNext, RanFrom, RanTreeFrom, instance_end};
 
@@ -55,13 +56,13 @@ fn run_from<B: Beginning>(
     requires log { log ≡ B.log }
     requires node { node ≡ B.node }
     requires whole { IsWhole log.cells }
-    requires few { log.cells.shard.cells ≤ 4294967296 }
-    requires before { (t : Behaviour) × StandsFor prepared.now.code.now log.cells.shard.cells prepared.now.input.now machine.old.run t }
-    ensures ran { IfOk result (λ r. (t : Behaviour) → StandsFor prepared.now.code.now log.cells.shard.cells prepared.now.input.now
+    requires bounded { log.cells.shard.cells ≤ most_cell_ids }
+    requires before { (t : Behaviour) × Represents prepared.now.code.now log.cells.shard.cells prepared.now.input.now machine.old.run t }
+    ensures ran { IfOk result (λ r. (t : Behaviour) → Represents prepared.now.code.now log.cells.shard.cells prepared.now.input.now
         machine.old.run t
         → RanFrom prepared.now.code.now log.cells.shard.cells prepared.now.input.now t node log r.1 machine.new.run r.0) }
     ensures tree { IfOk result (λ r. (d : Interaction ColumnEnd)
-        → StandsForTree prepared.now.code.now log.cells.shard.cells prepared.now.input.now machine.old.run d
+        → RepresentsTree prepared.now.code.now log.cells.shard.cells prepared.now.input.now machine.old.run d
         → RanTreeFrom prepared.now.code.now log.cells.shard.cells prepared.now.input.now d node log r.1 machine.new.run r.0) }
     ensures budget { machine.new.run.budget ≡ natural prepared.now.code.now.limits.steps }
     ensures whole { IfOk result (λ r. IsWhole r.1.cells) }
@@ -90,13 +91,13 @@ pub fn run_instance(
     log: Log,
 ) -> Result<(InstanceEnd, Log), NoMemory>
     requires whole { IsWhole log.cells }
-    requires few { log.cells.shard.cells ≤ 4294967296 }
-    requires before { (t : Behaviour) × StandsFor prepared.now.code.now log.cells.shard.cells prepared.now.input.now machine.old.run t }
-    ensures ran { IfOk result (λ r. (t : Behaviour) → StandsFor prepared.now.code.now log.cells.shard.cells prepared.now.input.now
+    requires bounded { log.cells.shard.cells ≤ most_cell_ids }
+    requires before { (t : Behaviour) × Represents prepared.now.code.now log.cells.shard.cells prepared.now.input.now machine.old.run t }
+    ensures ran { IfOk result (λ r. (t : Behaviour) → Represents prepared.now.code.now log.cells.shard.cells prepared.now.input.now
         machine.old.run t
         → RanFrom prepared.now.code.now log.cells.shard.cells prepared.now.input.now t node log r.1 machine.new.run r.0) }
     ensures tree { IfOk result (λ r. (d : Interaction ColumnEnd)
-        → StandsForTree prepared.now.code.now log.cells.shard.cells prepared.now.input.now machine.old.run d
+        → RepresentsTree prepared.now.code.now log.cells.shard.cells prepared.now.input.now machine.old.run d
         → RanTreeFrom prepared.now.code.now log.cells.shard.cells prepared.now.input.now d node log r.1 machine.new.run r.0) }
     ensures budget { machine.new.run.budget ≡ natural prepared.now.code.now.limits.steps }
     ensures whole { IfOk result (λ r. IsWhole r.1.cells) }

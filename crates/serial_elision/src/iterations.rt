@@ -9,7 +9,7 @@ ghost use Rattle.pipe_model.specs.Language.SyntaxTree.{tree_of};
 ghost use Rattle.pipe_model.specs.Pipelines.SerialElision.{serial_traces};
 ghost use Rattle.pipe_model.specs.Pipelines.WholePrograms.{init_accesses, loop_after_init};
 ghost use Rattle.stage_interp.specs.MachineState.{IsMadeFor};
-ghost use Rattle.stage_interp.specs.Standing.{IsCodeOf};
+ghost use Rattle.stage_interp.specs.RemainingBehaviour.{IsCodeOf};
 ghost use Rattle.serial_elision.specs.ElisionSteps.{steps_from};
 ghost use Rattle.serial_elision.specs.LoopRuns.{LoopRan};
 ghost use Rattle.serial_elision.specs.PartRuns as part_runs;
@@ -61,7 +61,7 @@ fn column_closes(column: &Column) -> bool
 // Returns the number of the iteration that closes the loop if none before it does.
 fn last_iteration(code: &Code) -> u32
     ensures limit { result ≡ natural code.now.limits.iterations }
-    ensures few { result ≤ natural MOST_ITERATIONS }
+    ensures bounded { result ≤ natural MOST_ITERATIONS }
 {
     code.limits().iterations as u32
 }

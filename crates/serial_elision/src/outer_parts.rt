@@ -10,7 +10,7 @@ ghost use Rattle.pipe_model.specs.Pipelines.SerialElision.{serial_trace};
 ghost use Rattle.pipe_model.specs.Pipelines.WholePrograms as whole_programs;
 ghost use Rattle.pipe_model.specs.Runs.State.{accesses_of};
 ghost use Rattle.stage_interp.specs.MachineState.{IsMadeFor};
-ghost use Rattle.stage_interp.specs.Standing.{IsCodeOf, behaviour_in};
+ghost use Rattle.stage_interp.specs.RemainingBehaviour.{IsCodeOf, behaviour_in};
 ghost use Rattle.serial_elision.specs.PartRuns.{Serves};
 
 use crate::log::Log;

@@ -10,7 +10,7 @@ ghost use Rattle.pipe_model.specs.Pipelines.SerialElision.{serial_trace};
 ghost use Rattle.pipe_model.specs.Races.Columns.{at, no_node};
 ghost use Rattle.stage_code.specs.FlatCode.{FlatCode};
 ghost use Rattle.stage_interp.specs.MachineState.{IsMadeFor};
-ghost use Rattle.stage_interp.specs.Standing.{IsCodeOf, behaviour_in};
+ghost use Rattle.stage_interp.specs.RemainingBehaviour.{IsCodeOf, behaviour_in};
 ghost use Rattle.stage_interp.specs.TreeRuns.{interaction_in};
 ghost use Rattle.serial_elision.specs.ElisionSteps.{step_counts};
 ghost use Rattle.serial_elision.specs.PartRuns.{PartRan, Serves, longest_column};
@@ -72,8 +72,8 @@ fn finish(log: Log, iteration: u32, end: ColumnEnd) -> Result<Log, NoMemory>
 
 // Returns the name of the last instance of an iteration.
 fn last_node(iteration: u32, nodes: &Nodes) -> NodeId
-    requires some { 0 < length nodes.now }
-    requires few { length nodes.now ≤ longest_column }
+    requires nonempty { 0 < length nodes.now }
+    requires bounded { length nodes.now ≤ longest_column }
     ensures { result ≡ at iteration (length nodes.now - 1) }
 {
     NodeId {
@@ -106,8 +106,8 @@ pub fn run_part(
         → steps.new ≡ steps.old ++ map pos (step_counts (store_of (tree_of prepared.now.checked.now)) before
         (natural (tree_of prepared.now.checked.now).limits.steps) (natural (tree_of prepared.now.checked.now).limits.steps)
         (interaction_in (tree_of prepared.now.checked.now) prepared.now.input.now part iteration))) }
-    ensures some { IfOk result (λ r. 0 < length r.0.nodes) }
-    ensures few { IfOk result (λ r. length r.0.nodes ≤ longest_column) }
+    ensures nonempty { IfOk result (λ r. 0 < length r.0.nodes) }
+    ensures bounded { IfOk result (λ r. length r.0.nodes ≤ longest_column) }
     ensures made { IfOk result (λ r. (code : FlatCode) → IsMadeFor code machine.old → IsMadeFor code machine.new) }
     ensures serves { IfOk result (λ r. Serves (tree_of prepared.now.checked.now) r.1.cells) }
 {

@@ -1,6 +1,6 @@
 //! The traps of iterations, by their columns.
 
-ghost use Rattle.std.specs.Prelude.{◌≡◌, ◌≤◌, ◌<◌, All, length};
+ghost use Rattle.std.specs.Prelude.{◌≡◌, ◌≤◌, ◌<◌, ◌^◌, All, length};
 ghost use Rattle.pipe_model.specs.Pipelines.WholePrograms as whole_programs;
 ghost use Rattle.serial_elision.specs.ColumnTraps as column_traps;
 
@@ -22,8 +22,8 @@ pub fn part_trap(place: TrapPlace, end: Option<ColumnEnd>) -> Option<TrapAt>
 
 // Returns the place of the last instance of an iteration.
 fn last_place(iteration: u32, column: &Column) -> TrapPlace
-    requires some { 0 < length column.now.nodes }
-    requires few { length column.now.nodes ≤ 4294967296 }
+    requires nonempty { 0 < length column.now.nodes }
+    requires bounded { length column.now.nodes ≤ 2 ^ 32 }
     ensures { result ≡ column_traps.last_place iteration column.now }
 {
     let nodes = column.nodes.as_slice();
@@ -38,8 +38,8 @@ fn last_place(iteration: u32, column: &Column) -> TrapPlace
 /// Returns the trap of iteration `iteration`, if its column ends with one. The column has an
 /// instance.
 pub fn column_trap(iteration: u32, column: &Column) -> Option<TrapAt>
-    requires some { 0 < length column.now.nodes }
-    requires few { length column.now.nodes ≤ 4294967296 }
+    requires nonempty { 0 < length column.now.nodes }
+    requires bounded { length column.now.nodes ≤ 2 ^ 32 }
     ensures { result ≡ column_traps.column_trap iteration column.now }
 {
     part_trap(last_place(iteration, column), column.end)
@@ -48,9 +48,9 @@ pub fn column_trap(iteration: u32, column: &Column) -> Option<TrapAt>
 /// Returns the trap of the least iteration that trapped, by the columns of a run. Each column has an
 /// instance.
 pub fn least_trap(columns: &[Column]) -> Option<TrapAt>
-    requires count { length columns.now ≤ 4294967296 }
-    requires some { All (λ column. 0 < length column.nodes) columns.now }
-    requires few { All (λ column. length column.nodes ≤ 4294967296) columns.now }
+    requires count { length columns.now ≤ 2 ^ 32 }
+    requires nonempty { All (λ column. 0 < length column.nodes) columns.now }
+    requires bounded { All (λ column. length column.nodes ≤ 2 ^ 32) columns.now }
     ensures { result ≡ column_traps.least_trap 0 columns.now }
 {
     let mut trap = None;

@@ -24,8 +24,8 @@ new_names before (d ∷ ds) o =
 
 pub few_cells : (before ds : List Declaration) → Obey (marks_of_cells before ds) → cell_total before ≤ MOST_CELLS
     → cell_total before + cell_total ds ≤ MOST_CELLS
-few_cells before [] o few = omega (arith, few)
-few_cells before (d ∷ ds) o few =
+few_cells before [] o bounded = omega (arith, bounded)
+few_cells before (d ∷ ds) o bounded =
     let mark = mark_at (opening regions.Cells before) (DeclaredCell d.name d.size) in
     let rest = marks_of_cells (before ++ d ∷ []) ds in
     let more = few_by (cell_total before + declared_size d.size) (first_of Obeys mark rest o 3 Unknown (omega arith)) in

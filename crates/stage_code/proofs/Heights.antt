@@ -23,27 +23,27 @@ height_from ss i s h e =
 pub statement_low : (ss : List Stmt) (i most all : ℕ) (s : Stmt) → i < length ss → s ≡ get_or ss i s
     → greater most (height_of_statements (statements_of (drop i ss))) ≡ all → all ≤ HIGHEST_STACK
     → height_of_statement (statement_of s) ≤ HIGHEST_STACK
-statement_low ss i most all s h e is few =
+statement_low ss i most all s h e is bounded =
     let rest = height_of_statements (statements_of (drop (i + 1) ss)) in
     let one = greater_first (height_of_statement (statement_of s)) rest in
     let two = greater_second most (greater (height_of_statement (statement_of s)) rest) in
     let from : greater most (greater (height_of_statement (statement_of s)) rest) ≡ all = ap (greater most) (sym (height_from ss i s h e))
     ∙ is in
-    omega (arith, one, two, from, few)
+    omega (arith, one, two, from, bounded)
 
 pub if_low : (e : Expression) (a b : Statements) (whole : Statement) → whole ≡ If e a b → height_of_statement whole ≤ HIGHEST_STACK
     → (height_of_statements a ≤ HIGHEST_STACK) × (height_of_statements b ≤ HIGHEST_STACK)
-if_low e a b whole is few =
+if_low e a b whole is bounded =
     let all : height_of_statement whole ≡ greater (height_of e) (greater (height_of_statements a) (height_of_statements b)) =
     ap height_of_statement is in
     let one = greater_first (height_of_statements a) (height_of_statements b) in
     let two = greater_second (height_of_statements a) (height_of_statements b) in
     let three = greater_second (height_of e) (greater (height_of_statements a) (height_of_statements b)) in
-    (omega (arith, all, one, three, few), omega (arith, all, two, three, few))
+    (omega (arith, all, one, three, bounded), omega (arith, all, two, three, bounded))
 
 pub while_low : (e : Expression) (a : Statements) (whole : Statement) → whole ≡ While e a → height_of_statement whole ≤ HIGHEST_STACK
     → height_of_statements a ≤ HIGHEST_STACK
-while_low e a whole is few =
+while_low e a whole is bounded =
     let all : height_of_statement whole ≡ greater (height_of e) (height_of_statements a) = ap height_of_statement is in
     let one = greater_second (height_of e) (height_of_statements a) in
-    omega (arith, all, one, few)
+    omega (arith, all, one, bounded)

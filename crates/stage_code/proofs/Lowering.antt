@@ -31,7 +31,7 @@ use Rattle.stage_code.proofs.Sizes.{parts_short, program_low}
 -- what `lower_program` needs of a program that breaks no rule
 pub record IsReady (tree : SyntaxTree) : Type 0 where
   pub new : AreNew [] tree.cells
-  pub few : cell_total tree.cells ≤ MOST_CELLS
+  pub bounded : cell_total tree.cells ≤ MOST_CELLS
   pub init : HaveSlots [] tree.init
   pub body : HaveSlots [] tree.body
   pub last : HaveSlots [] tree.last
@@ -41,7 +41,7 @@ pub ready : (tree : SyntaxTree) → IsSpellable tree → fault_of tree ≡ None 
 ready tree spellable obeys =
     let cells = tree.cells in
     let bounds : Bounds = record { depth = greatest_height tree; cells = 2 + cell_total cells } in
-    let bounded = program_in_bounds tree bounds obeys (omega arith) (omega arith) in
+    let within = program_in_bounds tree bounds obeys (omega arith) (omega arith) in
     let ranges = range_of 2 cells in
     let mc = marks_of_cells [] cells in
     let rest = marks_of_statements (opening regions.Init cells) tree.init
@@ -51,10 +51,10 @@ ready tree spellable obeys =
     let total = few_cells [] cells obey (omega arith) in
     record {
       new = new_names [] cells obey;
-      few = omega (arith, total);
-      init = slots_of_all bounds ranges [] tree.init bounded.init;
-      body = slots_of_all bounds ranges [] tree.body bounded.body;
-      last = slots_of_all bounds ranges [] tree.last bounded.last;
+      bounded = omega (arith, total);
+      init = slots_of_all bounds ranges [] tree.init within.init;
+      body = slots_of_all bounds ranges [] tree.body within.body;
+      last = slots_of_all bounds ranges [] tree.last within.last;
       shallow = program_low tree spellable.short;
     }
 
@@ -62,9 +62,9 @@ ready tree spellable obeys =
 
 pub init_fits : (tree : SyntaxTree) (cells : List ℕ → Option CellRange) (c0 : List Instr) → size_of tree ≤ LARGEST_PROGRAM → c0 ≡ []
     → CodeFits c0 (part_code cells (length c0) tree.init)
-init_fits tree cells c0 few e0 =
+init_fits tree cells c0 bounded e0 =
     let short = parts_short tree cells 0 0 in
-    subst (λ l. CodeFits l (part_code cells (length l) tree.init)) (sym e0) (omega (arith, few, short.all))
+    subst (λ l. CodeFits l (part_code cells (length l) tree.init)) (sym e0) (omega (arith, bounded, short.all))
 
 -- the code of the first part
 init_is : (tree : SyntaxTree) (cells : List ℕ → Option CellRange) (c0 c1 : List Instr) → c0 ≡ []
@@ -74,18 +74,18 @@ init_is tree cells c0 c1 e0 e1 = e1 ∙ ap (λ l. l ++ part_code cells (length l
 pub pipe_fits : (tree : SyntaxTree) (cells : List ℕ → Option CellRange) (c0 c1 : List Instr) → size_of tree ≤ LARGEST_PROGRAM → c0 ≡ []
     → c1 ≡ c0 ++ part_code cells (length c0) tree.init
     → CodeFits c1 (iteration_code cells (length c1) tree.test tree.body)
-pipe_fits tree cells c0 c1 few e0 e1 =
+pipe_fits tree cells c0 c1 bounded e0 e1 =
     let short = parts_short tree cells (length c1) 0 in
-    omega (arith, few, short.all, ap length (init_is tree cells c0 c1 e0 e1))
+    omega (arith, bounded, short.all, ap length (init_is tree cells c0 c1 e0 e1))
 
 pub last_fits : (tree : SyntaxTree) (cells : List ℕ → Option CellRange) (c0 c1 c2 : List Instr) → size_of tree ≤ LARGEST_PROGRAM → c0 ≡ []
     → c1 ≡ c0 ++ part_code cells (length c0) tree.init
     → c2 ≡ c1 ++ iteration_code cells (length c1) tree.test tree.body → CodeFits c2 (part_code cells (length c2) tree.last)
-last_fits tree cells c0 c1 c2 few e0 e1 e2 =
+last_fits tree cells c0 c1 c2 bounded e0 e1 e2 =
     let short = parts_short tree cells (length c1) (length c2) in
     omega (
       arith,
-      few,
+      bounded,
       short.all,
       ap length (init_is tree cells c0 c1 e0 e1),
       ap length e2,

@@ -22,14 +22,14 @@ flat_runs tree obeys =
     let parts = parts_are_in tree in
     let turns = (setting_of tree [] 0).turns in
     record {
-      init = λ input bounds slots n room few.
-          GoesOn _ (part_runs (setting_of_code code bounds input 0) cells turns n code.init slots tree.init few room.locals
+      init = λ input bounds slots n room bounded.
+          GoesOn _ (part_runs (setting_of_code code bounds input 0) cells turns n code.init slots tree.init bounded room.locals
           (in_bounds tree bounds slots obeys room).init parts.init);
-      pipe = λ input i bounds slots n room few.
-          GoesOn _ (iteration_runs (setting_of_code code bounds input i) cells turns n code.pipe slots tree.test tree.body few room.locals
-          (in_bounds tree bounds slots obeys room).test
+      pipe = λ input i bounds slots n room bounded.
+          GoesOn _ (iteration_runs (setting_of_code code bounds input i) cells turns n code.pipe slots tree.test tree.body bounded
+          room.locals (in_bounds tree bounds slots obeys room).test
           (in_bounds tree bounds slots obeys room).body parts.pipe);
-      last = λ input bounds slots n room few.
-          GoesOn _ (part_runs (setting_of_code code bounds input 0) cells turns n code.last slots tree.last few room.locals
+      last = λ input bounds slots n room bounded.
+          GoesOn _ (part_runs (setting_of_code code bounds input 0) cells turns n code.last slots tree.last bounded room.locals
           (in_bounds tree bounds slots obeys room).last parts.last);
     }

@@ -102,11 +102,11 @@ pub record IsScope (cells : List Declaration) (bounds : Bounds) (scope : Scope) 
   pub cells_are : scope.cells ≡ cells
   pub served : 2 + cell_total cells ≤ bounds.cells
   pub covered : length scope.visible ≤ length scope.lets
-  pub few : length scope.lets ≤ MOST_LOCALS
+  pub bounded : length scope.lets ≤ MOST_LOCALS
 
 pub first_scope : (cells : List Declaration) (bounds : Bounds) (region : Region) → 2 + cell_total cells ≤ bounds.cells
     → IsScope cells bounds (opening region cells)
-first_scope cells bounds region served = record { cells_are = refl; served = served; covered = omega arith; few = omega arith }
+first_scope cells bounds region served = record { cells_are = refl; served = served; covered = omega arith; bounded = omega arith }
 
 known : (cells : List Declaration) (bounds : Bounds) (scope : Scope) (x : List ℕ) → IsScope cells bounds scope
     → Obeys (mark_at scope (Plain x))
@@ -218,8 +218,8 @@ leaves cells bounds scope inner s f = record {
     cells_are = f.is_scope.cells_are;
     served = s.served;
     covered = omega (arith, s.covered, f.more);
-    few =
-        f.is_scope.few;
+    bounded =
+        f.is_scope.bounded;
   };
   more = f.more;
 }
@@ -241,7 +241,7 @@ mutual
           cells_are = s.cells_are;
           served = s.served;
           covered = omega (arith, s.covered, names, lets);
-          few =
+          bounded =
               omega (arith, room, lets);
         };
         more = omega (arith, lets);

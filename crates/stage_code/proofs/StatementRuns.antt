@@ -208,8 +208,8 @@ while_run : (p : CodeSetting) (cells : List ℕ → Option CellRange) (turns : �
     → FollowsAtEnd p n scope (at + length (statement_code cells scope at (While e b))) k
     → FollowsAt p n (ready at slots env) (bind (loop_turns t (λ v. evaluate (setting_with p cells turns) v.locals e)
     (execute_all (setting_with p cells turns) b) env) k)
-while_run p cells turns e b body zero n at scope env slots k lt few fits good has h = absurd (omega (arith, lt))
-while_run p cells turns e b body (suc t) n at scope env slots k lt few fits good has h =
+while_run p cells turns e b body zero n at scope env slots k lt bounded fits good has h = absurd (omega (arith, lt))
+while_run p cells turns e b body (suc t) n at scope env slots k lt bounded fits good has h =
     let ct = expression_code cells scope at e in
     let cb = statements_code cells scope (at + length ct + 1) b in
     let end = at + length ct + 1 + length cb + 1 in
@@ -230,16 +230,16 @@ while_run p cells turns e b body (suc t) n at scope env slots k lt few fits good
     (subst (λ q. FollowsAt p l (ready q slots env) (k env)) len (h l (omega arith) env slots fits))
     (subst (FollowsAt p l (ready (at + length ct + 1) slots env))
     (sym (bind-assoc (execute_all (setting_with p cells turns) b env) again k))
-    (body l (at + length ct + 1) scope env slots (λ after. bind (again after) k) (omega (arith, few)) fits good.1
+    (body l (at + length ct + 1) scope env slots (λ after. bind (again after) k) (omega (arith, bounded)) fits good.1
     (first_at p.code _ cb _ hb.1)
     (λ j le' after now f.
     at_instr p j (ready (at + length ct + 1 + length cb) now after) (instrs.Jump at) _ (rest_at p.code _ cb _ hb.1).0
-    (GoesOn _ (while_run p cells turns e b body t j at scope (leave_block env after) now k (omega (arith, lt)) (omega (arith, few))
+    (GoesOn _ (while_run p cells turns e b body t j at scope (leave_block env after) now k (omega (arith, lt)) (omega (arith, bounded))
     (leaves scope b env after slots now fits f) good has (λ i le'' x y z. h i (omega arith) x y z))))))))))
 
 mutual
   pub statement_runs : (p : CodeSetting) (cells : List ℕ → Option CellRange) (turns : ℕ) (s : Statement) → StatementRuns p cells turns s
-  statement_runs p cells turns (Let x e) n at scope env slots k few fits good has h =
+  statement_runs p cells turns (Let x e) n at scope env slots k bounded fits good has h =
       let ce = expression_code cells scope at e in
       let len : at + length ce + 1 ≡ at + length (ce ++ instrs.SetLocal (length scope) ∷ []) =
       omega (arith, length-append ce (instrs.SetLocal (length scope) ∷ [])) in
@@ -250,7 +250,7 @@ mutual
       (first_at p.code at ce _ has) (λ m le v.
       at_instr p m (state_at (at + length ce) (v ∷ []) slots env) (instrs.SetLocal (length scope)) _ (rest_at p.code at ce _ has).0
       (let_run p m (at + length ce) scope env slots x v k fits good.1 (fewer p n m _ _ k le (ends_at p n _ _ _ k len h)))))
-  statement_runs p cells turns (Assign x e) n at scope env slots k few fits good has h =
+  statement_runs p cells turns (Assign x e) n at scope env slots k bounded fits good has h =
       let ce = expression_code cells scope at e in
       let i = assign_code (slot_of scope x) (cells x) in
       let len : at + length ce + 1 ≡ at + length (ce ++ i ∷ []) = omega (arith, length-append ce (i ∷ [])) in
@@ -263,7 +263,7 @@ mutual
       at_instr p m (state_at (at + length ce) (v ∷ []) slots env) i _ (rest_at p.code at ce _ has).0
       (assign_run p m (at + length ce) scope env slots x v (slot_of scope x) (local_value env.locals x) (cells x) k fits
       (ap (λ s. slot_of s x) fits.names) found good.1 (fewer p n m _ _ k le (ends_at p n _ _ _ k len h)))))
-  statement_runs p cells turns (AssignElement x i e) n at scope env slots k few fits good has h =
+  statement_runs p cells turns (AssignElement x i e) n at scope env slots k bounded fits good has h =
       let ci = expression_code cells scope at i in
       let ce = expression_code cells scope (at + length ci) e in
       let o = assign_element_code (cells x) in
@@ -284,7 +284,7 @@ mutual
       at_instr p l (state_at (at + length ci + length ce) (v ∷ j ∷ []) slots env) o _ (rest_at p.code _ ce _ hb).0
       (put_run p l (at + length ci + length ce) scope env slots j v (cells x) k fits good.2
       (fewer p n l _ _ k (omega (arith, le, le')) (ends_at p n _ _ _ k len h)))))))
-  statement_runs p cells turns (Emit e) n at scope env slots k few fits good has h =
+  statement_runs p cells turns (Emit e) n at scope env slots k bounded fits good has h =
       let ce = expression_code cells scope at e in
       let len : at + length ce + 1 ≡ at + length (ce ++ instrs.Emit ∷ []) = omega (arith, length-append ce (instrs.Emit ∷ [])) in
       let f = λ (v : ℤ). Step (bind (emit p.world.emits v) (λ u. Return env)) in
@@ -297,7 +297,7 @@ mutual
       (λ d. Follows p l (bind (emit p.world.emits v) (λ u. goes_to c (at + length ce + 1) [])) d)
       (sym (bind-assoc (emit p.world.emits v) (λ u. Return env) k))
       (follow_then p l (emit p.world.emits v) _ _ (λ j le' u. GoesOn _ (ends_at p n _ _ _ k len h j (omega arith) env slots fits))))))))
-  statement_runs p cells turns (If e a b) n at scope env slots k few fits good has h =
+  statement_runs p cells turns (If e a b) n at scope env slots k bounded fits good has h =
       let ct = expression_code cells scope at e in
       let ca = statements_code cells scope (at + length ct + 1) a in
       let cb = statements_code cells scope (at + length ct + 1 + length ca + 1) b in
@@ -320,15 +320,15 @@ mutual
       (step_over p m _ _ (λ l lt. subst (λ d. Follows p l (if_zero v (goes_to c other []) (goes_to c (at + length ct + 1) [])) d)
       (sym (bind-assoc (if_zero v db da) out k))
       (branch p l c other [] v db da (λ after. k (leave_block env after))
-      (statements_run p cells turns b l other scope env slots (λ after. k (leave_block env after)) (omega (arith, few)) fits good.2 hj.1
+      (statements_run p cells turns b l other scope env slots (λ after. k (leave_block env after)) (omega (arith, bounded)) fits good.2 hj.1
       (λ j le' after now f. done j (omega arith) (leave_block env after) now (leaves scope b env after slots now fits f)))
-      (statements_run p cells turns a l (at + length ct + 1) scope env slots (λ after. k (leave_block env after)) (omega (arith, few)) fits
-      good.1 (first_at p.code _ ca _ hb.1) (λ j le' after now f.
+      (statements_run p cells turns a l (at + length ct + 1) scope env slots (λ after. k (leave_block env after)) (omega (arith, bounded))
+      fits good.1 (first_at p.code _ ca _ hb.1) (λ j le' after now f.
       at_instr p j (ready (at + length ct + 1 + length ca) now after) (instrs.Jump end) _ hj.0
       (GoesOn _ (done j (omega arith) (leave_block env after) now (leaves scope a env after slots now fits f))))))))))
-  statement_runs p cells turns (While e a) n at scope env slots k few fits good has h =
-      while_run p cells turns e a (statements_run p cells turns a) turns n at scope env slots k few few fits good has h
-  statement_runs p cells turns (Stage s e) n at scope env slots k few fits good has h =
+  statement_runs p cells turns (While e a) n at scope env slots k bounded fits good has h =
+      while_run p cells turns e a (statements_run p cells turns a) turns n at scope env slots k bounded bounded fits good has h
+  statement_runs p cells turns (Stage s e) n at scope env slots k bounded fits good has h =
       let ce = expression_code cells scope at e in
       let len : at + length ce + 1 ≡ at + length (ce ++ stage_code s ∷ []) = omega (arith, length-append ce (stage_code s ∷ [])) in
       let f = λ (v : ℤ). Step (bind (go_to_stage p.world.stages s env.stage v) (λ s. Return (record env { stage = s }))) in
@@ -337,21 +337,21 @@ mutual
       (first_at p.code at ce _ has) (λ m le v.
       at_instr p m (state_at (at + length ce) (v ∷ []) slots env) (stage_code s) _ (rest_at p.code at ce _ has).0
       (stage_run p m (at + length ce) scope env slots s v k fits (fewer p n m _ _ k le (ends_at p n _ _ _ k len h)))))
-  statement_runs p cells turns (NextStage s) n at scope env slots k few fits good has h =
+  statement_runs p cells turns (NextStage s) n at scope env slots k bounded fits good has h =
       at_instr p n (ready at slots env) (next_stage_code s) _ has.0 (stage_next_run p n at scope env slots s k fits h)
 
   pub statements_run : (p : CodeSetting) (cells : List ℕ → Option CellRange) (turns : ℕ) (b : Statements) → StatementsRun p cells turns b
-  statements_run p cells turns Empty n at scope env slots k few fits good has h =
+  statements_run p cells turns Empty n at scope env slots k bounded fits good has h =
       let e : at + 0 ≡ at = omega arith in subst (λ q. FollowsAt p n (ready q slots env) (k env)) e (h n (omega arith) env slots fits)
-  statements_run p cells turns (Then s rest) n at scope env slots k few fits good has h =
+  statements_run p cells turns (Then s rest) n at scope env slots k bounded fits good has h =
       let cs = statement_code cells scope at s in
       let cr = statements_code cells (locals_after scope s) (at + length cs) rest in
       let len : at + length cs + length cr ≡ at + length (cs ++ cr) = omega (arith, length-append cs cr) in
       subst (FollowsAt p n (ready at slots env)) (sym
       (bind-assoc (execute (setting_with p cells turns) s env) (execute_all (setting_with p cells turns) rest) k))
-      (statement_runs p cells turns s n at scope env slots (λ after. bind (execute_all (setting_with p cells turns) rest after) k) few fits
-      good.0 (first_at p.code at cs _ has) (λ m le after now f.
-      statements_run p cells turns rest m (at + length cs) (locals_after scope s) after now k (omega (arith, few)) f good.1
+      (statement_runs p cells turns s n at scope env slots (λ after. bind (execute_all (setting_with p cells turns) rest after) k) bounded
+      fits good.0 (first_at p.code at cs _ has) (λ m le after now f.
+      statements_run p cells turns rest m (at + length cs) (locals_after scope s) after now k (omega (arith, bounded)) f good.1
       (rest_at p.code at cs _ has) (fewer p n m _ _ k le (ends_at p n _ _ _ k len h))))
 
 loop_test : (p : CodeSetting) (n : ℕ) (c : CodeState) (v : ℤ) (body : Interaction ColumnEnd)
@@ -374,7 +374,7 @@ pub iteration_runs : (p : CodeSetting) (cells : List ℕ → Option CellRange) (
     (body : Statements) → n < turns → MOST_LOCALS ≤ length slots → StaysInBounds p.bounds cells [] 0 test
     → StatementsStayInBounds p.bounds cells [] body → HasAt p.code at (iteration_code cells at test body)
     → FollowsAt p n (ready at slots first_environment) (run_iteration (setting_with p cells turns) test body)
-iteration_runs p cells turns n at slots test body few room_is good_test good has =
+iteration_runs p cells turns n at slots test body bounded room_is good_test good has =
     let ct = expression_code cells [] at test in
     let cb = statements_code cells [] (at + length ct + 1) body in
     let hb = rest_at p.code at ct _ has in
@@ -383,7 +383,7 @@ iteration_runs p cells turns n at slots test body few room_is good_test good has
     (first_at p.code at ct _ has) (λ m le v.
     at_instr p m (state_at (at + length ct) (v ∷ []) slots first_environment) instrs.LoopTest _ hb.0
     (step_over p m _ _ (λ l lt. loop_test p l (state_at (at + length ct) (v ∷ []) slots first_environment) v rest
-    (statements_run p cells turns body l (at + length ct + 1) [] first_environment slots (λ env. Return ends.End) (omega (arith, few))
+    (statements_run p cells turns body l (at + length ct + 1) [] first_environment slots (λ env. Return ends.End) (omega (arith, bounded))
     (record { holds = tt; room = room_is; names = refl }) good (first_at p.code _ cb _ hb.1) (λ j le' env now f.
     at_instr p j (ready (at + length ct + 1 + length cb) now env) instrs.End _ (rest_at p.code _ cb _ hb.1).0 (Finishes _))))))
 
@@ -393,8 +393,8 @@ pub part_runs : (p : CodeSetting) (cells : List ℕ → Option CellRange) (turns
     → MOST_LOCALS ≤ length slots → StatementsStayInBounds p.bounds cells [] body → HasAt p.code at (part_code cells at body)
     → FollowsAt p n (ready at slots first_environment) (bind (execute_all (setting_with p cells turns) body first_environment)
     (λ env. Return ends.End))
-part_runs p cells turns n at slots body few room_is good has =
+part_runs p cells turns n at slots body bounded room_is good has =
     let cb = statements_code cells [] at body in
-    statements_run p cells turns body n at [] first_environment slots (λ env. Return ends.End) few
+    statements_run p cells turns body n at [] first_environment slots (λ env. Return ends.End) bounded
     (record { holds = tt; room = room_is; names = refl }) good (first_at p.code at cb _ has) (λ j le' env now f.
     at_instr p j (ready (at + length cb) now env) instrs.End _ (rest_at p.code at cb _ has).0 (Finishes _))

@@ -22,7 +22,7 @@ pub statement_fits : (cells : List ℕ → Option CellRange) (scope first_scope 
     (length old) all
     → CodeFits old (statements_code cells first_scope (length old) all)
     → CodeFits now (statement_code cells scope (length now) (statement_of s))
-statement_fits cells scope first_scope ss i now old all s h e is few =
+statement_fits cells scope first_scope ss i now old all s h e is bounded =
     let code = statement_code cells scope (length now) (statement_of s) in
     let rest = statements_code cells (locals_after scope (statement_of s)) (length now + length code) (statements_of (drop (i + 1) ss)) in
     let from : length (now ++ (code ++ rest)) ≡ length (old ++ statements_code cells first_scope (length old) all) =
@@ -30,7 +30,7 @@ statement_fits cells scope first_scope ss i now old all s h e is few =
     omega (
       arith,
       from,
-      few,
+      bounded,
       length-append now (code ++ rest),
       length-append code rest,
       length-append old
@@ -87,7 +87,7 @@ if_fits : (cells : List ℕ → Option CellRange) (scope : List (List ℕ)) (e :
     → body ≡ statements_code cells scope (length base + length test + 1) a
     → other ≡ statements_code cells scope (length base + length test + 1 + length body + 1) b
     → length base + length test + 1 + length body + 1 + length other ≤ LONGEST_CODE
-if_fits cells scope e a b whole base test body other is few e1 e2 e3 =
+if_fits cells scope e a b whole base test body other is bounded e1 e2 e3 =
     let at = length base in
     let test' = expression_code cells scope at e in
     let body' = statements_code cells scope (at + length test' + 1) a in
@@ -101,7 +101,7 @@ if_fits cells scope e a b whole base test body other is few e1 e2 e3 =
     let l3 : length other ≡ length other' = ap length e3 ∙ ap (λ n. length (statements_code cells scope n b)) at2 in
     omega (
       arith,
-      few,
+      bounded,
       all,
       l1,
       l2,
@@ -122,14 +122,14 @@ pub if_parts : (cells : List ℕ → Option CellRange) (scope : List (List ℕ))
     → CodeFits base (statement_code cells scope (length base) whole) → c1 ≡ base ++ expression_code cells scope (length base) e
     → c2 ≡ c1 ++ x ∷ []
     → IfFits cells scope a b (length base) (length c2) (length c2 + length (statements_code cells scope (length c2) a) + 1)
-if_parts cells scope e a b whole base c1 c2 x is few e1 e2 =
+if_parts cells scope e a b whole base c1 c2 x is bounded e1 e2 =
     let at = length base in
     let test = expression_code cells scope at e in
     let first = at + length test + 1 in
     let body = statements_code cells scope first a in
     let second = first + length body + 1 in
     let other = statements_code cells scope second b in
-    let all = if_fits cells scope e a b whole base test body other is few refl refl refl in
+    let all = if_fits cells scope e a b whole base test body other is bounded refl refl refl in
     let l2 : length c2 ≡ first = omega (arith, ap length e2, length-append c1 (x ∷ []), ap length e1, length-append base test) in
     subst (λ n. IfFits cells scope a b at n (n + length (statements_code cells scope n a) + 1)) (sym l2)
     (record { body = omega (arith, all); second_is = refl; other = all })
@@ -139,7 +139,7 @@ pub first_fits : (cells : List ℕ → Option CellRange) (scope : List (List ℕ
     → CodeFits base (statement_code cells scope (length base) whole) → c1 ≡ base ++ expression_code cells scope (length base) e
     → c2 ≡ c1 ++ x ∷ []
     → CodeFits c2 (statements_code cells scope (length c2) a)
-first_fits cells scope e a b whole base c1 c2 x is few e1 e2 = (if_parts cells scope e a b whole base c1 c2 x is few e1 e2).body
+first_fits cells scope e a b whole base c1 c2 x is bounded e1 e2 = (if_parts cells scope e a b whole base c1 c2 x is bounded e1 e2).body
 
 -- the index after the first block
 pub between_fits : (cells : List ℕ → Option CellRange) (scope : List (List ℕ)) (e : Expression) (a b : Statements) (whole : Statement)
@@ -147,12 +147,12 @@ pub between_fits : (cells : List ℕ → Option CellRange) (scope : List (List �
     → CodeFits base (statement_code cells scope (length base) whole) → c1 ≡ base ++ expression_code cells scope (length base) e
     → c2 ≡ c1 ++ x ∷ []
     → c3 ≡ c2 ++ statements_code cells scope (length c2) a → c4 ≡ c3 ++ y ∷ [] → CodeFits c4 (statements_code cells scope (length c4) b)
-between_fits cells scope e a b whole base c1 c2 c3 c4 x y is few e1 e2 e3 e4 =
+between_fits cells scope e a b whole base c1 c2 c3 c4 x y is bounded e1 e2 e3 e4 =
     let body = statements_code cells scope (length c2) a in
     let l4 : length c4 ≡ length c2 + length body + 1 =
     omega (arith, ap length e4, length-append c3 (y ∷ []), ap length e3, length-append c2 body) in
     subst (λ n. n + length (statements_code cells scope n b) ≤ LONGEST_CODE) (sym l4)
-    (if_parts cells scope e a b whole base c1 c2 x is few e1 e2).other
+    (if_parts cells scope e a b whole base c1 c2 x is bounded e1 e2).other
 
 -- the second block
 pub second_fits : (cells : List ℕ → Option CellRange) (scope between : List (List ℕ)) (b : Statements) (c4 : List Instr) (hole : ℕ)
@@ -160,10 +160,10 @@ pub second_fits : (cells : List ℕ → Option CellRange) (scope between : List 
     → between ≡ scope
     → CodeFits c4 (statements_code cells scope (length c4) b) → CodeFits (slice_set c4 hole i)
     (statements_code cells between (length (slice_set c4 hole i)) b)
-second_fits cells scope between b c4 hole i left few =
+second_fits cells scope between b c4 hole i left bounded =
     subst (λ (names : List (List ℕ)). CodeFits (slice_set c4 hole i) (statements_code cells names (length (slice_set c4 hole i)) b))
     (sym left)
-    (subst (λ n. n + length (statements_code cells scope n b) ≤ LONGEST_CODE) (sym (length-set c4 hole i)) few)
+    (subst (λ n. n + length (statements_code cells scope n b) ≤ LONGEST_CODE) (sym (length-set c4 hole i)) bounded)
 
 pub if_slots : (scope : List (List ℕ)) (e : Expression) (a b : Statements) (whole : Statement) → whole ≡ If e a b → HasSlots scope whole
     → HaveSlots scope a × HaveSlots scope b
@@ -179,7 +179,7 @@ pub body_fits : (cells : List ℕ → Option CellRange) (scope : List (List ℕ)
     → CodeFits base (statement_code cells scope (length base) whole) → c1 ≡ base ++ expression_code cells scope (length base) e
     → c2 ≡ c1 ++ x ∷ []
     → length c2 + length (statements_code cells scope (length c2) a) + 1 ≤ LONGEST_CODE
-body_fits cells scope e a whole base c1 c2 x is few e1 e2 =
+body_fits cells scope e a whole base c1 c2 x is bounded e1 e2 =
     let at = length base in
     let test = expression_code cells scope at e in
     let first = at + length test + 1 in
@@ -190,7 +190,7 @@ body_fits cells scope e a whole base c1 c2 x is few e1 e2 =
     subst (λ n. n + length (statements_code cells scope n a) + 1 ≤ LONGEST_CODE) (sym l2)
     (omega (
       arith,
-      few,
+      bounded,
       all,
       length-append test (instrs.Branch (first + length body + 1) ∷ (body ++ instrs.Jump at ∷ [])),
       length-append body

@@ -59,7 +59,7 @@ impl<'a> CellRanges<'a> {
     pub fn of(alloc: Global, declared: &'a [Declaration]) -> Result<Self, NoMemory>
         requires new { AreNew [] declared.now }
         requires sizes { All (λ (d : Declared). HasNoNegativeSize d.size) declared.now }
-        requires few { cell_total declared.now ≤ bounds.MOST_CELLS }
+        requires bounded { cell_total declared.now ≤ bounds.MOST_CELLS }
         ensures { IfOk result (λ cells. cells ≡ declared.now) }
     {
         let mut ranges = BTreeMap::new(alloc);

@@ -1,7 +1,8 @@
 pub mod StackState
 pub mod Results
+pub mod CellNumbers
 pub mod MachineState
-pub mod Standing
+pub mod RemainingBehaviour
 pub mod TreeRuns
 pub mod Executions
 pub mod Running

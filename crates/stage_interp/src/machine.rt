@@ -8,10 +8,11 @@ ghost use Rattle.pipe_model.specs.Language.Programs.{natural};
 ghost use Rattle.pipe_model.specs.Language.SyntaxTree.{SyntaxTree};
 ghost use Rattle.pipe_model.specs.Pipelines.Behaviour.{Behaviour};
 ghost use Rattle.stage_code.specs.FlatCode.{FlatCode};
+ghost use Rattle.stage_interp.specs.CellNumbers.{most_cell_ids};
 ghost use Rattle.stage_interp.specs.Executions.{Counts, StopsOnly};
 ghost use Rattle.stage_interp.specs.MachineState.{IsMadeFor, iteration_in, start_in, steps_of};
-ghost use Rattle.stage_interp.specs.Standing.{IsCodeOf, IsStopped, RanInstance, StandsFor, behaviour_in};
-ghost use Rattle.stage_interp.specs.TreeRuns.{IsStoppedTree, RanTree, StandsForTree, interaction_in};
+ghost use Rattle.stage_interp.specs.RemainingBehaviour.{IsCodeOf, IsStopped, RanInstance, Represents, behaviour_in};
+ghost use Rattle.stage_interp.specs.TreeRuns.{IsStoppedTree, RanTree, RepresentsTree, interaction_in};
 
 use crate::execution::Execution;
 use crate::memory::Memory;
@@ -91,9 +92,9 @@ impl Machine {
     pub fn reset(&mut self, part: Part, iteration: u32)
         ensures made { (code : FlatCode) → IsMadeFor code self.old → IsMadeFor code self.new }
         ensures stands { (tree : SyntaxTree) (code : FlatCode) (cells : ℕ) (input : List ℤ) → IsCodeOf tree code → IsMadeFor code self.old
-            → cell_total tree.cells + 2 ≤ cells → StandsFor code cells input self.new.run (behaviour_in tree input part iteration) }
+            → cell_total tree.cells + 2 ≤ cells → Represents code cells input self.new.run (behaviour_in tree input part iteration) }
         ensures tree { (tree : SyntaxTree) (code : FlatCode) (cells : ℕ) (input : List ℤ) → IsCodeOf tree code → IsMadeFor code self.old
-            → cell_total tree.cells + 2 ≤ cells → StandsForTree code cells input self.new.run (interaction_in tree input part iteration) }
+            → cell_total tree.cells + 2 ≤ cells → RepresentsTree code cells input self.new.run (interaction_in tree input part iteration) }
         ensures steps { steps_of self.new.run ≡ 0 }
     {
         let start = self.start(part);
@@ -112,11 +113,11 @@ impl Machine {
     /// of the instance is an access; the accesses are then those before it. It does not allocate.
     #[inline(never)]
     pub fn run_stage<M: Memory>(&mut self, code: &Code, input: &Numbers, memory: &mut M) -> StageEnd
-        requires before { (t : Behaviour) × StandsFor code.now (M.served memory.old) input.now self.old.run t }
-        requires few { M.served memory.old ≤ 4294967296 }
-        ensures ran { (t : Behaviour) → StandsFor code.now (M.served memory.old) input.now self.old.run t
+        requires before { (t : Behaviour) × Represents code.now (M.served memory.old) input.now self.old.run t }
+        requires bounded { M.served memory.old ≤ most_cell_ids }
+        ensures ran { (t : Behaviour) → Represents code.now (M.served memory.old) input.now self.old.run t
             → RanInstance code.now (M.served memory.old) input.now t (M.made memory.old) (M.made memory.new) self.new.run result }
-        ensures tree { (d : Interaction ColumnEnd) → StandsForTree code.now (M.served memory.old) input.now self.old.run d
+        ensures tree { (d : Interaction ColumnEnd) → RepresentsTree code.now (M.served memory.old) input.now self.old.run d
             → RanTree code.now (M.served memory.old) input.now d (natural code.now.limits.steps) (M.made memory.old)
             (M.made memory.new) self.new.run
             result }
@@ -144,7 +145,7 @@ impl Machine {
     #[inline(never)]
     pub fn go_on<M: Memory>(&mut self, code: &Code, input: &Numbers, memory: &mut M) -> StageEnd
         requires before { (t : Behaviour) × IsStopped code.now (M.served memory.old) input.now self.old.run t }
-        requires few { M.served memory.old ≤ 4294967296 }
+        requires bounded { M.served memory.old ≤ most_cell_ids }
         ensures ran { (t : Behaviour) → IsStopped code.now (M.served memory.old) input.now self.old.run t
             → RanInstance code.now (M.served memory.old) input.now t (M.made memory.old) (M.made memory.new) self.new.run result }
         ensures tree { (d : Interaction ColumnEnd) → IsStoppedTree code.now (M.served memory.old) input.now self.old.run d

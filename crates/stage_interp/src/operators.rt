@@ -5,6 +5,7 @@ ghost use Rattle.pipe_model.specs.Language.Evaluation as evaluation;
 ghost use Rattle.pipe_model.specs.Language.Programs.{natural};
 ghost use Rattle.pipe_model.specs.declared.operator_codes.TheConstants as operator_codes;
 ghost use Rattle.std.specs.Ordering.{int_eq};
+ghost use Rattle.stage_interp.specs.CellNumbers.{most_cell_ids};
 ghost use Rattle.stage_interp.specs.Results.{IsResult, IsCellResult, IsTaken};
 
 use pipe_model::access::CellId;
@@ -142,7 +143,7 @@ pub fn next_number(number: i64) -> Result<i64, Trap>
 // Returns the cell of an element of an array.
 #[inline(always)]
 pub fn element(first: CellId, size: u32, i: i64) -> Result<CellId, Trap>
-    requires { (k : ℕ) → i ≡ pos k → k < size → first.0 + k < 4294967296 }
+    requires { (k : ℕ) → i ≡ pos k → k < size → first.0 + k < most_cell_ids }
     ensures { IsCellResult result (evaluation.element_in first.0 size i) }
 {
     if i < 0 || i >= i64::from(size) {

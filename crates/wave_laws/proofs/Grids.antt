@@ -42,7 +42,7 @@ use Rattle.wave_laws.proofs.Columns.{trace_is_open, unless_nothing}
 pub record AreWaveLimits (tree : SyntaxTree) (k : ℕ) : Type 0 where
   pub iterations : tree.limits.iterations ≡ pos (natural tree.limits.iterations)
   pub stages : tree.limits.stages ≡ pos (suc k)
-  pub few : k < 4096
+  pub bounded : k < 4096
   pub steps : 1 ≤ natural tree.limits.steps
 
 no_limit_out : (o : Option ℕ) (rest : Option Fault) → limit_fault_or o rest ≡ None → o ≡ None
@@ -83,7 +83,7 @@ wave_limits tree h =
       record {
         iterations = c.1 ∙ sym (ap (λ z. pos (natural z)) c.1);
         stages = r.1;
-        few = r.2;
+        bounded = r.2;
         steps = one;
       },
     )
@@ -114,7 +114,7 @@ one_more k b = grind arith
 pub ready : (tree : SyntaxTree) (k : ℕ) → IsWave tree → AreWaveLimits tree k → (n : ℕ) × IsReady tree k n
 ready tree k w l =
     let stages : natural tree.limits.stages ≡ suc k = ap natural l.stages in
-    let few = l.few in
+    let bounded = l.bounded in
     let big : 5000 < 2 ^ 63 = omega arith in
     let rows : natural tree.limits.stages ≡ k + 1 = omega (arith, stages) in
     let b = natural tree.limits.steps - 1 in
@@ -122,7 +122,7 @@ ready tree k w l =
     let steps : natural tree.limits.steps ≡ suc b = omega (arith, one) in (
       suc k * b + suc (2 * k),
       record {
-        rows = record { rows = rows; small = omega (arith, few, big); straight = w.straight; unset = w.unset };
+        rows = record { rows = rows; small = omega (arith, bounded, big); straight = w.straight; unset = w.unset };
         stages = stages;
         iterations = l.iterations;
         body = ap (λ z. lowered_body z (rest_of tree.body)) l.stages

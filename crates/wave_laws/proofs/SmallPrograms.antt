@@ -18,5 +18,5 @@ spelled_programs_are_small source tree s =
     let split : length (symbols_in source s.tokens) ≡ length (flat pieces) = ap length s.spelled.split in
     let short : length source ≤ 1048576 = s.lexed.short in
     let nodes = measured.nodes in
-    let few = measured.few in
-    omega (arith, nodes, few, marks, tokens, mapped, split, short)
+    let bounded = measured.bounded in
+    omega (arith, nodes, bounded, marks, tokens, mapped, split, short)

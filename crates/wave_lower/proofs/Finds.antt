@@ -73,7 +73,7 @@ block_found stage target ss all i n start k s same h e is p =
 pub statement_fits : (stage target : Bool) (ss : List Stmt) (i n start : ℕ) (s : Stmt) → i < length ss → s ≡ get_or ss i s
     → IsLeft stage target ss i n start
     → Fits start (flags_of_statements stage target (statements_of ss)) → Fits n (flags_of_statement stage target (statement_of s))
-statement_fits stage target ss i n start s h e is few =
+statement_fits stage target ss i n start s h e is bounded =
     let rest = statements_of (drop (i + 1) ss) in
     let from : length (flags_of_statements stage target (statements_of (drop i ss)))
     ≡ length (flags_of_statements stage target (Then (statement_of s) rest)) =
@@ -82,7 +82,7 @@ statement_fits stage target ss i n start s h e is few =
     omega (
       arith,
       numbers,
-      few,
+      bounded,
       from,
       length-append (flags_of_statement stage target (statement_of s))
           (flags_of_statements stage target rest),

@@ -25,7 +25,7 @@ impl<T: Drop, Q: TaskTest<T>> Front<T, Q> {
     // Makes a front of a worker's deque, with one of the owner's parts.
     pub fn of(owner: &mut Owner<T, Q>) -> Result<Self, NoMemory>
         requires parts { 1 < (worker_view owner.old).parts }
-        ensures same { SameWorker owner.old owner.new × (worker_index owner.new ≡ worker_index owner.old) }
+        ensures unchanged { SameWorker owner.old owner.new × (worker_index owner.new ≡ worker_index owner.old) }
         ensures part { 0 < (worker_view owner.new).parts }
         ensures owner { IfOk result (λ f. worker_view owner.old ≡ tally ((worker_view owner.new).parts + 1) (worker_view owner.new).put
             (worker_view owner.new).taken) }

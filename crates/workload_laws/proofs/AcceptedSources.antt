@@ -28,7 +28,7 @@ text_is size = simp append_assoc refl
 
 -- the program breaks no rule
 obeys : (size : ℕ) → 1 ≤ size → size ≤ MOST_SIZE → fault_of (generated_tree size) ≡ None
-obeys size some few =
+obeys size some bounded =
     let low : int_lt (pos size) (pos 1) ≡ false = grind (arith, nat_tests) in
     let high : int_lt (pos 65536) (pos size) ≡ false = grind (arith, nat_tests) in
     let product : int_lt (pos 262144) (pos size *ℤ pos 6) ≡ false = grind (arith, nat_tests) in
@@ -47,15 +47,15 @@ sum : IsName names.sum
 sum = record { symbol = refl; short = omega arith }
 
 number : (n : ℕ) → n ≤ MOST_SIZE → IsNumeral (pos n)
-number n few = Numeral n (omega (arith, few))
+number n bounded = Numeral n (omega (arith, bounded))
 
 -- its names are names, and its numbers are within their range
 writable : (size : ℕ) → size ≤ MOST_SIZE → IsWritableProgram (generated_tree size)
-writable size few = record {
-  iterations = number size few;
+writable size bounded = record {
+  iterations = number size bounded;
   stages = number 6 (omega arith);
   steps = number 100 (omega arith);
-  emits = number size few;
+  emits = number size bounded;
   cells = (sum, tt, Positive 0 (omega arith), tt);
   init = tt;
   test = tt;
@@ -128,10 +128,10 @@ shallow size = record {
 
 -- the symbols spell the program
 spells : (size : ℕ) → size ≤ MOST_SIZE → Spells (flat (program_pieces (generated_tree size))) (generated_tree size)
-spells size few = record {
+spells size bounded = record {
   pieces = program_pieces (generated_tree size);
   split = refl;
-  derived = program_derived (generated_tree size) (writable size few);
+  derived = program_derived (generated_tree size) (writable size bounded);
   short = (
     omega arith,
     (
@@ -162,19 +162,19 @@ spells size few = record {
 
 -- the text is short
 text_short : (size : ℕ) → size ≤ MOST_SIZE → length (program_text (generated_tree size)) ≤ 1048576
-text_short size few =
-    let d : length (decimal size) ≤ 5 = length-decimal-le 5 size (omega arith) (omega (arith, few)) (omega (arith, few)) in
+text_short size bounded =
+    let d : length (decimal size) ≤ 5 = length-decimal-le 5 size (omega arith) (omega (arith, bounded)) (omega (arith, bounded)) in
     let whole : length (source_text size) ≤ 1048576 = simp length-append (omega (arith, d)) in
     subst (λ n. length n ≤ 1048576) (sym (text_is size)) whole
 
 pub accepted : (size : ℕ) → 1 ≤ size → size ≤ MOST_SIZE → IsAccepted (source_text size) (generated_tree size)
-accepted size some few =
-    let made = program_source (generated_tree size) (writable size few) (text_short size few) in
+accepted size some bounded =
+    let made = program_source (generated_tree size) (writable size bounded) (text_short size bounded) in
     let spelled : SourceSpells (program_text (generated_tree size)) (generated_tree size) =
     record {
       tokens = made.tokens;
       lexed = made.lexed;
       spelled = subst (λ ts. Spells ts (generated_tree size)) (sym made.same)
-          (spells size few);
+          (spells size bounded);
     } in
-    record { spelled = subst (λ text. SourceSpells text (generated_tree size)) (text_is size) spelled; obeys = obeys size some few }
+    record { spelled = subst (λ text. SourceSpells text (generated_tree size)) (text_is size) spelled; obeys = obeys size some bounded }

@@ -70,13 +70,13 @@ items_fit seed j (suc n) zero d lt = let small = item_small seed j in (omega (ar
 items_fit seed j (suc n) (suc k) d lt = items_fit seed (suc j) n k d (omega (arith, lt))
 
 pub inputs_are_read : (seed size : ℕ) → size ≤ 40000 → AreNumbersOf (input_text seed size) (items_from seed 1 size)
-inputs_are_read seed size few =
+inputs_are_read seed size bounded =
     let e = lines_are seed size in
     let short = lines_short seed 1 size in
     let count = items_count seed 1 size in
     record {
-      short = omega (arith, ap length e, short, few);
+      short = omega (arith, ap length e, short, bounded);
       listed = subst (λ x. ListsNumbers x (items_from seed 1 size) []) (sym e) (lines_listed seed 1 size);
-      few = omega (arith, count, few);
+      bounded = omega (arith, count, bounded);
       narrow = items_fit seed 1 size;
     }

@@ -101,7 +101,7 @@ module _ {M : Type 0} (rows spare : List (IterationRow M)) (row y : IterationRow
   sized_pop p down right log h = record {
     planned = subst (IsPlanned p) (sym rooms_pop) h.planned;
     fresh = (fresh_pop h.fresh).0;
-    few = (let a = h.few in let t = room_in_pop in omega (arith, a, t));
+    bounded = (let a = h.bounded in let t = room_in_pop in omega (arith, a, t));
     down_room = (let a = h.down_room in let t = room_in_pop in omega (arith, a, t));
     right_room = (let a = h.right_room in let t = room_in_pop in omega (arith, a, t));
     log_room = (let a = h.log_room in let t = room_in_pop in omega (arith, a, t));

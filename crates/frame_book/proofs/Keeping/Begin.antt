@@ -191,7 +191,7 @@ module _ {M : Type 0} (Whole : SyntaxTree → M → Type 0) (ReadyAt : SyntaxTre
 
   -- iterations are few
   pub few : length b.rows < 2 ^ 31
-  few = let a = few_rows (pipeline_of (tree_of b.program) b.input) b.rows b.spare _ _ _ h.sized in let z = h.sized.few in
+  few = let a = few_rows (pipeline_of (tree_of b.program) b.input) b.rows b.spare _ _ _ h.sized in let z = h.sized.bounded in
       omega (arith, a, z)
 
   -- the number of entries of the lists

@@ -170,7 +170,7 @@ module _ {M : Type 0} (Whole : SyntaxTree → M → Type 0) (ReadyAt : SyntaxTre
   pub few : length f.nodes < 2 ^ 31
   few =
       let a = total_at (λ (z : IterationRow M). z.room) b.rows i r at_row in
-      let z = h.sized.few in
+      let z = h.sized.bounded in
       let l = row_matches.fits in
       omega (arith, a, z, l)
 
@@ -242,7 +242,7 @@ module _ {M : Type 0} (Whole : SyntaxTree → M → Type 0) (ReadyAt : SyntaxTre
           let q = row_of_frame (not c.stopped) c.frames b.rows a g.0 h.rows.each g.1 in
           let room' = total_at (λ (z : IterationRow M). z.room) b.rows a q.row q.is in
           let fits = q.matches.fits in
-          let small = h.sized.few in
+          let small = h.sized.bounded in
           let wide = length-map g.0.nodes (λ (n : Node). n.number) in
           subst IsSearchable (sym (t.0 ∙ ap (map (λ (n : Node). n.number)) ns)) (record {
             rises = λ j k l v. (
@@ -251,7 +251,7 @@ module _ {M : Type 0} (Whole : SyntaxTree → M → Type 0) (ReadyAt : SyntaxTre
                 (sym (Rattle.frame_book.proofs.Iterations.FrameRows.number_at g.0.nodes j))
                 (subst (λ z. (node_at g.0.nodes j).number <ℤ z) (sym (Rattle.frame_book.proofs.Iterations.FrameRows.number_at g.0.nodes
                 k)) x));
-            few = omega (arith, wide, fits, room', small);
+            bounded = omega (arith, wide, fits, room', small);
           })
 
   module _ (t : FrameToken M) (held : r.token ≡ Some t) where
@@ -268,7 +268,7 @@ module _ {M : Type 0} (Whole : SyntaxTree → M → Type 0) (ReadyAt : SyntaxTre
         let a = h.tokens.nows i t (token_of_row b.rows i r at_row ∙ held) in
         let l = Rattle.frame_book.proofs.Keeping.Stop.log_room Whole ReadyAt tie b h (h.stopped ∙ going) in
         let s = h.sized.log_room in
-        let z = h.sized.few in
+        let z = h.sized.bounded in
         omega (arith, a, l, s, z)
 
     grew : Grew c.frames fs starts (at i (suc t.index))

@@ -54,7 +54,7 @@ sized_set p rs spare i r y down right log e q h =
     let t = total_set_same (λ z. z.room) rs i r y e q in record {
       planned = subst (IsPlanned p) (sym (rooms_set rs (reverse spare) i r y e q)) h.planned;
       fresh = h.fresh;
-      few = (let a = h.few in omega (arith, a, t));
+      bounded = (let a = h.bounded in omega (arith, a, t));
       down_room = (let a = h.down_room in omega (arith, a, t));
       right_room = (let a = h.right_room in omega (arith, a, t));
       log_room = (let a = h.log_room in omega (arith, a, t));

@@ -117,12 +117,12 @@ module _ {M : Type 0} (Whole : SyntaxTree → M → Type 0) (ReadyAt : SyntaxTre
   pub new_keeps : IsBook Whole ReadyAt tie tables
   new_keeps =
       let t = rooms_in in
-      let few = planned.few in
+      let bounded = planned.bounded in
       record {
         sized = record {
           planned = subst (IsPlanned (pipeline_of (tree_of program) input)) (sym rooms) planned.planned;
           fresh = All-cons IsFresh (empty_row 1) (replicate n (empty_row s)) refl (All-replicate IsFresh n (empty_row s) refl);
-          few = omega (arith, t, few);
+          bounded = omega (arith, t, bounded);
           down_room = omega (arith, t, down_room);
           right_room = omega (arith, t, right_room);
           log_room = omega (arith, t);

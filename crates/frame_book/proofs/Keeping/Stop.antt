@@ -83,7 +83,7 @@ module _ {M : Type 0} (Whole : SyntaxTree → M → Type 0) (ReadyAt : SyntaxTre
   last_below b h going =
       let room = log_room b h going in
       let size = h.sized.log_room in
-      let total = h.sized.few in
+      let total = h.sized.bounded in
       let last = h.last in
       omega (arith, room, size, total, last)
 

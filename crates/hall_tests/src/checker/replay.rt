@@ -6,7 +6,7 @@ ghost use Rattle.pipe_frame.specs.StageEndCases.{NamesNextStage};
 ghost use Rattle.pipe_model.specs.Language.SyntaxTree.{tree_of};
 ghost use Rattle.pipe_model.specs.Pipelines.Behaviour.{Behaviour};
 ghost use Rattle.stage_interp.specs.MachineState.{IsMadeFor};
-ghost use Rattle.stage_interp.specs.Standing.{StandsFor};
+ghost use Rattle.stage_interp.specs.RemainingBehaviour.{Represents};
 
 use crate::checker::recorded::Recorded;
 use crate::sources::Prepared;
@@ -73,8 +73,8 @@ fn replay(
     cells: u32,
     accesses: Vec<Access>,
 ) -> (StageEnd, bool)
-    requires before { (t : Behaviour) × StandsFor code.now cells input.now machine.old.run t }
-    ensures { NamesNextStage result.0 → (t : Behaviour) × StandsFor code.now cells input.now machine.new.run t }
+    requires before { (t : Behaviour) × Represents code.now cells input.now machine.old.run t }
+    ensures { NamesNextStage result.0 → (t : Behaviour) × Represents code.now cells input.now machine.new.run t }
 {
     let mut memory = Recorded::new(cells, accesses);
     let end = machine.run_stage(code, input, &mut memory);

@@ -28,12 +28,12 @@ short_runs : (tree : SyntaxTree) (input : List ℤ) (limit : ℕ) → BreaksNoRu
     → HasShortRuns (pipeline_after_init tree input) limit
 short_runs tree input limit accepted ranges events s run going =
     let bound = program_runs_are_bounded tree input limit events s accepted run going in
-    let few = (accepted_programs_are_planned tree input accepted).few in
+    let bounded = (accepted_programs_are_planned tree input accepted).bounded in
     let steps : natural tree.limits.steps ≤ 1000000 = natural_most tree.limits.steps 1000000 ranges.steps.1 in
     let iterations : natural tree.limits.iterations ≤ 65536 = natural_most tree.limits.iterations 65536 ranges.iterations.1 in
     let spent : 2 * natural tree.limits.steps + 2 ≤ 2 * 1000000 + 2 = omega (arith, steps) in
     let product : most_instances tree * (2 * natural tree.limits.steps + 2) ≤ 262145 * (2 * 1000000 + 2) =
-    le_trans (mul-le-mul_right (2 * natural tree.limits.steps + 2) few) (mul-le-mul_left 262145 spent) in
+    le_trans (mul-le-mul_right (2 * natural tree.limits.steps + 2) bounded) (mul-le-mul_left 262145 spent) in
     let a = bound.0 in
     let b = bound.1 in
     (omega (arith, a, product), omega (arith, b, iterations))
@@ -52,7 +52,7 @@ pub new_play : (code : FlatCode) (tree : SyntaxTree) (input : List ℤ) (limit :
       events = [];
       accesses = [];
     })
-new_play code tree input limit program cells schedule accepted ranges same state all few scheduled limited =
+new_play code tree input limit program cells schedule accepted ranges same state all bounded scheduled limited =
     subst (λ (x : SyntaxTree). BreaksNoRule x → HasRangesOfLimits x.limits → IsStateAfter (store_of x)
     (init_accesses (whole_of x input)) cells
     → IsPlay code cells.shard.cells (record {
@@ -93,6 +93,6 @@ new_play code tree input limit program cells schedule accepted ranges same state
               (sym (append-nil (init_accesses (whole_of (tree_of program) input)))) state;
           all = all;
           count = refl;
-          few = few;
+          bounded = bounded;
           accesses = refl;
         }

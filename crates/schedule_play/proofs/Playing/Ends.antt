@@ -36,7 +36,7 @@ use Rattle.run_laws.proofs.Iterations.PerformedActions.{behaviour_after_all-push
 use Rattle.run_laws.proofs.RunStates.FrameMoves.{frame_at_moved}
 use Rattle.run_laws.proofs.RunStates.Frames.{frame_at_within, length-update_frame}
 use Rattle.stage_code.specs.FlatCode.{FlatCode}
-use Rattle.stage_interp.specs.Standing.{EndsAs}
+use Rattle.stage_interp.specs.RemainingBehaviour.{EndsAs}
 use Rattle.schedule_play.specs.declared.running_instance.NextAction.TheVariants as actions
 use Rattle.schedule_play.specs.RunningIterations.{RunningIterationState}
 use Rattle.schedule_play.specs.PlayStates.{FitsStatus, IsPlay, KeepsRunning, PlayState, pipeline_played, run_state}

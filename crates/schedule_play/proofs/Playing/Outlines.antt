@@ -11,7 +11,7 @@ use Rattle.pipe_model.specs.Runs.ControlParts.{HaveSameControl, outline_of, outl
 use Rattle.pipe_model.specs.Runs.NextEvents.{frame_continues_loop, frame_has_passed, left_has_passed, may_enter}
 use Rattle.pipe_model.specs.Runs.State.{Frame, State, frame_at}
 use Rattle.run_laws.proofs.LogMerge.ControlPart.{same_frame}
-use Rattle.schedule_play.specs.declared.turns.Standing.TheVariants.{MayEnter, MustWait}
+use Rattle.schedule_play.specs.declared.turns.Readiness.TheVariants.{MayEnter, MustWait}
 use Rattle.schedule_play.specs.ScheduleStates.{IsScheduleOf, ScheduleState}
 use Rattle.schedule_play.specs.Turns.{alive_entry, alive_from}
 
@@ -33,7 +33,7 @@ entry_outline : (all : List Frame) (i : ℕ) (w : Status) (nodes : List Node) �
     nodes
 entry_outline all i statuses.Running nodes = refl
 entry_outline all i (statuses.Pending k n) nodes =
-    ap (λ (b : Bool). record { iteration = i; number = n; standing = if b then MayEnter else MustWait } ∷ []) (enter_outline all i k n)
+    ap (λ (b : Bool). record { iteration = i; number = n; readiness = if b then MayEnter else MustWait } ∷ []) (enter_outline all i k n)
 entry_outline all i (statuses.Completed e) nodes = refl
 
 alive_outline : (all : List Frame) (i : ℕ) (fs : List Frame) → alive_from (outlines_of all) i (outlines_of fs) ≡ alive_from all i fs

@@ -157,7 +157,7 @@ module _ (code : FlatCode) (cells : ℕ) (v : PlayState) (h : IsPlay code cells 
       state = subst (λ (x : State). IsStateAfter p.store (p.preamble ++ accesses_of x.accesses) cells') (sym after) state;
       all = all;
       count = count;
-      few = h.few;
+      bounded = h.bounded;
       accesses = made ∙ sym (ap (λ (x : State). x.accesses) after);
     }
 

@@ -6,7 +6,7 @@ use Rattle.access_history.specs.CellAccesses.{noted_accesses}
 use Rattle.access_history.proofs.cell_accesses.history_of.Goals as goal
 
 pub loop-access-init : goal.loop-access-init
-loop-access-init g c = record { so_far = noting_begins _ _ c.args.accesses.now _ c.new-history.ensures; same = refl }
+loop-access-init g c = record { so_far = noting_begins _ _ c.args.accesses.now _ c.new-history.ensures; unchanged = refl }
 
 pub loop-access-preserved : goal.loop-access-preserved
 loop-access-preserved g c =
@@ -14,7 +14,7 @@ loop-access-preserved g c =
     record {
       so_far = noting_goes_on _ _ _ _ c.args.accesses.now c.requires.in_lists _ _ c.loop-access.access-index _ _ c.loop-access.history
           c.note.new.self c.loop-access.invariant.so_far c.loop-access-test.true refl e.down e.right e.in_lists e.each e.step;
-      same = e.same ∙ c.loop-access.invariant.same;
+      unchanged = e.unchanged ∙ c.loop-access.invariant.unchanged;
     }
 
 pub returns-clause-history : goal.returns-clause-history

@@ -7,5 +7,5 @@ abbrev pub invariant-loop-access : goal.invariant-loop-access
 invariant-loop-access g l = record {
   so_far : IsNoting (g.O.Orders.down_first l.initial.orders) (g.O.Orders.right_first l.initial.orders)
       (g.O.Orders.down_first l.orders) (g.O.Orders.right_first l.orders) l.accesses l.access-index l.history;
-  same : g.O.Orders.identity l.orders ≡ g.O.Orders.identity l.initial.orders;
+  unchanged : g.O.Orders.identity l.orders ≡ g.O.Orders.identity l.initial.orders;
 }

@@ -7,8 +7,8 @@ use Rattle.pipe_model.specs.Language.Programs.{declared_size, declared_values}
 use Rattle.cell_store.proofs.DeclaredCells.{resized, size_within, values_length, values_take_more}
 use Rattle.cell_store.proofs.initial_values.initial_values.Goals as goal
 
-pub declared_cells-requires-clause-few : goal.declared_cells-requires-clause-few
-declared_cells-requires-clause-few c =
+pub declared_cells-requires-clause-bounded : goal.declared_cells-requires-clause-bounded
+declared_cells-requires-clause-bounded c =
     let inside : c.loop-declaration.declaration-index < length c.args.cells.now = omega arith in
     let within = size_within c.args.cells.now c.loop-declaration.declaration-index c.declaration-item.result inside in
     let same = ap (λ (d : Declaration). declared_size d.size) c.declaration-item.is in

@@ -3,13 +3,13 @@ use Rattle.cilkp_program.proofs.BenchLaws.{summary_made}
 use Rattle.cilkp_program.proofs.InstanceCounts.{elision_is_small}
 use Rattle.cilkp_program.proofs.bench.bench.Goals as goal
 
-pub measured_run-requires-clause-few : goal.measured_run-requires-clause-few
-measured_run-requires-clause-few g c = λ lifetimes outlives.
+pub measured_run-requires-clause-bounded : goal.measured_run-requires-clause-bounded
+measured_run-requires-clause-bounded g c = λ lifetimes outlives.
     elision_is_small c.args.size (tree_of c.in_ok-program.program) c.in_ok-program.numbers c.requires.size.0 c.requires.size.1
     c.in_ok-program.ensures.program
 
-pub measured_run-requires-2-clause-few : goal.measured_run-requires-2-clause-few
-measured_run-requires-2-clause-few g c = λ lifetimes outlives.
+pub measured_run-requires-2-clause-bounded : goal.measured_run-requires-2-clause-bounded
+measured_run-requires-2-clause-bounded g c = λ lifetimes outlives.
     elision_is_small c.args.size (tree_of c.in_ok-program.program) c.in_ok-program.numbers c.requires.size.0 c.requires.size.1
     c.in_ok-program.ensures.program
 

@@ -7,7 +7,7 @@ use Rattle.cilkp_program.proofs.bench.measured_run.Goals as goal
 pub measure-requires : goal.measure-requires
 measure-requires g c =
     counts_are_few (tree_of c.args.checked.now) c.args.input.now _
-    (c.in_ok-run.ensures.columns (none_left _ (sym c.is_empty.ensures ∙ c.if-is_empty.true))) c.requires.few
+    (c.in_ok-run.ensures.columns (none_left _ (sym c.is_empty.ensures ∙ c.if-is_empty.true))) c.requires.bounded
 
 pub returns-then-is_empty : goal.returns-then-is_empty
 returns-then-is_empty g c =
@@ -17,7 +17,7 @@ returns-then-is_empty g c =
 
 pub measure-requires-2 : goal.measure-requires-2
 measure-requires-2 g c =
-    counts_are_few (tree_of c.args.checked.now) c.args.input.now _ c.in_ok-elision.ensures.columns_are c.requires.few
+    counts_are_few (tree_of c.args.checked.now) c.args.input.now _ c.in_ok-elision.ensures.columns_are c.requires.bounded
 
 pub returns : goal.returns
 returns g c =

@@ -16,15 +16,15 @@ find-requires-clause-rising g c =
     c.index-rows-iteration.result some at ∙ sym c.numbers.ensures in
     subst AreRising same (c.requires.left (c.in-Wait.is, some)).rises
 
-pub find-requires-clause-few : goal.find-requires-clause-few
-find-requires-clause-few g c =
+pub find-requires-clause-bounded : goal.find-requires-clause-bounded
+find-requires-clause-bounded g c =
     let some : 0 < c.args.iteration = (let n = c.if-iteration-eq0.false in omega (arith, n)) in
     let w = c.requires.within in
     let at = row_at_read c.args.rows.now (c.args.iteration - 1) c.index-rows-iteration.result
     (omega (arith, w)) c.index-rows-iteration.is in
     let same : left_numbers c.args.rows.now c.args.iteration ≡ c.numbers.result.now = left_numbers_is c.args.rows.now c.args.iteration
     c.index-rows-iteration.result some at ∙ sym c.numbers.ensures in
-    subst (λ ns. length ns < 2 ^ 32) same (c.requires.left (c.in-Wait.is, some)).few
+    subst (λ ns. length ns < 2 ^ 32) same (c.requires.left (c.in-Wait.is, some)).bounded
 
 pub returns-in-Wait-clause-some : goal.returns-in-Wait-clause-some
 returns-in-Wait-clause-some g c = λ q.

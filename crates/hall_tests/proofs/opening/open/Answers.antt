@@ -13,4 +13,4 @@ new-requires-clause-planned g c =
     (accepted_programs_are_planned (tree_of prepared.checked) prepared.input c.requires.prepared.accepted)
 
 pub hall_after-requires-clause-identities : goal.hall_after-requires-clause-identities
-hall_after-requires-clause-identities g c = subst HaveIdentities (sym c.payloads.ensures.same) c.in_ok-orders.ensures.identities
+hall_after-requires-clause-identities g c = subst HaveIdentities (sym c.payloads.ensures.unchanged) c.in_ok-orders.ensures.identities

@@ -5,7 +5,7 @@ use Rattle.hall_tests.proofs.opening.payloads.Given as goal
 
 abbrev pub invariant-loop : goal.invariant-loop
 invariant-loop g l = record {
-  same : l.passes ≡ l.fn.passes;
+  unchanged : l.passes ≡ l.fn.passes;
   count : length l.payloads.items ≡ l.counter;
   made : All (λ x. HasMachine x.machine (IsMadeFor g.B.RunCode.code)) l.payloads.items;
   passes : All (λ x. x.passes ≡ l.fn.passes) l.payloads.items;

@@ -2,7 +2,7 @@ use Rattle.std.proofs.Common.{arith, length, map, subst, sym}
 use Rattle.pipe_model.specs.Language.SyntaxTree.{tree_of}
 use Rattle.pipe_model.specs.Pipelines.Behaviour.{Accessed, behaviour_after_all}
 use Rattle.stage_code.specs.declared.instr.Part.TheVariants as parts
-use Rattle.stage_interp.specs.Standing.{IsStopped, behaviour_in}
+use Rattle.stage_interp.specs.RemainingBehaviour.{IsStopped, behaviour_in}
 use Rattle.language_tests.proofs.stopped_instances.a_stopped_instance_goes_on.Goals as goal
 
 pub run_stage-end-requires-clause-before : goal.run_stage-end-requires-clause-before

@@ -13,7 +13,7 @@ returns-clause-labelled c =
       next = c.link_after-after.ensures.links;
       prev = c.link_back.ensures.links ∙ ap (links_back links.prev.items c.args.x) c.link_after-after.ensures.after;
       labels = c.push_reserved.ensures.items;
-    } r.there r.above r.below r.few
+    } r.there r.above r.below r.bounded
 
 pub returns-clause-list : goal.returns-clause-list
 returns-clause-list c =

@@ -5,7 +5,7 @@ use Rattle.om_list.proofs.labels.relabel_around.Goals as goal
 pub relabel-requires-clause-top : goal.relabel-requires-clause-top
 relabel-requires-clause-top c =
     let range = c.choose_range-range.ensures in
-    chosen_top c.args.links.now c.requires.labelled c.args.x c.requires.there _ _ range.low range.few_bits
+    chosen_top c.args.links.now c.requires.labelled c.args.x c.requires.there _ _ range.low range.bounded_bits
 
 pub returns-clause-relabelled : goal.returns-clause-relabelled
 returns-clause-relabelled c =
@@ -13,8 +13,8 @@ returns-clause-relabelled c =
     let f = c.relabel.ensures in
     let range = c.choose_range-range.result in
     let smallest : IsSmallestSparse c.args.links.now c.args.x range = record {
-      some = e.some_bits;
-      few = e.few_bits;
+      some = e.positive_bits;
+      bounded = e.bounded_bits;
       low = e.low;
       count = e.count;
       sparse = e.sparse;

@@ -18,19 +18,19 @@ loop-stretch-init c =
     let zero_bits = aligned_zero c.index-label.result.now in
     record {
       label = label;
-      few = omega arith;
+      bounded = omega arith;
       stretch = single links c.requires.labelled c.args.x c.requires.there;
       low = omega (arith, zero_bits, label);
       end = omega (arith, zero_bits, label);
-      dense = λ k some few. absurd (omega (arith, some, few));
+      dense = λ k some bounded. absurd (omega (arith, some, bounded));
     }
 
 pub overflow_add-low : goal.overflow_add-low
 overflow_add-low c =
     let below = label_below c.args.links.now c.requires.labelled c.args.x c.requires.there in
     let label = c.loop-stretch.invariant.label in
-    let few = c.loop-stretch.invariant.few in
-    let fits = aligned_fits c.index-label.result.now (c.loop-stretch.bits + 1) (omega (arith, below, label)) (omega (arith, few)) in
+    let bounded = c.loop-stretch.invariant.bounded in
+    let fits = aligned_fits c.index-label.result.now (c.loop-stretch.bits + 1) (omega (arith, below, label)) (omega (arith, bounded)) in
     omega (arith, fits, c.aligned_low-low.ensures, c.width.ensures)
 
 pub extended-stretch-requires-clause-low : goal.extended-stretch-requires-clause-low
@@ -49,8 +49,8 @@ pub extended-stretch-requires-clause-top : goal.extended-stretch-requires-clause
 extended-stretch-requires-clause-top c =
     let below = label_below c.args.links.now c.requires.labelled c.args.x c.requires.there in
     let label = c.loop-stretch.invariant.label in
-    let few = c.loop-stretch.invariant.few in
-    let fits = aligned_fits c.index-label.result.now (c.loop-stretch.bits + 1) (omega (arith, below, label)) (omega (arith, few)) in
+    let bounded = c.loop-stretch.invariant.bounded in
+    let fits = aligned_fits c.index-label.result.now (c.loop-stretch.bits + 1) (omega (arith, below, label)) (omega (arith, bounded)) in
     omega (arith, fits, c.aligned_low-low.ensures, c.width.ensures)
 
 pub returns-then-from-most_elements-clause-first : goal.returns-then-from-most_elements-clause-first
@@ -84,22 +84,22 @@ loop-stretch-preserved c =
     omega (arith, c.if-from-most_elements.false, c.from.ensures, c.most_elements.ensures) in
     record {
       label = label;
-      few = elim (cases_lt bits LABEL_BITS) [
+      bounded = elim (cases_lt bits LABEL_BITS) [
         | inl less ↦ less
         | inr wide ↦ (
             let count_is = s.stretch.count_is in
-            let few = count_few links c.requires.labelled (label_of links c.extended-stretch.result.first)
+            let bounded = count_few links c.requires.labelled (label_of links c.extended-stretch.result.first)
             (label_of links c.extended-stretch.result.last + 1) in
-            let sparse = all_sparse bits c.extended-stretch.result.count wide (omega (arith, count_is, few)) in
+            let sparse = all_sparse bits c.extended-stretch.result.count wide (omega (arith, count_is, bounded)) in
             absurd (omega (arith, sparse, many)))
       ];
       stretch = s.stretch;
       low = omega (arith, s_low, low_is);
       end = omega (arith, s_end, low_is, width_is);
-      dense = λ k some few. elim (cases_lt k bits) [
+      dense = λ k some bounded. elim (cases_lt k bits) [
         | inl less ↦ c.loop-stretch.invariant.dense k some (omega (arith, less))
         | inr last ↦ (
-            let same : k ≡ bits = omega (arith, few, last) in
+            let same : k ≡ bits = omega (arith, bounded, last) in
             let count = around_count links s.stretch c.args.x bits c.aligned_low-low.result c.width.result
             (low_is ∙ ap (λ n. aligned n bits) label) width_is s_low s_end s.before s.after in
             λ (sparse : IsSparse links c.args.x k).

@@ -9,7 +9,7 @@ use Rattle.om_relabel.proofs.label_range.choose_range.Given as goal
 abbrev pub invariant-loop-stretch : goal.invariant-loop-stretch
 invariant-loop-stretch l = record {
   label : l.label ≡ label_of l.links l.x;
-  few : l.bits < LABEL_BITS;
+  bounded : l.bits < LABEL_BITS;
   stretch : IsStretch l.links l.stretch.first l.stretch.last l.stretch.count;
   low : aligned l.label l.bits ≤ label_of l.links l.stretch.first;
   end : label_of l.links l.stretch.last < aligned l.label l.bits + 2 ^ l.bits;

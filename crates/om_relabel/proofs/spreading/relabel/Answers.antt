@@ -12,7 +12,7 @@ pub index_mut-requires : goal.index_mut-requires
 index_mut-requires c =
     let r = c.requires in
     let range : IsSparseRange c.args.links.now c.args.range.now =
-    record { first = r.first; count = r.count; some_bits = r.some_bits; sparse = r.sparse; top = r.top } in
+    record { first = r.first; count = r.count; positive_bits = r.positive_bits; sparse = r.sparse; top = r.top } in
     let inside = range_element c.args.links.now r.labelled c.args.range.now range c.loop-k.k c.loop-k-test.true in
     let at = c.loop-k.invariant.element c.loop-k-test.true in
     let long = c.loop-k.invariant.long in
@@ -22,7 +22,7 @@ pub index-element-requires : goal.index-element-requires
 index-element-requires c =
     let r = c.requires in
     let range : IsSparseRange c.args.links.now c.args.range.now =
-    record { first = r.first; count = r.count; some_bits = r.some_bits; sparse = r.sparse; top = r.top } in
+    record { first = r.first; count = r.count; positive_bits = r.positive_bits; sparse = r.sparse; top = r.top } in
     let inside = range_element c.args.links.now r.labelled c.args.range.now range c.loop-k.k c.loop-k-test.true in
     let at = c.loop-k.invariant.element c.loop-k-test.true in
     let same = r.labelled.same in
@@ -34,7 +34,7 @@ loop-k-preserved c =
     let r = c.requires in
     let links = c.args.links.now in
     let range : IsSparseRange c.args.links.now c.args.range.now =
-    record { first = r.first; count = r.count; some_bits = r.some_bits; sparse = r.sparse; top = r.top } in
+    record { first = r.first; count = r.count; positive_bits = r.positive_bits; sparse = r.sparse; top = r.top } in
     let i = c.loop-k.invariant in
     let inside = range_element links r.labelled c.args.range.now range c.loop-k.k c.loop-k-test.true in
     let at = i.element c.loop-k-test.true in
@@ -62,7 +62,7 @@ returns-clause-labelled c =
     let r = c.requires in
     let links = c.args.links.now in
     let range : IsSparseRange c.args.links.now c.args.range.now =
-    record { first = r.first; count = r.count; some_bits = r.some_bits; sparse = r.sparse; top = r.top } in
+    record { first = r.first; count = r.count; positive_bits = r.positive_bits; sparse = r.sparse; top = r.top } in
     let i = c.loop-k.invariant in
     relabelled links c.loop-k.links r.labelled (ap vec_items i.next) (ap vec_items i.prev) i.long
     (spread_list_rises links r.labelled c.args.range.now range (label_of c.loop-k.links)
@@ -73,7 +73,7 @@ returns-clause-free c = λ x m.
     let r = c.requires in
     let links = c.args.links.now in
     let range : IsSparseRange c.args.links.now c.args.range.now =
-    record { first = r.first; count = r.count; some_bits = r.some_bits; sparse = r.sparse; top = r.top } in
+    record { first = r.first; count = r.count; positive_bits = r.positive_bits; sparse = r.sparse; top = r.top } in
     let i = c.loop-k.invariant in
     let free = spread_is_free links r.labelled c.loop-k.links.label.items c.args.range.now range
     record { spread = λ k l. i.spread k (omega (arith, l, c.loop-k-test.false)); others = i.others } x m in

@@ -16,12 +16,12 @@ pub returns-clause-end : goal.returns-clause-end
 returns-clause-end c =
     let e = computed c.args.range.now c.args.k c.from.result c.from-2.result c.width.result c.from.ensures c.from-2.ensures c.width.ensures
     in
-    let end = spread_end c.args.range.now c.requires.some_bits c.requires.sparse c.args.k c.requires.there in
+    let end = spread_end c.args.range.now c.requires.positive_bits c.requires.sparse c.args.k c.requires.there in
     omega (arith, e, end)
 
 pub returns-clause-apart : goal.returns-clause-apart
 returns-clause-apart c = λ j l.
     let e = computed c.args.range.now c.args.k c.from.result c.from-2.result c.width.result c.from.ensures c.from-2.ensures c.width.ensures
     in
-    let apart = spread_apart c.args.range.now c.requires.some_bits c.requires.sparse j c.args.k l c.requires.there in
+    let apart = spread_apart c.args.range.now c.requires.positive_bits c.requires.sparse j c.args.k l c.requires.there in
     omega (arith, e, apart)

@@ -12,9 +12,9 @@ overflow_add-result c =
     let all = count_all links s c.walk_back-back.result.element c.walk_on-on.result.element c.walk_back-back.result.steps
     c.walk_on-on.result.steps
     c.walk_back-back.ensures.back c.walk_on-on.ensures.on c.walk_back-back.ensures.steps c.walk_on-on.ensures.steps in
-    let few = count_few links c.requires.labelled (label_of links c.walk_back-back.result.element)
+    let bounded = count_few links c.requires.labelled (label_of links c.walk_back-back.result.element)
     (label_of links c.walk_on-on.result.element + 1) in
-    omega (arith, all, few)
+    omega (arith, all, bounded)
 
 pub overflow_add-result-2 : goal.overflow_add-result-2
 overflow_add-result-2 c =
@@ -23,9 +23,9 @@ overflow_add-result-2 c =
     let all = count_all links s c.walk_back-back.result.element c.walk_on-on.result.element c.walk_back-back.result.steps
     c.walk_on-on.result.steps
     c.walk_back-back.ensures.back c.walk_on-on.ensures.on c.walk_back-back.ensures.steps c.walk_on-on.ensures.steps in
-    let few = count_few links c.requires.labelled (label_of links c.walk_back-back.result.element)
+    let bounded = count_few links c.requires.labelled (label_of links c.walk_back-back.result.element)
     (label_of links c.walk_on-on.result.element + 1) in
-    omega (arith, all, few)
+    omega (arith, all, bounded)
 
 pub returns-clause-stretch : goal.returns-clause-stretch
 returns-clause-stretch c =

@@ -47,10 +47,10 @@ returns-then-after-clause-rest c =
 
 pub overflow_add-steps : goal.overflow_add-steps
 overflow_add-steps c =
-    let few = count_few c.args.links.now c.requires.labelled (label_of c.args.links.now c.args.from + 1)
+    let bounded = count_few c.args.links.now c.requires.labelled (label_of c.args.links.now c.args.from + 1)
     (label_of c.args.links.now c.loop-element.element + 1) in
     let steps = c.loop-element.invariant.steps in
-    omega (arith, few, steps)
+    omega (arith, bounded, steps)
 
 pub loop-element-smaller : goal.loop-element-smaller
 loop-element-smaller c =

@@ -10,14 +10,14 @@ move_labels-requires-clause-top c =
     let k = c.requires.resting.kept in
     let count = k.count in
     let range = c.choose_range-range.ensures in
-    chosen_top c.args.links.now k.labelled c.args.x (omega (arith, c.requires.there, count)) _ _ range.low range.few_bits
+    chosen_top c.args.links.now k.labelled c.args.x (omega (arith, c.requires.there, count)) _ _ range.low range.bounded_bits
 
 pub relabel-requires-clause-top : goal.relabel-requires-clause-top
 relabel-requires-clause-top c =
     let k = c.requires.resting.kept in
     let count = k.count in
     let range = c.choose_range-range.ensures in
-    chosen_top c.args.links.now k.labelled c.args.x (omega (arith, c.requires.there, count)) _ _ range.low range.few_bits
+    chosen_top c.args.links.now k.labelled c.args.x (omega (arith, c.requires.there, count)) _ _ range.low range.bounded_bits
 
 pub returns-clause-ready : goal.returns-clause-ready
 returns-clause-ready c =
@@ -40,8 +40,8 @@ returns-clause-relabelled c =
     let f = c.relabel.ensures in
     let range = c.choose_range-range.result in
     let smallest : IsSmallestSparse c.args.links.now c.args.x range = record {
-      some = e.some_bits;
-      few = e.few_bits;
+      some = e.positive_bits;
+      bounded = e.bounded_bits;
       low = e.low;
       count = e.count;
       sparse = e.sparse;

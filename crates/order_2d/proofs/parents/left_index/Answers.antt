@@ -19,16 +19,16 @@ parent_below-requires-clause-rising c =
       c.requires.rising (c.args.x.iteration - 1),
     )
 
-pub parent_below-requires-clause-few : goal.parent_below-requires-clause-few
-parent_below-requires-clause-few c =
+pub parent_below-requires-clause-bounded : goal.parent_below-requires-clause-bounded
+parent_below-requires-clause-bounded c =
     let inside = c.requires.node.0 in
     let numbers = c.as_slice-left.ensures ∙ numbers_at (nodes_of_columns c.args.columns.now) c.args.numbers.now c.requires.numbers
     (c.args.x.iteration - 1)
     c.index-numbers-x.result c.index-numbers-x.is (omega (arith, inside)) in
     let long = ap length numbers ∙ length-map (nodes_at (nodes_of_columns c.args.columns.now) (c.args.x.iteration - 1))
     (λ (n : Node). n.number) in
-    let few = c.requires.few (c.args.x.iteration - 1) in
-    omega (arith, long, few)
+    let bounded = c.requires.bounded (c.args.x.iteration - 1) in
+    omega (arith, long, bounded)
 
 pub returns-in-Some : goal.returns-in-Some
 returns-in-Some c =

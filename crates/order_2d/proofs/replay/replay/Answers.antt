@@ -7,7 +7,7 @@ use Rattle.order_2d.proofs.replay.replay.Goals as goal
 
 pub start_all-requires-clause-run : goal.start_all-requires-clause-run
 start_all-requires-clause-run c =
-    can_replay c.args.run_log.now c.requires.own c.requires.few c.as_slice-columns.result.now c.as_slice-columns.ensures
+    can_replay c.args.run_log.now c.requires.own c.requires.bounded c.as_slice-columns.result.now c.as_slice-columns.ensures
     c.as_slice-3.result.now (c.as_slice-3.ensures ∙ (c.in_ok-starts.ensures ∙ ap log_starts c.as_slice.ensures))
     c.as_slice-2.result.now (c.as_slice-2.ensures ∙ c.in_ok-numbers.ensures)
 
@@ -17,7 +17,7 @@ returns-clause-instances c =
 
 pub returns-clause-orders : goal.returns-clause-orders
 returns-clause-orders c =
-    let run = can_replay c.args.run_log.now c.requires.own c.requires.few c.as_slice-columns.result.now c.as_slice-columns.ensures
+    let run = can_replay c.args.run_log.now c.requires.own c.requires.bounded c.as_slice-columns.result.now c.as_slice-columns.ensures
     c.as_slice-3.result.now (c.as_slice-3.ensures ∙ (c.in_ok-starts.ensures ∙ ap log_starts c.as_slice.ensures))
     c.as_slice-2.result.now (c.as_slice-2.ensures ∙ c.in_ok-numbers.ensures) in
     replayed_orders c.args.run_log.now c.requires.own c.as_slice-columns.result.now c.as_slice-columns.ensures
@@ -27,7 +27,7 @@ returns-clause-orders c =
 pub returns-clause-placed : goal.returns-clause-placed
 returns-clause-placed c =
     let starts_same = c.as_slice-3.ensures ∙ (c.in_ok-starts.ensures ∙ ap log_starts c.as_slice.ensures) in
-    let run = can_replay c.args.run_log.now c.requires.own c.requires.few c.as_slice-columns.result.now c.as_slice-columns.ensures
+    let run = can_replay c.args.run_log.now c.requires.own c.requires.bounded c.as_slice-columns.result.now c.as_slice-columns.ensures
     c.as_slice-3.result.now starts_same
     c.as_slice-2.result.now (c.as_slice-2.ensures ∙ c.in_ok-numbers.ensures) in
     replayed_marks c.args.run_log.now c.requires.own c.as_slice-columns.result.now c.as_slice-columns.ensures

@@ -15,8 +15,8 @@ push_start-requires-clause-begun c =
     (get_or_default c.args.events.now c.loop-event.event-index (Begin 0) e c.loop-event-test.true) in
     subst (λ (l : List ℕ). EntersBegun (length l) e) (sym c.loop-event.invariant.counts) next.begun
 
-pub push_start-requires-clause-few : goal.push_start-requires-clause-few
-push_start-requires-clause-few c =
+pub push_start-requires-clause-bounded : goal.push_start-requires-clause-bounded
+push_start-requires-clause-bounded c =
     let e : Event = get_or c.args.events.now c.loop-event.event-index (Begin 0) in
     let next = next_event c.args.events.now c.requires.control c.loop-event.event-index e c.loop-event-test.true
     (get_or_default c.args.events.now c.loop-event.event-index (Begin 0) e c.loop-event-test.true) in
@@ -25,7 +25,7 @@ push_start-requires-clause-few c =
     (started_after (counts_in (state_before c.args.events.now c.loop-event.event-index)) e) in
     let now = ap length c.loop-event.invariant.starts in
     let within = next.within in
-    omega (arith, more, now, within, c.requires.few)
+    omega (arith, more, now, within, c.requires.bounded)
 
 pub loop-event-preserved : goal.loop-event-preserved
 loop-event-preserved c =

@@ -9,12 +9,12 @@ returns-then-not-is_between-3 c =
     let iterations : SFits w64 c.args.limits.now.iterations = search rules in
     let stages : SFits w64 c.args.limits.now.stages = search rules in
     let instances : SFits w64 (c.args.limits.now.iterations *ℤ c.args.limits.now.stages) = search rules in
-    let few : int_lt (pos 262144) (c.args.limits.now.iterations *ℤ c.args.limits.now.stages) ≡ false =
+    let bounded : int_lt (pos 262144) (c.args.limits.now.iterations *ℤ c.args.limits.now.stages) ≡ false =
     simp to_z-of_z at c.if-limits-gt-MOST_INSTANCES.false in
     let steps : SFits w64 c.args.limits.now.steps = search rules in
     limit_by c.args.limits.now true true false false _ (simp to_z-of_z at c.if-not-is_between.ensures)
     (simp to_z-of_z at c.if-not-is_between-2.ensures)
-    (sym few) (simp to_z-of_z at c.if-not-is_between-3.ensures) refl
+    (sym bounded) (simp to_z-of_z at c.if-not-is_between-3.ensures) refl
 
 pub returns-then-limits-gt-MOST_EMITS : goal.returns-then-limits-gt-MOST_EMITS
 returns-then-limits-gt-MOST_EMITS c =
@@ -23,12 +23,12 @@ returns-then-limits-gt-MOST_EMITS c =
     let steps : SFits w64 c.args.limits.now.steps = search rules in
     let emits : SFits w64 c.args.limits.now.emits = search rules in
     let instances : SFits w64 (c.args.limits.now.iterations *ℤ c.args.limits.now.stages) = search rules in
-    let few : int_lt (pos 262144) (c.args.limits.now.iterations *ℤ c.args.limits.now.stages) ≡ false =
+    let bounded : int_lt (pos 262144) (c.args.limits.now.iterations *ℤ c.args.limits.now.stages) ≡ false =
     simp to_z-of_z at c.if-limits-gt-MOST_INSTANCES.false in
     let many : int_lt (pos 1048576) c.args.limits.now.emits ≡ true = simp to_z-of_z at c.if-limits-gt-MOST_EMITS.true in
     limit_by c.args.limits.now true true false true true (simp to_z-of_z at c.if-not-is_between.ensures)
     (simp to_z-of_z at c.if-not-is_between-2.ensures)
-    (sym few) (simp to_z-of_z at c.if-not-is_between-3.ensures) (sym many)
+    (sym bounded) (simp to_z-of_z at c.if-not-is_between-3.ensures) (sym many)
 
 pub returns : goal.returns
 returns c =
@@ -37,9 +37,9 @@ returns c =
     let steps : SFits w64 c.args.limits.now.steps = search rules in
     let emits : SFits w64 c.args.limits.now.emits = search rules in
     let instances : SFits w64 (c.args.limits.now.iterations *ℤ c.args.limits.now.stages) = search rules in
-    let few : int_lt (pos 262144) (c.args.limits.now.iterations *ℤ c.args.limits.now.stages) ≡ false =
+    let bounded : int_lt (pos 262144) (c.args.limits.now.iterations *ℤ c.args.limits.now.stages) ≡ false =
     simp to_z-of_z at c.if-limits-gt-MOST_INSTANCES.false in
     let not_many : int_lt (pos 1048576) c.args.limits.now.emits ≡ false = simp to_z-of_z at c.if-limits-gt-MOST_EMITS.false in
     limit_by c.args.limits.now true true false true false (simp to_z-of_z at c.if-not-is_between.ensures)
     (simp to_z-of_z at c.if-not-is_between-2.ensures)
-    (sym few) (simp to_z-of_z at c.if-not-is_between-3.ensures) (sym not_many)
+    (sym bounded) (simp to_z-of_z at c.if-not-is_between-3.ensures) (sym not_many)

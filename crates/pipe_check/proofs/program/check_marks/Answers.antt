@@ -5,8 +5,8 @@ use Rattle.pipe_check.proofs.Regions.{few_cells, cells_fail, at_init, init_fits,
 use Rattle.pipe_check.proofs.Regions.{body_fits, body_fails, at_last}
 use Rattle.pipe_check.proofs.program.check_marks.Goals as goal
 
-pub of-requires-clause-few : goal.of-requires-clause-few
-of-requires-clause-few c = rw c.as_slice.ensures (few_cells (tree_of c.args.program.now) c.requires)
+pub of-requires-clause-bounded : goal.of-requires-clause-bounded
+of-requires-clause-bounded c = rw c.as_slice.ensures (few_cells (tree_of c.args.program.now) c.requires)
 
 pub returns-in_err-cells-clause-err : goal.returns-in_err-cells-clause-err
 returns-in_err-cells-clause-err c =
@@ -15,10 +15,10 @@ returns-in_err-cells-clause-err c =
 
 pub overflow_cast-next : goal.overflow_cast-next
 overflow_cast-next c =
-    let few = few_cells (tree_of c.args.program.now) c.requires in
+    let bounded = few_cells (tree_of c.args.program.now) c.requires in
     let counted : c.len-next.result ≡ length c.args.program.now.cells = c.len-next.ensures
     ∙ ap length (c.in_ok-cells.ensures.cells ∙ c.as_slice.ensures) in
-    search (rules, few, counted)
+    search (rules, bounded, counted)
 
 pub check_region-requires : goal.check_region-requires
 check_region-requires c =

@@ -19,7 +19,7 @@ new-requires-clause-planned g c =
     (accepted_programs_are_planned (tree_of prepared.checked.now) prepared.input.now c.requires.accepted)
 
 pub hall_after-requires-clause-identities : goal.hall_after-requires-clause-identities
-hall_after-requires-clause-identities g c = subst HaveIdentities (sym c.payloads.ensures.same) c.in_ok-orders.ensures.identities
+hall_after-requires-clause-identities g c = subst HaveIdentities (sym c.payloads.ensures.unchanged) c.in_ok-orders.ensures.identities
 
 pub returns-clause-hall : goal.returns-clause-hall
 returns-clause-hall g c =
@@ -35,7 +35,7 @@ returns-clause-hall g c =
     })
 
 few_cells : (tree : SyntaxTree) → cell_total tree.cells + 2 ≤ 65538 → cells_of tree ≤ 4294967296
-few_cells tree few = let declared = values_length tree.cells in omega (arith, declared, few)
+few_cells tree bounded = let declared = values_length tree.cells in omega (arith, declared, bounded)
 
 pub returns-clause-drives : goal.returns-clause-drives
 returns-clause-drives g c =
@@ -43,9 +43,9 @@ returns-clause-drives g c =
     let made = c.in_ok-book.ensures in
     let tree = tree_of c.args.prepared.now.checked.now in
     let tree_is = made.tree ∙ ap (λ (p : Program). tree_of p) c.program-program.ensures.program in
-    let few : cells_of tree ≤ 4294967296 =
-    few_cells tree (subst (λ n. n ≤ 65538) c.cell_count-count.ensures.count c.cell_count-count.ensures.few) in
+    let bounded : cells_of tree ≤ 4294967296 =
+    few_cells tree (subst (λ n. n ≤ 65538) c.cell_count-count.ensures.count c.cell_count-count.ensures.bounded) in
     map_both c.hall_after.result c.hall_after.ensures.constants c.hall_after.ensures.constants (λ opened constants same.
     can_drive g.B.RunCode.code opened.0.hall (constants_of book) c.args.prepared.now.code.now c.args.prepared.now.input.now constants
     c.requires.code
-    (sym (ap (λ (b : BookState). b.input) made.book)) (subst (λ (t : SyntaxTree). cells_of t ≤ 4294967296) (sym tree_is) few))
+    (sym (ap (λ (b : BookState). b.input) made.book)) (subst (λ (t : SyntaxTree). cells_of t ≤ 4294967296) (sym tree_is) bounded))

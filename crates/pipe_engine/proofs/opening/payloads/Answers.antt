@@ -8,12 +8,12 @@ use Rattle.pipe_engine.proofs.opening.payloads.Goals as goal
 pub loop-preserved : goal.loop-preserved
 loop-preserved g c =
     let code = g.B.RunCode.code in
-    let same = c.loop.invariant.same in
+    let unchanged = c.loop.invariant.unchanged in
     let items = c.in_ok-push.ensures.items in
     let count = c.loop.invariant.count in
-    let passes = c.in_ok-new.ensures.passes ∙ c.in_ok-split.ensures.new ∙ same in
+    let passes = c.in_ok-new.ensures.passes ∙ c.in_ok-split.ensures.new ∙ unchanged in
     record {
-      same = c.in_ok-split.ensures.same ∙ same;
+      unchanged = c.in_ok-split.ensures.unchanged ∙ unchanged;
       count = subst (λ xs. length xs ≡ c.loop.counter + 1) (sym items)
           (let n = length_push c.loop.payloads.items c.in_ok-new.field-0 in omega (arith, n, count));
       made = subst (All (λ x. HasMachine x.machine (IsMadeFor code))) (sym items)

@@ -6,6 +6,6 @@ abbrev pub invariant-loop : goal.invariant-loop
 invariant-loop g l = record {
   made : vec_len l.seats + 1 ≡ l.counter;
   some : l.counter ≤ l.workers;
-  same : l.first ≡ l.fn.first;
+  unchanged : l.first ≡ l.fn.first;
   named : All (λ seat. hall_name seat.hall ≡ hall_name l.fn.first.hall) l.seats.items;
 }

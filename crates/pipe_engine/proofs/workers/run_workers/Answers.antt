@@ -20,7 +20,7 @@ returns-clause-key g c =
     let named = rw c.in-Some.ensures.items at c.in_ok-driven.ensures.named in
     ap hall_name c.join_seats.ensures.hall
     ∙ last_named (hall_name c.further_seats.new.first.hall) c.pop.new.self.items c.in-Some.first named
-    ∙ ap (λ (s : WorkerSeat). hall_name s.hall) (c.further_seats.ensures.same ∙ c.new-first.ensures)
+    ∙ ap (λ (s : WorkerSeat). hall_name s.hall) (c.further_seats.ensures.unchanged ∙ c.new-first.ensures)
 
 pub returns-clause-over : goal.returns-clause-over
 returns-clause-over g c =

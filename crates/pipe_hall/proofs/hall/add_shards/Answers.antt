@@ -18,7 +18,7 @@ loop-number-preserved g c =
     let init = c.args.slots.now.items in
     let lists = e.lists ∙ (c.in_ok-split.ensures.new ∙ i.passes) in
     record {
-      passes = c.split.ensures.same ∙ i.passes;
+      passes = c.split.ensures.unchanged ∙ i.passes;
       room = (
           let n = ap length p.items in
           let m = length-append c.loop-number.slots.items (spaced (slots.Shard x)) in

@@ -22,11 +22,11 @@ pub loop-first-preserved : goal.loop-first-preserved
 loop-first-preserved c =
     let rest = c.loop-first.rest.now in
     let numeral : IsNumeralOf rest c.in-Ok.numeral = search rules in
-    let few : length c.loop-first.found < 1048576 = search rules in
+    let bounded : length c.loop-first.found < 1048576 = search rules in
     let n = c.in-Ok.numeral.length in
     let tail : take (length rest - n) (drop n rest) ≡ drop n rest = take_all _ _ (omega (arith, length-drop n rest)) in
     let kept : c.push.new.self ≡ c.loop-first.found ++ c.in-Ok.numeral.value ∷ [] = search rules in
-    rw (tail, kept) (past_number _ _ _ c.in-Ok.numeral c.loop-first.invariant numeral few)
+    rw (tail, kept) (past_number _ _ _ c.in-Ok.numeral c.loop-first.invariant numeral bounded)
 
 pub returns-clause-numbers : goal.returns-clause-numbers
 returns-clause-numbers c =

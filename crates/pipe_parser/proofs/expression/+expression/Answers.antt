@@ -2,6 +2,9 @@ use Rattle.std.proofs.Common.{rules, length, ◌≡◌, ◌∙◌, ◌+◌, suc,
 use mir.Val.{SFits}
 use Rattle.std.proofs.lemmas.Result.{err_from_is_err_and}
 use Rattle.std.proofs.lemmas.Int.{to_z-of_z}
+use Rattle.pipe_model.specs.declared.operator_codes.TheConstants as operator_codes
+use Rattle.pipe_model.specs.declared.sign_bytes.TheConstants as signs
+use Rattle.pipe_model.specs.declared.word_codes.TheConstants as words
 use Rattle.pipe_model.specs.declared.symbol.Symbol.TheVariants as terminals
 use Rattle.grammar_laws.specs.Reading.{Reads, ReadsChain, Ends}
 use Rattle.pipe_model.specs.Language.SyntaxTree.{expression_of}
@@ -62,30 +65,30 @@ read_operand-returns-in-Number-clause-ok t c =
 
 pub read_operand-returns-in-Word-eq17-clause-ok : goal.read_operand-returns-in-Word-eq17-clause-ok
 read_operand-returns-in-Word-eq17-clause-ok t c =
-    let e : c.args.symbols.now ≡ terminals.Word 17 ∷ c.in-Some.first.following = search rules in
+    let e : c.args.symbols.now ≡ terminals.Word words.MORE ∷ c.in-Some.first.following = search rules in
     if_ok _ _ c.read_call.result (λ x u. rw u.1 (more_read _ _ _ e u.0)) c.read_call.ensures.ok
 
 pub read_operand-returns-in-Word-eq18-clause-ok : goal.read_operand-returns-in-Word-eq18-clause-ok
 read_operand-returns-in-Word-eq18-clause-ok t c =
-    let e : c.args.symbols.now ≡ terminals.Word 18 ∷ c.in-Some.first.following = search rules in
+    let e : c.args.symbols.now ≡ terminals.Word words.TAKE ∷ c.in-Some.first.following = search rules in
     if_ok _ _ c.read_call-in-Word-eq18.result (λ x u. rw u.1 (take_read _ _ _ e u.0)) c.read_call-in-Word-eq18.ensures.ok
 
 pub read_operand-returns-in-Word-eq19-clause-ok : goal.read_operand-returns-in-Word-eq19-clause-ok
 read_operand-returns-in-Word-eq19-clause-ok t c =
-    let e : c.args.symbols.now ≡ terminals.Word 19 ∷ c.in-Some.first.following = search rules in
+    let e : c.args.symbols.now ≡ terminals.Word words.ITER ∷ c.in-Some.first.following = search rules in
     if_ok _ _ c.read_call-in-Word-eq19.result (λ x u. rw u.1 (iter_read _ _ _ e u.0)) c.read_call-in-Word-eq19.ensures.ok
 
 pub read_operand-returns-in-Operator-eq10-clause-ok : goal.read_operand-returns-in-Operator-eq10-clause-ok
 read_operand-returns-in-Operator-eq10-clause-ok t c =
-    let e : c.args.symbols.now ≡ terminals.Operator 10 ∷ c.in-Some.first.following = search rules in
+    let e : c.args.symbols.now ≡ terminals.Operator operator_codes.MINUS ∷ c.in-Some.first.following = search rules in
     if_ok _ _ c.read_unary.result (λ x u. negative_read _ _ _ _ e u) c.read_unary.ensures.ok
 
 pub read_operand-returns-in-Sign-eq33-clause-ok : goal.read_operand-returns-in-Sign-eq33-clause-ok
 read_operand-returns-in-Sign-eq33-clause-ok t c =
-    let e : c.args.symbols.now ≡ terminals.Sign 33 ∷ c.in-Some.first.following = search rules in
+    let e : c.args.symbols.now ≡ terminals.Sign signs.EXCLAMATION ∷ c.in-Some.first.following = search rules in
     if_ok _ _ c.read_unary-in-Sign-eq33.result (λ x u. not_read _ _ _ _ e u) c.read_unary-in-Sign-eq33.ensures.ok
 
 pub read_operand-returns-in-Sign-eq40-clause-ok : goal.read_operand-returns-in-Sign-eq40-clause-ok
 read_operand-returns-in-Sign-eq40-clause-ok t c =
-    let e : c.args.symbols.now ≡ terminals.Sign 40 ∷ c.in-Some.first.following = search rules in
+    let e : c.args.symbols.now ≡ terminals.Sign signs.OPEN_ROUND ∷ c.in-Some.first.following = search rules in
     if_ok _ _ c.read_closed.result (λ x u. bracket_read _ _ _ _ e u) c.read_closed.ensures.ok

@@ -1,5 +1,6 @@
 use Rattle.std.proofs.Common.{rules, ◌≡◌, ◌∙◌, [], ◌∷◌, ◌++◌, arith}
 use Rattle.std.proofs.lemmas.Result.{err_from_is_err_and}
+use Rattle.pipe_model.specs.declared.word_codes.TheConstants as words
 use Rattle.pipe_model.specs.declared.symbol.Symbol.TheVariants as terminals
 use Rattle.grammar_laws.specs.Reading.{ReadsOneMore}
 use Rattle.pipe_model.proofs.NestedBlocks.{if_seen, while_seen}
@@ -47,12 +48,12 @@ read_part-returns-in-None-clause-ok t c = rw c.new.ensures.items (part_missing _
 
 pub read_statement-returns-in_ok-number-in-Word-eq9-clause-ok : goal.read_statement-returns-in_ok-number-in-Word-eq9-clause-ok
 read_statement-returns-in_ok-number-in-Word-eq9-clause-ok t c =
-    let e : c.args.symbols.now ≡ terminals.Word 9 ∷ c.in-Some.first.following = search rules in
+    let e : c.args.symbols.now ≡ terminals.Word words.PIPE_WAIT ∷ c.in-Some.first.following = search rules in
     wait_read _ _ _ _ e c.in_ok-number-in-Word-eq9.ensures.ok
 
 pub read_statement-returns-in_ok-number-in-Word-eq10-clause-ok : goal.read_statement-returns-in_ok-number-in-Word-eq10-clause-ok
 read_statement-returns-in_ok-number-in-Word-eq10-clause-ok t c =
-    let e : c.args.symbols.now ≡ terminals.Word 10 ∷ c.in-Some.first.following = search rules in
+    let e : c.args.symbols.now ≡ terminals.Word words.PIPE_CONTINUE ∷ c.in-Some.first.following = search rules in
     continue_read _ _ _ _ e c.in_ok-number-in-Word-eq10.ensures.ok
 
 pub read_while-returns-in_err-body-clause-err : goal.read_while-returns-in_err-body-clause-err

@@ -6,13 +6,13 @@ use Rattle.pipe_span.proofs.AllRows.{few_rows}
 use Rattle.pipe_span.proofs.TracedPaths.{heaviest_to}
 use Rattle.pipe_span.proofs.heaviest.heaviest_path.Goals as goal
 
-pub heaviest_last-last-requires-clause-few : goal.heaviest_last-last-requires-clause-few
-heaviest_last-last-requires-clause-few c =
-    rw c.as_slice-rows.ensures (few_rows _ _ _ c.requires.columns c.in_ok-table.ensures c.requires.few)
+pub heaviest_last-last-requires-clause-bounded : goal.heaviest_last-last-requires-clause-bounded
+heaviest_last-last-requires-clause-bounded c =
+    rw c.as_slice-rows.ensures (few_rows _ _ _ c.requires.columns c.in_ok-table.ensures c.requires.bounded)
 
-pub traced-requires-clause-few : goal.traced-requires-clause-few
-traced-requires-clause-few c =
-    rw c.as_slice-rows.ensures (few_rows _ _ _ c.requires.columns c.in_ok-table.ensures c.requires.few)
+pub traced-requires-clause-bounded : goal.traced-requires-clause-bounded
+traced-requires-clause-bounded c =
+    rw c.as_slice-rows.ensures (few_rows _ _ _ c.requires.columns c.in_ok-table.ensures c.requires.bounded)
 
 pub returns-clause-heaviest : goal.returns-clause-heaviest
 returns-clause-heaviest c =

@@ -14,12 +14,12 @@ row_of-requires-clause-place c =
     let e = c.requires.whole in
     omega (arith, a, b, d, e)
 
-pub row_of-requires-clause-few : goal.row_of-requires-clause-few
-row_of-requires-clause-few c =
+pub row_of-requires-clause-bounded : goal.row_of-requires-clause-bounded
+row_of-requires-clause-bounded c =
     let a = column_within c.args.columns.now c.loop-i.i c.loop-i-test.true in
     let b = c.loop-i.invariant.0 in
     let d = ap length c.nodes_of-right.ensures in
-    let e = c.requires.few in
+    let e = c.requires.bounded in
     omega (arith, a, b, d, e)
 
 pub overflow_add-first : goal.overflow_add-first
@@ -27,7 +27,7 @@ overflow_add-first c =
     let a = column_within c.args.columns.now c.loop-i.i c.loop-i-test.true in
     let b = c.loop-i.invariant.0 in
     let d = ap length c.nodes_of-right.ensures in
-    let e = c.requires.few in
+    let e = c.requires.bounded in
     omega (arith, a, b, d, e)
 
 pub loop-i-preserved : goal.loop-i-preserved
@@ -49,4 +49,4 @@ loop-i-preserved c =
     )
 
 pub returns : goal.returns
-returns c = all_rows _ _ _ _ (omega arith) c.requires.few c.loop-i.invariant.1
+returns c = all_rows _ _ _ _ (omega arith) c.requires.bounded c.loop-i.invariant.1

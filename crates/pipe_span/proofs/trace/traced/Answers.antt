@@ -19,9 +19,9 @@ loop-y-smaller c =
     let step = step_back c.args.columns.now c.args.weights.now c.args.rows.now c.in-Some.y c.loop-y.x c.requires.rows c.loop-y.invariant.0
     (sym c.in-Some.ensures) in
     let begins = edge_begins step.edge in
-    let few = c.requires.few.instances c.in-Some.y.iteration in
+    let bounded = c.requires.bounded.instances c.in-Some.y.iteration in
     let same = c.requires.rows.lengths c.in-Some.y.iteration in
-    goes_forward step.edge (omega (arith, begins.1, few, same))
+    goes_forward step.edge (omega (arith, begins.1, bounded, same))
 
 pub loop-y-preserved : goal.loop-y-preserved
 loop-y-preserved c =

@@ -27,7 +27,7 @@ returns-then-is_some c =
       columns = can.full;
       rising = can.rising;
       whole = can.whole;
-      few = can.few;
+      bounded = can.bounded;
       steps =
           can.each;
     }
@@ -50,7 +50,7 @@ returns c =
       columns = can.full;
       rising = can.rising;
       whole = can.whole;
-      few = can.few;
+      bounded = can.bounded;
       steps =
           can.each;
     }

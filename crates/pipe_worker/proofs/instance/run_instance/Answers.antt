@@ -8,7 +8,7 @@ use Rattle.pipe_model.specs.Language.Programs.{pipeline_of}
 use Rattle.pipe_worker.specs.HeldInstances.{MemoryState}
 use Rattle.pipe_worker.specs.Machines.{CanRun, HasMachine, IsAtInstance, cells_of}
 use Rattle.stage_code.specs.FlatCode.{FlatCode}
-use Rattle.stage_interp.specs.Standing.{RanInstance, StandsFor}
+use Rattle.stage_interp.specs.RemainingBehaviour.{RanInstance, Represents}
 use Rattle.pipe_worker.proofs.instance.run_instance.Goals as goal
 
 pub returns-clause-advances : goal.returns-clause-advances
@@ -34,9 +34,9 @@ returns-clause-advances g c =
     c.requires.given.ready) in
     let at = subst (λ h. HasMachine h (λ m. IsAtInstance code tree input m i given)) c.take_machine-machine.ensures.machine
     (g.met.M.Runs.machine_ready tree input old.payload i given ready) in
-    let before = subst (λ (x : List ℤ). StandsFor c.args.code.now (cells_of tree) x fresh.run (after_instances d given))
+    let before = subst (λ (x : List ℤ). Represents c.args.code.now (cells_of tree) x fresh.run (after_instances d given))
     (sym c.requires.drives.input_is)
-    (subst (λ (x : FlatCode). StandsFor x (cells_of tree) input fresh.run (after_instances d given))
+    (subst (λ (x : FlatCode). Represents x (cells_of tree) input fresh.run (after_instances d given))
     (sym c.requires.drives.code_is) at.stands) in
     let ran = c.run_stage_by-end.ensures.ran (after_instances d given) before in
     let ran_here = subst (λ (x : List ℤ). RanInstance code (cells_of tree) x (after_instances d given) first.made last.made machine.run
@@ -67,7 +67,7 @@ returns-clause-advances g c =
           (subst (λ (n : ℕ). IsAtInstance code tree input machine n (given ++ replies_of trace ∷ [])) (sym held.iteration_is)
           (record {
             can = can;
-            stands = subst (StandsFor code (cells_of tree) input machine.run) (sym (after_instances-push d given (replies_of trace)))
+            stands = subst (Represents code (cells_of tree) input machine.run) (sym (after_instances-push d given (replies_of trace)))
                 (ended.stands names);
           }))));
       stopped = λ is. c.finish-lent.ensures.stopped (stops_only end last.stopped is c.run_stage_by-end.ensures.stops);

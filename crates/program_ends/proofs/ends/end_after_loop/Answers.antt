@@ -23,21 +23,21 @@ least_trap-trap-requires-clause-count c =
     (columns_are_small (tree_of c.args.prepared.now.checked.now) c.args.prepared.now.input.now run.0 c.args.run_log.now.events accepted
     run.1).count
 
-pub least_trap-trap-requires-clause-some : goal.least_trap-trap-requires-clause-some
-least_trap-trap-requires-clause-some c =
+pub least_trap-trap-requires-clause-nonempty : goal.least_trap-trap-requires-clause-nonempty
+least_trap-trap-requires-clause-nonempty c =
     let accepted = c.requires.accepted in
     let run = c.requires.run in
     subst (λ l. All (λ (column : Column). 0 < length column.nodes) l) (sym (c.as_slice.ensures ∙ c.requires.columns))
     (columns_are_small (tree_of c.args.prepared.now.checked.now) c.args.prepared.now.input.now run.0 c.args.run_log.now.events accepted
     run.1).some
 
-pub least_trap-trap-requires-clause-few : goal.least_trap-trap-requires-clause-few
-least_trap-trap-requires-clause-few c =
+pub least_trap-trap-requires-clause-bounded : goal.least_trap-trap-requires-clause-bounded
+least_trap-trap-requires-clause-bounded c =
     let accepted = c.requires.accepted in
     let run = c.requires.run in
     subst (λ l. All (λ (column : Column). length column.nodes ≤ 4294967296) l) (sym (c.as_slice.ensures ∙ c.requires.columns))
     (columns_are_small (tree_of c.args.prepared.now.checked.now) c.args.prepared.now.input.now run.0 c.args.run_log.now.events accepted
-    run.1).few
+    run.1).bounded
 
 pub returns-then-not-runs_final : goal.returns-then-not-runs_final
 returns-then-not-runs_final c =

@@ -71,10 +71,10 @@ returns g c =
     let are = c.in_ok-count.ensures.all (all.0 ∙ ap (λ es. length (take n es)) (sym c.as_slice-events.ensures))
     ∙ ap (take n) c.as_slice-events.ensures in
     let keeps = c.in_ok-count.ensures.keeps in
-    let few : length events ≤ n + 1 = subst (λ es. length es ≤ n + 1) c.as_slice-events.ensures c.if-stop-events.false in
+    let bounded : length events ≤ n + 1 = subst (λ es. length es ≤ n + 1) c.as_slice-events.ensures c.if-stop-events.false in
     let b = nat_lt n (length c.as_slice-events.result.now) in
     let whole : with_stop b w.events ≡ events =
-    ap (with_stop b) are ∙ all_events events n first few b (ap (λ es. nat_lt n (length es)) c.as_slice-events.ensures) in
+    ap (with_stop b) are ∙ all_events events n first bounded b (ap (λ es. nat_lt n (length es)) c.as_slice-events.ensures) in
     map_ok c.end_record.result c.end_record.ensures (λ r end.
     subst (λ es. IsLoopAnswer p c.args.throttle es r) whole
     (subst (λ l. IsLoopAnswer p l (with_stop b w.events) r) (keeps.limit ∙ made.limit)

@@ -15,14 +15,14 @@ detect-requires-clause-own g c =
     (c.in_ok-events.ensures ∙ ap (with_stop c.args.stopped) c.into_run-events.ensures.events)
     (c.in_ok-columns.ensures ∙ ap made_columns c.as_slice.ensures) (c.into_run-events.ensures.accesses ∙ c.requires.play.accesses)).own
 
-pub detect-requires-clause-few : goal.detect-requires-clause-few
-detect-requires-clause-few g c =
+pub detect-requires-clause-bounded : goal.detect-requires-clause-bounded
+detect-requires-clause-bounded g c =
     let v = c.args.player in
     (record_detectable (tree_of v.book.program) v.book.input v.book.limit v.events c.in_ok-events.events c.args.stopped
     c.in_ok-columns.columns
     c.into_run-events.result.1 c.requires.accepted c.requires.play.run c.requires.play.going
     (c.in_ok-events.ensures ∙ ap (with_stop c.args.stopped) c.into_run-events.ensures.events)
-    (c.in_ok-columns.ensures ∙ ap made_columns c.as_slice.ensures) (c.into_run-events.ensures.accesses ∙ c.requires.play.accesses)).few
+    (c.in_ok-columns.ensures ∙ ap made_columns c.as_slice.ensures) (c.into_run-events.ensures.accesses ∙ c.requires.play.accesses)).bounded
 
 pub detect-requires-clause-inside : goal.detect-requires-clause-inside
 detect-requires-clause-inside g c =

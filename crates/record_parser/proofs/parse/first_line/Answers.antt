@@ -8,4 +8,4 @@ returns-in-Some-clause-lines c = ap lines_of c.in-Some.ensures.parts ∙ line_th
     c.in-Some.ensures.first
 
 pub returns-in-None-clause-lines : goal.returns-in-None-clause-lines
-returns-in-None-clause-lines c = only_line c.args.text.now c.requires.some c.in-None.ensures.none
+returns-in-None-clause-lines c = only_line c.args.text.now c.requires.nonempty c.in-None.ensures.none

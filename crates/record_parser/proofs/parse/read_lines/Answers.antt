@@ -20,6 +20,6 @@ loop-rest-preserved c =
     c.read_line.new.events c.loop-rest.invariant c.first_line.ensures.lines c.first_line.ensures.shorter
     (when_true c.in-Ok.is_known c.in-Ok.ensures.yes c.if-not-is_known.false)
 
-pub returns-clause-few : goal.returns-clause-few
-returns-clause-few c = events_are_few c.args.cells.now c.args.text.now c.loop-rest.rest.now c.loop-rest.number c.loop-rest.events
+pub returns-clause-bounded : goal.returns-clause-bounded
+returns-clause-bounded c = events_are_few c.args.cells.now c.args.text.now c.loop-rest.rest.now c.loop-rest.number c.loop-rest.events
     c.loop-rest.invariant

@@ -1,7 +1,7 @@
 use Rattle.std.proofs.Common.{◌≡◌, [], Option, false, true, subst, sym}
 use Rattle.std.specs.Prelude.{is_some}
 use Rattle.pipe_model.specs.declared.access.Access.{Access}
-use Rattle.stage_interp.specs.Standing.{IsStopped, RanInstance}
+use Rattle.stage_interp.specs.RemainingBehaviour.{IsStopped, RanInstance}
 use Rattle.schedule_play.specs.OneAccess.{AccessState, access_list}
 use Rattle.schedule_play.proofs.PendingAccess.{makes_access}
 use Rattle.schedule_play.proofs.instance.next_access.Goals as goal

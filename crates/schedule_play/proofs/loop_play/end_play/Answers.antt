@@ -21,8 +21,8 @@ detect-requires-clause-own g c =
     (ensured.accesses ∙ c.requires.play.accesses ∙ ap (λ es. (state_after es).accesses) (sym ensured.events)) in
     can.own
 
-pub detect-requires-clause-few : goal.detect-requires-clause-few
-detect-requires-clause-few g c =
+pub detect-requires-clause-bounded : goal.detect-requires-clause-bounded
+detect-requires-clause-bounded g c =
     let v = c.args.player in
     let accepted = c.requires.accepted in
     let ensured = c.into_run-events.ensures in
@@ -31,7 +31,7 @@ detect-requires-clause-few g c =
     accepted (subst (λ es. Run (pipeline_played v) v.book.limit es (state_after es)) (sym ensured.events) c.requires.play.run)
     (c.in_ok-columns.ensures ∙ ap made_columns c.as_slice.ensures)
     (ensured.accesses ∙ c.requires.play.accesses ∙ ap (λ es. (state_after es).accesses) (sym ensured.events)) in
-    can.few
+    can.bounded
 
 pub detect-requires-clause-inside : goal.detect-requires-clause-inside
 detect-requires-clause-inside g c =

@@ -5,7 +5,7 @@ use Rattle.pipe_model.specs.declared.tree.Program.{Program}
 use Rattle.pipe_model.specs.Language.SyntaxTree.{tree_of}
 use Rattle.program_laws.specs.WorkBounds.{most_instances}
 use Rattle.stage_code.specs.FlatCode.{FlatCode}
-use Rattle.stage_interp.specs.Standing.{IsCodeOf}
+use Rattle.stage_interp.specs.RemainingBehaviour.{IsCodeOf}
 use Rattle.frame_book.specs.NewBooks.{IsPlannedProgram, new_book}
 use Rattle.frame_book.proofs.PlannedPrograms.{accepted_programs_are_planned}
 use Rattle.schedule_play.specs.Runners.{CanRun, no_tie}
@@ -35,12 +35,12 @@ pub new-requires-clause-room : goal.new-requires-clause-room
 new-requires-clause-room g c =
     let accepted = c.requires.accepted in
     let planned = accepted_programs_are_planned (tree_of c.args.checked.now) c.args.input.now accepted in
-    let few = planned.few in
+    let bounded = planned.bounded in
     let same : most_instances (tree_of c.program.result.now) ≡ most_instances (tree_of c.args.checked.now) =
     ap (λ (p : Program). most_instances (tree_of p)) c.program.ensures.program in
     let down = c.in_ok-orders.ensures.down.capacity in
     let right = c.in_ok-orders.ensures.right.capacity in
-    (omega (arith, few, same, down), omega (arith, few, same, right))
+    (omega (arith, bounded, same, down), omega (arith, bounded, same, right))
 
 pub returns-clause-tree : goal.returns-clause-tree
 returns-clause-tree g c = subst (λ (p : Program). IfOk c.new.result (λ book. tree_of book.program ≡ tree_of p)) c.program.ensures.program

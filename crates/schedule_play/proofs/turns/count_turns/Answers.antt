@@ -10,13 +10,13 @@ returns-then-begins c =
     let kept = c.args.alive.now in
     let both : c.args.room && c.args.begins ≡ true = rw (c.if-room.true, c.if-begins.true) refl in
     ap (λ n. n + 1) c.count_iterations-iterations.ensures
-    ∙ ap (λ b. count_by (λ (a : Alive). may_go c.args.room a.standing) kept + (if b then 1 else 0)) (sym both)
+    ∙ ap (λ b. count_by (λ (a : Alive). may_go c.args.room a.readiness) kept + (if b then 1 else 0)) (sym both)
     ∙ sym (turns_counted c.args.room c.args.begins kept)
 
 pub returns-else-room : goal.returns-else-room
 returns-else-room c =
     let kept = c.args.alive.now in
-    let count = count_by (λ (a : Alive). may_go c.args.room a.standing) kept in
+    let count = count_by (λ (a : Alive). may_go c.args.room a.readiness) kept in
     let none : c.args.room && c.args.begins ≡ false = elim c.else-room.branch [
       | else-room-via-then-room+else-begins w ↦ rw (w.if-room.true, w.if-begins.false) refl
       | else-room-via-else-room w ↦ rw w.if-room.false refl

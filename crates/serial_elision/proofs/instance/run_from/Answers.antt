@@ -5,8 +5,8 @@ use Rattle.serial_elision.specs.declared.log.Log.{Log}
 use Rattle.serial_elision.specs.Recording.{Adds, Recording, made_since}
 use Rattle.serial_elision.proofs.InstanceRuns.{ran_from, tree_ran_from}
 use Rattle.serial_elision.proofs.Recording.{made_none}
-use Rattle.stage_interp.specs.Standing.{RanInstance, StandsFor}
-use Rattle.stage_interp.specs.TreeRuns.{RanTree, StandsForTree}
+use Rattle.stage_interp.specs.RemainingBehaviour.{RanInstance, Represents}
+use Rattle.stage_interp.specs.TreeRuns.{RanTree, RepresentsTree}
 use Rattle.serial_elision.proofs.instance.run_from.Goals as goal
 
 pub returns-in-Some-clause-ran : goal.returns-in-Some-clause-ran
@@ -19,7 +19,7 @@ returns-in-Some-clause-ran g c = λ t stands.
     let run = c.run_stage-end.new.self.run in
     let none : made_since log c.new-recorder.result.log ≡ [] =
     ap (λ (r : Recording). made_since log r.log) begun ∙ ap (made_since log) c.requires.log ∙ made_none log in
-    let ran = c.run_stage-end.ensures.ran t (subst (λ (r : Recording). StandsFor code r.log.cells.shard.cells input c.args.machine.now.run
+    let ran = c.run_stage-end.ensures.ran t (subst (λ (r : Recording). Represents code r.log.cells.shard.cells input c.args.machine.now.run
     t)
     (sym begun) stands) in
     let adds = c.into_log.ensures.adds (sym c.is_full.ensures ∙ c.if-is_full.false) in
@@ -41,7 +41,7 @@ returns-in-Some-clause-tree g c = λ d stands.
     let run = c.run_stage-end.new.self.run in
     let none : made_since log c.new-recorder.result.log ≡ [] =
     ap (λ (r : Recording). made_since log r.log) begun ∙ ap (made_since log) c.requires.log ∙ made_none log in
-    let ran = c.run_stage-end.ensures.tree d (subst (λ (r : Recording). StandsForTree code r.log.cells.shard.cells input
+    let ran = c.run_stage-end.ensures.tree d (subst (λ (r : Recording). RepresentsTree code r.log.cells.shard.cells input
     c.args.machine.now.run d)
     (sym begun) stands) in
     let adds = c.into_log.ensures.adds (sym c.is_full.ensures ∙ c.if-is_full.false) in

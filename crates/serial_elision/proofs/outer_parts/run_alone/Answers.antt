@@ -6,7 +6,7 @@ use Rattle.pipe_model.specs.Pipelines.SerialElision.{located, serial_trace}
 use Rattle.pipe_model.specs.Runs.State.{accesses_of}
 use Rattle.run_laws.proofs.Iterations.LocatedActions.{accesses_of-located}
 use Rattle.serial_elision.specs.declared.log.Log.{Log}
-use Rattle.stage_interp.specs.Standing.{behaviour_in}
+use Rattle.stage_interp.specs.RemainingBehaviour.{behaviour_in}
 use Rattle.serial_elision.proofs.outer_parts.run_alone.Goals as goal
 
 pub returns-clause-accesses : goal.returns-clause-accesses

@@ -5,7 +5,7 @@ use Rattle.pipe_model.specs.declared.tree.Limits.{Limits}
 use Rattle.pipe_model.specs.Language.CheckingRules.{cell_total}
 use Rattle.pipe_model.specs.Language.Programs.{natural, store_of}
 use Rattle.pipe_model.specs.Language.SyntaxTree.{tree_of}
-use Rattle.stage_interp.specs.Standing.{behaviour_in}
+use Rattle.stage_interp.specs.RemainingBehaviour.{behaviour_in}
 use Rattle.stage_interp.specs.TreeRuns.{interaction_in}
 use Rattle.serial_elision.specs.declared.log.Log.{Log}
 use Rattle.serial_elision.specs.InstanceRuns.{CountsNext}
@@ -22,7 +22,7 @@ loop-nodes-init c =
     let cells = c.args.log.cells.shard.cells in
     let served : cell_total tree.cells + 2 ≤ cells = omega (arith, c.requires.serves.count) in
     let stands = c.reset.ensures.stands tree code cells input c.requires.code c.requires.made served in
-    let tree_stands = c.reset.ensures.tree tree code cells input c.requires.code c.requires.made served in
+    let represents_tree = c.reset.ensures.tree tree code cells input c.requires.code c.requires.made served in
     let begun = c.in_ok-log.ensures in
     let one = ap length c.in_ok-nodes.ensures in
     record {
@@ -31,13 +31,13 @@ loop-nodes-init c =
           stands c.in_ok-nodes.ensures begun;
       counted = steps_begun code cells input (store_of tree) (interaction_in tree input c.args.part c.args.iteration) c.args.iteration
           c.args.log
-          c.args.steps.now c.reset.new.self.run c.in_ok-log.log tree_stands begun;
+          c.args.steps.now c.reset.new.self.run c.in_ok-log.log represents_tree begun;
       made = c.reset.ensures.made;
       shard = ap (λ (l : Log). l.cells.shard) begun;
       whole = subst (λ (l : Log). IsWhole l.cells) (sym begun) c.requires.serves.whole;
-      some = omega (arith, one);
+      nonempty = omega (arith, one);
       room = omega (arith, one);
-      few = subst (λ l. natural l ≤ 4096) (ap (λ l. l.stages) c.limits-limits.ensures.limits)
+      bounded = subst (λ l. natural l ≤ 4096) (ap (λ l. l.stages) c.limits-limits.ensures.limits)
           (natural_most _ 4096 c.limits-limits.ensures.in_range.stages.1);
     }
 
@@ -72,9 +72,9 @@ loop-nodes-preserved c =
       made = λ k h. c.run_instance.ensures.made k (s.invariant.made k h);
       shard = ap (λ (l : Log). l.cells.shard) entered ∙ c.in_ok-end.ensures.shard ∙ s.invariant.shard;
       whole = subst (λ (l : Log). IsWhole l.cells) (sym entered) c.in_ok-end.ensures.whole;
-      some = omega (arith, longer);
+      nonempty = omega (arith, longer);
       room = omega (arith, longer, more, within, s.invariant.room);
-      few = s.invariant.few;
+      bounded = s.invariant.bounded;
     }
 
 pub returns-in-Ended-clause-ran : goal.returns-in-Ended-clause-ran

@@ -4,7 +4,7 @@ use Rattle.pipe_model.specs.Language.Programs.{natural, store_of}
 use Rattle.pipe_model.specs.Language.SyntaxTree.{tree_of}
 use Rattle.stage_code.specs.FlatCode.{FlatCode}
 use Rattle.stage_interp.specs.MachineState.{IsMadeFor}
-use Rattle.stage_interp.specs.Standing.{behaviour_in}
+use Rattle.stage_interp.specs.RemainingBehaviour.{behaviour_in}
 use Rattle.stage_interp.specs.TreeRuns.{interaction_in}
 use Rattle.serial_elision.proofs.PartRuns.{Left}
 use Rattle.serial_elision.proofs.StepCounts.{StepsLeft}
@@ -23,10 +23,10 @@ invariant-loop-nodes l =
       made : (code : FlatCode) → IsMadeFor code l.fn.machine → IsMadeFor code l.machine;
       shard : l.log.cells.shard ≡ l.fn.log.cells.shard;
       whole : IsWhole l.log.cells;
-      some : 0 < length l.nodes;
+      nonempty : 0 < length l.nodes;
       room : length l.nodes + (natural l.prepared.code.now.limits.stages - l.machine.run.state.stage.count) ≤ natural
           l.prepared.code.now.limits.stages + 1;
-      few : natural l.prepared.code.now.limits.stages ≤ natural MOST_STAGES;
+      bounded : natural l.prepared.code.now.limits.stages ≤ natural MOST_STAGES;
     }
 
 abbrev pub decreases-loop-nodes : goal.decreases-loop-nodes

@@ -14,10 +14,10 @@ of-requires-clause-new c =
     subst (λ (ds : List Declaration). AreNew [] ds) (sym c.as_slice.ensures)
     (ready (tree_of c.args.program.now) c.requires.spellable c.requires.obeys).new
 
-pub of-requires-clause-few : goal.of-requires-clause-few
-of-requires-clause-few c =
+pub of-requires-clause-bounded : goal.of-requires-clause-bounded
+of-requires-clause-bounded c =
     subst (λ (ds : List Declaration). cell_total ds ≤ MOST_CELLS) (sym c.as_slice.ensures)
-    (ready (tree_of c.args.program.now) c.requires.spellable c.requires.obeys).few
+    (ready (tree_of c.args.program.now) c.requires.spellable c.requires.obeys).bounded
 
 pub put_part-requires-clause-fits : goal.put_part-requires-clause-fits
 put_part-requires-clause-fits c =

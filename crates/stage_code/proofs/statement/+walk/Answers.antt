@@ -91,10 +91,10 @@ put_statement-place-requires-in-If t c =
     let c5 = slice_set c.put-in-If.new.code.items c.len-test.result (instrs.Branch c.place.result) in
     let more = statements_code cells c.put_block.new.locals (length c5) b in
     let left : c.put_block.new.locals ≡ c.args.locals.now = c.in_ok-put_block-in-If.ensures.after in
-    let few = second_fits cells c.args.locals.now c.put_block.new.locals b c.put-in-If.new.code.items c.len-test.result
+    let bounded = second_fits cells c.args.locals.now c.put_block.new.locals b c.put-in-If.new.code.items c.len-test.result
     (instrs.Branch c.place.result) left fits in
     let grown : c.put_block-in-If.new.code.items ≡ c5 ++ more = c.in_ok-put_block-in-If-2.ensures.code in
-    omega (arith, few, ap length grown, length-append c5 more)
+    omega (arith, bounded, ap length grown, length-append c5 more)
 
 pub put_statement-put_block-requires-in-While : goal.put_statement-put_block-requires-in-While
 put_statement-put_block-requires-in-While t c =

@@ -8,9 +8,9 @@ use Rattle.wave_lower.proofs.wave.find_stage.Goals as goal
 
 pub overflow_cast-next : goal.overflow_cast-next
 overflow_cast-next c =
-    let few = few_cells (tree_of c.args.program.now) c.requires.test c.requires.small in
+    let bounded = few_cells (tree_of c.args.program.now) c.requires.test c.requires.small in
     let counted : c.len-next.result ≡ length c.args.program.now.cells = c.len-next.ensures in
-    search (rules, few, counted)
+    search (rules, bounded, counted)
 
 pub find_in_block-requires : goal.find_in_block-requires
 find_in_block-requires c = init_fits (tree_of c.args.program.now) _ c.requires.test c.requires.small c.len-next.ensures

@@ -18,7 +18,8 @@ advance-next-requires-clause-ready c = λ names.
     let v = c.take.new.self.book in
     let t = c.in-Some.token in
     plan_goes_on (tree_of v.program) v.input t.payload c.ends_by.new.self t.iteration (replies_at v t.iteration) (replies_of c.new.result)
-    c.ends_by.ensures.same (ap replies_of c.new.ensures) (c.if-not-ends_by.ensures.next refl names) c.in-Some.ensures.token.1.payload.ready
+    c.ends_by.ensures.unchanged (ap replies_of c.new.ensures) (c.if-not-ends_by.ensures.next refl names)
+    c.in-Some.ensures.token.1.payload.ready
 
 pub hold-requires-clause-others : goal.hold-requires-clause-others
 hold-requires-clause-others c =

@@ -16,7 +16,8 @@ name_next-named-requires-clause-ready c = λ names.
     let v = c.take.new.self.book in
     let t = c.in-Some.token in
     plan_goes_on (tree_of v.program) v.input t.payload c.ends_by.new.self t.iteration (replies_at v t.iteration) (replies_of c.new.result)
-    c.ends_by.ensures.same (ap replies_of c.new.ensures) (c.if-not-ends_by.ensures.next refl names) c.in-Some.ensures.token.1.payload.ready
+    c.ends_by.ensures.unchanged (ap replies_of c.new.ensures) (c.if-not-ends_by.ensures.next refl names)
+    c.in-Some.ensures.token.1.payload.ready
 
 pub returns-in-Waits : goal.returns-in-Waits
 returns-in-Waits c =

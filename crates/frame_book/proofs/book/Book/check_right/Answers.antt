@@ -26,7 +26,7 @@ pub overflow_add-iteration-2 : goal.overflow_add-iteration-2
 overflow_add-iteration-2 g c =
     let a = few_rows (pipeline_of (tree_of c.self.inside.program) c.self.inside.input) c.self.inside.rows.items c.self.inside.spare.items _
     _ _ c.self.invariant.0.sized in
-    let z = c.self.invariant.0.sized.few in
+    let z = c.self.invariant.0.sized.bounded in
     let l : length c.self.inside.rows.items < 2 ^ 31 = omega (arith, a, z) in
     let past = c.if-iteration-len.false in
     let q = c.len.ensures in

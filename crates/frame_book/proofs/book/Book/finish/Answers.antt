@@ -35,7 +35,7 @@ stamp-requires-clause-now g c =
     let room = log_room g.M.Stands.whole g.M.Stands.ready_at g.M.Stands.tie (tables_of c.self.inside) c.self.invariant.0
     (c.self.invariant.0.stopped ∙ go) in
     let size = c.self.invariant.0.sized.log_room in
-    let few = c.self.invariant.0.sized.few in
+    let few = c.self.invariant.0.sized.bounded in
     let now : c.args.token.now ≤ 2 ^ 62 + length c.self.inside.ledger.log = out.now in
     omega (arith, room, now, size, few)
 

@@ -79,7 +79,7 @@ overflow_add-self g c =
     let room = log_room g.M.Stands.whole g.M.Stands.ready_at g.M.Stands.tie (tables_of c.self.inside) c.self.invariant.0
     (c.self.invariant.0.stopped ∙ subst (λ v. (state_of v).stopped ≡ false) (sym c.self.view_is) going) in
     let size = c.self.invariant.0.sized.log_room in
-    let small = c.self.invariant.0.sized.few in
+    let small = c.self.invariant.0.sized.bounded in
     let w : c.self-2.inside.reads + c.count_of.result < 2 ^ 64 = omega (arith, reads, one, few, room, size, small) in
     grind (arith, common_steps)
 

@@ -33,7 +33,7 @@ stamp-requires-clause-now g c =
     (c.self.invariant.0.stopped ∙ go) in
     let out = subst (λ v. IsOutOf v (fields_of c.args.token)) (sym c.self.view_is) c.requires.out in
     let size = c.self.invariant.0.sized.log_room in
-    let few = c.self.invariant.0.sized.few in
+    let few = c.self.invariant.0.sized.bounded in
     let now : c.args.token.now ≤ 2 ^ 62 + length c.self.inside.ledger.log = out.now in
     omega (arith, room, now, size, few)
 

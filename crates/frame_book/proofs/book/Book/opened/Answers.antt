@@ -36,7 +36,7 @@ overflow_mul-instances g c =
     let ni : nat_abs (to_z w64 (of_z w64 i)) ≡ natural i = ap nat_abs (to_z-of_z w64 i fi) ∙ abs_is i c.requires.planned.some_iterations in
     let ns : nat_abs (to_z w64 (of_z w64 s)) ≡ natural s = ap nat_abs (to_z-of_z w64 s fs) ∙ abs_is s c.requires.planned.some_stages in
     (fits_small (nat_abs (to_z w64 (of_z w64 i)) * nat_abs (to_z w64 (of_z w64 s))) (natural i * natural s)
-    (ap₂ (λ a b. a * b) ni ns) c.requires.planned.few).1
+    (ap₂ (λ a b. a * b) ni ns) c.requires.planned.bounded).1
 
 pub overflow_add-instances : goal.overflow_add-instances
 overflow_add-instances g c =
@@ -47,7 +47,7 @@ overflow_add-instances g c =
     let ni : nat_abs (to_z w64 (of_z w64 i)) ≡ natural i = ap nat_abs (to_z-of_z w64 i fi) ∙ abs_is i c.requires.planned.some_iterations in
     let ns : nat_abs (to_z w64 (of_z w64 s)) ≡ natural s = ap nat_abs (to_z-of_z w64 s fs) ∙ abs_is s c.requires.planned.some_stages in
     (fits_small (nat_abs (to_z w64 (of_z w64 i)) * nat_abs (to_z w64 (of_z w64 s))) (natural i * natural s)
-    (ap₂ (λ a b. a * b) ni ns) c.requires.planned.few).2
+    (ap₂ (λ a b. a * b) ni ns) c.requires.planned.bounded).2
 
 pub overflow_mul-instances-2 : goal.overflow_mul-instances-2
 overflow_mul-instances-2 g c =
@@ -58,7 +58,7 @@ overflow_mul-instances-2 g c =
     let ni : nat_abs (to_z w64 (of_z w64 i)) ≡ natural i = ap nat_abs (to_z-of_z w64 i fi) ∙ abs_is i c.requires.planned.some_iterations in
     let ns : nat_abs (to_z w64 (of_z w64 s)) ≡ natural s = ap nat_abs (to_z-of_z w64 s fs) ∙ abs_is s c.requires.planned.some_stages in
     (fits_small (nat_abs (to_z w64 (of_z w64 i)) * nat_abs (to_z w64 (of_z w64 s))) (natural i * natural s)
-    (ap₂ (λ a b. a * b) ni ns) c.requires.planned.few).3
+    (ap₂ (λ a b. a * b) ni ns) c.requires.planned.bounded).3
 
 pub overflow_add-instances-2 : goal.overflow_add-instances-2
 overflow_add-instances-2 g c =
@@ -69,7 +69,7 @@ overflow_add-instances-2 g c =
     let ni : nat_abs (to_z w64 (of_z w64 i)) ≡ natural i = ap nat_abs (to_z-of_z w64 i fi) ∙ abs_is i c.requires.planned.some_iterations in
     let ns : nat_abs (to_z w64 (of_z w64 s)) ≡ natural s = ap nat_abs (to_z-of_z w64 s fs) ∙ abs_is s c.requires.planned.some_stages in
     (fits_small (nat_abs (to_z w64 (of_z w64 i)) * nat_abs (to_z w64 (of_z w64 s))) (natural i * natural s)
-    (ap₂ (λ a b. a * b) ni ns) c.requires.planned.few).4
+    (ap₂ (λ a b. a * b) ni ns) c.requires.planned.bounded).4
 
 pub push_reserved-requires-in-loop : goal.push_reserved-requires-in-loop
 push_reserved-requires-in-loop g c =

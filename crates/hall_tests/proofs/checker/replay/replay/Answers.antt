@@ -1,5 +1,5 @@
 use Rattle.std.proofs.Common.{ℕ, subst, sym}
-use Rattle.stage_interp.specs.Standing.{StandsFor}
+use Rattle.stage_interp.specs.RemainingBehaviour.{Represents}
 use Rattle.hall_tests.proofs.NamedStages.{at_next_stage}
 use Rattle.hall_tests.proofs.checker.replay.replay.Goals as goal
 
@@ -9,7 +9,7 @@ returns c = λ names.
     let input = c.args.input.now in
     let cells = c.new-memory.ensures.cells in
     let before = c.requires.before in
-    let stands = subst (λ (n : ℕ). StandsFor code n input c.args.machine.now.run before.0) (sym cells) before.1 in
+    let stands = subst (λ (n : ℕ). Represents code n input c.args.machine.now.run before.0) (sym cells) before.1 in
     let ran = c.run_stage-end.ensures.ran before.0 stands in
     let next = at_next_stage code c.new-memory.result.cells input c.run_stage-end.result c.run_stage-end.new.self.run _ ran.ends_as names in
-    (next.0, subst (λ (n : ℕ). StandsFor code n input c.run_stage-end.new.self.run next.0) cells next.1)
+    (next.0, subst (λ (n : ℕ). Represents code n input c.run_stage-end.new.self.run next.0) cells next.1)

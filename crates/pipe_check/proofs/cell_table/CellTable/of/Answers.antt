@@ -26,15 +26,15 @@ loop-cell-preserved c =
     ap (λ o. is_some o) (sym (table.found c.as_bytes.result)) ∙ sym c.contains_key.ensures ∙ c.if-contains_key.false in
     let new : is_cell before d.name ≡ false = ap (λ x. is_some (size_in before x)) (sym c.as_bytes.ensures) ∙ absent in
     let counted : c.in-Some.count ≡ declared_size d.size = c.in-Some.ensures.some in
-    let few : c.loop-cell.total + c.in-Some.count ≤ 65536 = omega (arith, c.in-Some.ensures.within, table.few) in
+    let bounded : c.loop-cell.total + c.in-Some.count ≤ 65536 = omega (arith, c.in-Some.ensures.within, table.bounded) in
     let some : (declared_size d.size == 0) ≡ false = grind (arith, counted, c.if-count-eq0.false) in
     let fits : nat_lt 65536 (cell_total before + declared_size d.size) ≡ false = le-ltb 65536 _
-    (omega (arith, few, counted, table.total_is)) in
+    (omega (arith, bounded, counted, table.total_is)) in
     record {
       table = subst (λ (ds : List Declaration). IsCellTable c.insert.new.self (c.loop-cell.total + c.in-Some.count) ds)
           (sym (take_next cells i d within c.cell-item.is))
           (table_more c.loop-cell.sizes c.insert.new.self c.loop-cell.total c.in-Some.count before d c.as_bytes-in-loop-cell.result table
-          c.as_bytes-in-loop-cell.ensures new counted few (since_ok _ c.insert.result c.in_ok-map_err.ensures.variant
+          c.as_bytes-in-loop-cell.ensures new counted bounded (since_ok _ c.insert.result c.in_ok-map_err.ensures.variant
           c.insert.ensures.updates).0);
       numbered = ap (λ n. n + 1) c.loop-cell.invariant.numbered;
       faults = cell_passed cells i c.loop-cell.next d within c.cell-item.is new fits some ∙ c.loop-cell.invariant.faults;

@@ -12,7 +12,7 @@ join_seat-requires g c =
     let own = c.self.invariant.1 ∙ sym (ap (λ (h : HallState). h.hall.table) c.hall.view_is) in
     let w = c.hall.inside.locks.sized.0 in
     let theirs = ap (λ (k : WorkerSeat). k.hall.table) c.other.view_is
-    ∙ (same_table c.args.other.hall c.args.self.now.hall c.requires.same
+    ∙ (same_table c.args.other.hall c.args.self.now.hall c.requires.same_hall
     ∙ (sym (ap (λ (k : WorkerSeat). k.hall.table) c.self.view_is) ∙ own)) in (
       own,
       theirs,

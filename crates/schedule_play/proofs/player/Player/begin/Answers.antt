@@ -25,8 +25,8 @@ begin-requires-2-clause-room g c =
     let fits = begin_fits code cells c.args.self.now c.requires.play c.requires.next.0 c.requires.next.1 in
     subst (λ (x : PlayState). length x.schedule.alive < x.schedule.limit) (sym c.self.view_is) fits.0
 
-pub begin-requires-2-clause-few : goal.begin-requires-2-clause-few
-begin-requires-2-clause-few g c =
+pub begin-requires-2-clause-bounded : goal.begin-requires-2-clause-bounded
+begin-requires-2-clause-bounded g c =
     let code = g.B.PlayedCode.code in
     let cells = g.B.PlayedCode.cells in
     let fits = begin_fits code cells c.args.self.now c.requires.play c.requires.next.0 c.requires.next.1 in

@@ -17,5 +17,5 @@ returns-clause-play g c =
     c.limits-limits.ensures.in_range in
     let play = new_play code tree c.args.input.now c.args.throttle book.program c.args.cells schedule accepted ranges
     c.in_ok-open_book.ensures.tree
-    c.requires.state c.requires.all c.requires.few c.in_ok-new.ensures.empty c.in_ok-new.ensures.limit in
+    c.requires.state c.requires.all c.requires.bounded c.in_ok-new.ensures.empty c.in_ok-new.ensures.limit in
     rw (c.in_ok-open_book.ensures.book, c.new-2.ensures.items, c.new-3.ensures, c.new-4.ensures, ← c.requires.cells) play

@@ -2,7 +2,7 @@ use Rattle.std.proofs.Common.{◌≡◌, ◌∙◌, ◌++◌, ◌∷◌, [], Lis
 use Rattle.pipe_frame.specs.Replies.{IsPerformed, after_instances, replies_of}
 use Rattle.pipe_model.specs.declared.ticket.Entry.{Entry}
 use Rattle.pipe_model.specs.Language.SyntaxTree.{tree_of}
-use Rattle.stage_interp.specs.Standing.{StandsFor}
+use Rattle.stage_interp.specs.RemainingBehaviour.{Represents}
 use Rattle.frame_book.specs.BookStates.{pipeline_in, replies_at}
 use Rattle.schedule_play.specs.declared.running_instance.NextAction.TheVariants as actions
 use Rattle.schedule_play.specs.RunningIterations.{RunningIterationState, IsRunningIteration}
@@ -50,6 +50,6 @@ name_next-requires-clause-ready g c = λ names.
     (sym c.from_vec.ensures)
     (record {
       whole = instance.whole;
-      stands = subst (StandsFor code cells book.input machine.run) (sym (after_instances-push d replies (replies_of trace)))
+      stands = subst (Represents code cells book.input machine.run) (sym (after_instances-push d replies (replies_of trace)))
           (ends.stands names);
     })

@@ -2,7 +2,7 @@ use Rattle.std.proofs.Common.{ℕ, [], subst, sym}
 use Rattle.pipe_frame.specs.Replies.{after_instances}
 use Rattle.pipe_model.specs.Language.Programs.{pipeline_of}
 use Rattle.stage_code.specs.FlatCode.{FlatCode}
-use Rattle.stage_interp.specs.Standing.{StandsFor}
+use Rattle.stage_interp.specs.RemainingBehaviour.{Represents}
 use Rattle.schedule_play.specs.RunningInstances.{IsUnderWay}
 use Rattle.schedule_play.proofs.running_iteration.RunningIteration.new.Goals as goal
 
@@ -14,9 +14,9 @@ returns-clause-instance g c = λ tree replies at.
     let t = after_instances ((pipeline_of tree input).behaviour c.args.token.iteration) replies in
     let running = c.new-running.result in
     let run = c.new-running.new.machine.run in
-    let stands = subst (λ (x : FlatCode). StandsFor x c.args.cells.now.shard.cells input c.args.token.payload.machine.run t)
+    let stands = subst (λ (x : FlatCode). Represents x c.args.cells.now.shard.cells input c.args.token.payload.machine.run t)
     (sym c.requires.code)
-    (subst (λ (n : ℕ). StandsFor code n input c.args.token.payload.machine.run t) (sym c.requires.cells) at.stands) in
+    (subst (λ (n : ℕ). Represents code n input c.args.token.payload.machine.run t) (sym c.requires.cells) at.stands) in
     let begun = c.new-running.ensures.begun t stands in
     let first = subst (λ (x : FlatCode). IsUnderWay x c.args.cells.now.shard.cells input t run [] running.next) c.requires.code begun in
     let here = subst (λ (n : ℕ). IsUnderWay code n input t run [] running.next) c.requires.cells first in

@@ -8,7 +8,7 @@ use Rattle.stage_code.specs.Instructions.{goes_to}
 use Rattle.stage_interp.specs.Executions.{state_of, setting_for}
 use Rattle.stage_interp.proofs.Accesses.{read_safe, read_ran, here, renamed, with_is, cells_there, safe_as, emit_limit, emit_more}
 use Rattle.stage_interp.specs.declared.pending.Pending.TheVariants as pendings
-use Rattle.stage_interp.specs.Standing.{pending_of}
+use Rattle.stage_interp.specs.RemainingBehaviour.{pending_of}
 use Rattle.stage_interp.proofs.PureEffects.{safe_over, comes_over}
 use Rattle.stage_interp.proofs.execution.Execution.emit.Goals as goal
 

@@ -2,7 +2,7 @@ use Rattle.std.proofs.Common.{sym, subst}
 use Rattle.stage_interp.specs.declared.pending.Pending.TheVariants as pendings
 use Rattle.stage_interp.proofs.Running.{ended, begun, joined, served}
 use Rattle.stage_interp.specs.Executions.{run_of, state_of, setting_for}
-use Rattle.stage_interp.specs.Standing.{pending_of}
+use Rattle.stage_interp.specs.RemainingBehaviour.{pending_of}
 use Rattle.stage_interp.specs.TreeRuns.{IsPendingTree, RanTree}
 use Rattle.stage_interp.proofs.execution.Execution.go_on.Goals as goal
 

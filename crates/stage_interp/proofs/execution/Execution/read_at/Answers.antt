@@ -13,7 +13,7 @@ element-requires g c = let fi : SFits w64 c.pop-i.result = search rules in
     simp to_z-of_z (index_room (setting_for c.args.code.now (g.M.Memory.served c.args.memory.now) c.args.input.now c.args.self.now)
     c.args.first.0 c.args.size c.pop-i.result (λ a. Get a
     (pushed (setting_for c.args.code.now (g.M.Memory.served c.args.memory.now) c.args.input.now c.args.self.now)
-    (with_stack (state_of c.args.self.now) c.pop-i.new.self.items) c.pop-i.new.self.items)) _ c.requires.few
+    (with_stack (state_of c.args.self.now) c.pop-i.new.self.items) c.pop-i.new.self.items)) _ c.requires.bounded
     (safe_as (setting_for c.args.code.now (g.M.Memory.served c.args.memory.now) c.args.input.now c.args.self.now) _ _ _
     (top_is c.args.self.now.stack.items c.pop-i.result c.pop-i.new.self.items
     (λ (i : ℤ) (rest : List ℤ). bind (element_in c.args.first.0 c.args.size i)

@@ -1,7 +1,7 @@
 use Rattle.std.proofs.Common.{refl, ap}
 use Rattle.stage_interp.specs.declared.pending.Pending.TheVariants as pendings
 use Rattle.stage_interp.specs.Executions.{state_of, setting_for}
-use Rattle.stage_interp.specs.Standing.{pending_of}
+use Rattle.stage_interp.specs.RemainingBehaviour.{pending_of}
 use Rattle.stage_interp.proofs.Accesses.{here}
 use Rattle.stage_interp.proofs.execution.Execution.serve.Goals as goal
 

@@ -12,7 +12,7 @@ pub element-requires : goal.element-requires
 element-requires g c = let fi : SFits w64 c.pop-i.result = search rules in
     simp to_z-of_z (index_room (setting_for c.args.code.now (g.M.Memory.served c.args.memory.now) c.args.input.now c.args.self.now)
     c.args.first.0 c.args.size c.pop-i.result (λ a. Set a c.pop-v.result
-    (goes_to (state_of c.args.self.now) (c.args.self.now.place + 1) c.pop-i.new.self.items)) _ c.requires.few
+    (goes_to (state_of c.args.self.now) (c.args.self.now.place + 1) c.pop-i.new.self.items)) _ c.requires.bounded
     (safe_as (setting_for c.args.code.now (g.M.Memory.served c.args.memory.now) c.args.input.now c.args.self.now) _ _ _
     (two_is c.args.self.now.stack.items c.pop-v.new.self.items c.pop-v.result c.pop-i.result c.pop-i.new.self.items
     (λ (i v : ℤ) (rest : List ℤ). bind (element_in c.args.first.0 c.args.size i)

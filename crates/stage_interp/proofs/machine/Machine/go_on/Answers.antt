@@ -2,7 +2,7 @@ use Rattle.std.proofs.Common.{◌≡◌, ◌∙◌, Some, ap, sym, subst}
 use Rattle.pipe_model.specs.Pipelines.Behaviour.{Behaviour}
 use Rattle.stage_interp.specs.Executions.{run_in, run_of}
 use Rattle.stage_interp.specs.MachineState.{MachineState}
-use Rattle.stage_interp.specs.Standing.{IsStopped, RanInstance}
+use Rattle.stage_interp.specs.RemainingBehaviour.{IsStopped, RanInstance}
 use Rattle.stage_interp.proofs.Running.{went_on}
 use Rattle.stage_interp.proofs.machine.Machine.go_on.Goals as goal
 

@@ -1,7 +1,7 @@
 use Rattle.std.proofs.Common.{◌≡◌, ◌∙◌, Some, ap, sym, subst}
 use Rattle.stage_interp.specs.Executions.{run_in, run_of}
 use Rattle.stage_interp.specs.MachineState.{IsAtStart, MachineState, iteration_in}
-use Rattle.stage_interp.proofs.Starts.{stands_in, tree_stands_in}
+use Rattle.stage_interp.proofs.Starts.{represents_in, represents_tree_in}
 use Rattle.stage_interp.proofs.machine.Machine.reset.Goals as goal
 
 pub returns-clause-stands : goal.returns-clause-stands
@@ -11,7 +11,7 @@ returns-clause-stands c = λ tree code cells input of made served.
     let is : c.self.inside.execution ≡ Some c.in-Some.taken = (let a = c.in-Some.is in let b = c.take.ensures.value in cc (a, b)) in
     let depth : run.depth ≡ machine.run.depth = c.reset.ensures.depth ∙ sym (ap (λ o. (run_in o).depth) is)
     ∙ ap (λ (m : MachineState). m.run.depth) c.self.view_is in
-    stands_in tree code cells input machine run c.args.part c.args.iteration of made depth served
+    represents_in tree code cells input machine run c.args.part c.args.iteration of made depth served
     (subst (λ k. IsAtStart run k (iteration_in c.args.part c.args.iteration)) c.start-start.ensures
     (subst (λ i. IsAtStart run c.start-start.result i) c.iteration_in.ensures c.reset.ensures.start))
 
@@ -22,6 +22,6 @@ returns-clause-tree c = λ tree code cells input of made served.
     let is : c.self.inside.execution ≡ Some c.in-Some.taken = (let a = c.in-Some.is in let b = c.take.ensures.value in cc (a, b)) in
     let depth : run.depth ≡ machine.run.depth = c.reset.ensures.depth ∙ sym (ap (λ o. (run_in o).depth) is)
     ∙ ap (λ (m : MachineState). m.run.depth) c.self.view_is in
-    tree_stands_in tree code cells input machine run c.args.part c.args.iteration of made depth served
+    represents_tree_in tree code cells input machine run c.args.part c.args.iteration of made depth served
     (subst (λ k. IsAtStart run k (iteration_in c.args.part c.args.iteration)) c.start-start.ensures
     (subst (λ i. IsAtStart run c.start-start.result i) c.iteration_in.ensures c.reset.ensures.start))

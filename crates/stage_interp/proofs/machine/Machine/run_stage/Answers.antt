@@ -3,7 +3,7 @@ use Rattle.pipe_model.specs.Pipelines.Behaviour.{Behaviour}
 use Rattle.pipe_model.specs.declared.bounds.TheConstants.{MOST_LOCALS}
 use Rattle.stage_interp.specs.Executions.{HasExecution, IsSound, run_in, run_of}
 use Rattle.stage_interp.specs.MachineState.{MachineState}
-use Rattle.stage_interp.specs.Standing.{RanInstance, StandsFor}
+use Rattle.stage_interp.specs.RemainingBehaviour.{RanInstance, Represents}
 use Rattle.stage_interp.proofs.Running.{ran_stage}
 use Rattle.stage_interp.proofs.machine.Machine.run_stage.Goals as goal
 
@@ -14,7 +14,7 @@ invariant_of-self g c =
     record {
       slots = subst (λ n. MOST_LOCALS ≤ n) (sym c.run_stage-end.ensures.stays.slots) was.slots;
       left = c.run_stage-end.ensures.left;
-      budget = c.run_stage-end.ensures.few;
+      budget = c.run_stage-end.ensures.bounded;
     }
 
 pub returns-clause-ran : goal.returns-clause-ran
@@ -25,7 +25,7 @@ returns-clause-ran g c =
     let run = run_of c.run_stage-end.new.self in
     let is : c.self.inside.execution ≡ Some c.in-Some.taken = (let a = c.in-Some.is in let b = c.take.ensures.value in cc (a, b)) in
     let same : run_of c.in-Some.taken ≡ c.args.self.now.run = sym (ap run_in is) ∙ ap (λ (m : MachineState). m.run) c.self.view_is in
-    subst (λ r. (t : Behaviour) → StandsFor code cells input r t
+    subst (λ r. (t : Behaviour) → Represents code cells input r t
     → RanInstance code cells input t (g.M.Memory.made c.args.memory.now) (g.M.Memory.made c.run_stage-end.new.memory) run
     c.run_stage-end.result) same
     (ran_stage code cells input _ _ (run_of c.in-Some.taken) run c.run_stage-end.result c.run_stage-end.ensures.ran)
