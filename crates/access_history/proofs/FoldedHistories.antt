@@ -15,7 +15,7 @@ use Rattle.pipe_model.specs.Orders.HistoryStates.{HistoryState, empty_state, fou
 use Rattle.pipe_model.specs.Races.CellRaces.{NotedAccess, noted_access}
 use Rattle.pipe_model.specs.Races.Columns.{at}
 use Rattle.access_history.specs.CellAccesses.{ReportsFirst}
-use Rattle.program_laws.proofs.HistoryFolds.{histories_are_states}
+use Rattle.schedule_laws.proofs.HistoryFolds.{histories_are_states}
 use Rattle.run_laws.proofs.RaceHistories.FirstRaces.{histories_of_orders}
 use Rattle.run_laws.specs.OrderRaces.{AreOrders}
 

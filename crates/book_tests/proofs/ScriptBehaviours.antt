@@ -17,7 +17,7 @@ use Rattle.pipe_model.specs.Language.SyntaxTree.{SyntaxTree}
 use Rattle.pipe_model.specs.Pipelines.Behaviour.{Behaviour, Staging}
 use Rattle.pipe_model.specs.Pipelines.Pipeline.{AlwaysClosesLoop, HasLegalStages}
 use Rattle.frame_book.specs.NewBooks.{IsPlannedProgram}
-use Rattle.program_laws.specs.WorkBounds.{most_instances}
+use Rattle.schedule_laws.specs.StartCounts.{most_instances}
 use Rattle.frame_book.specs.Rooms.{IsPlanned, NamesAtMost}
 use Rattle.book_tests.specs.declared.program.Source.{Source}
 use Rattle.book_tests.specs.ScriptPrograms.{IsSmall, tree_of_source, waits_after, waits_of}

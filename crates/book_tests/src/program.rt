@@ -5,7 +5,7 @@ ghost use Rattle.std.specs.Bool.{OnTrue};
 ghost use Rattle.pipe_model.specs.declared.operator_codes.TheConstants as operator_codes;
 ghost use Rattle.pipe_model.specs.declared.tree.StageKind.TheVariants as kinds;
 ghost use Rattle.pipe_model.specs.Language.SyntaxTree.{Stage, Number, Binary, Iter, statement_of, statements_of, expression_of, tree_of};
-ghost use Rattle.program_laws.specs.WorkBounds.{most_instances};
+ghost use Rattle.schedule_laws.specs.StartCounts.{most_instances};
 ghost use Rattle.om_relabel.specs.declared.links.TheConstants.{MOST_ELEMENTS};
 ghost use Rattle.book_tests.specs.ScriptPrograms.{IsSmall, tree_of_source, waits_after, waits_of};
 

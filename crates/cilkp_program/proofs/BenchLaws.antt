@@ -18,7 +18,7 @@ use Rattle.cilkp_program.proofs.OneCommand.{bench_has_no_source, bench_asks_no_r
 use Rattle.cilkp_program.proofs.OneRow.{one_row}
 use Rattle.cilkp_program.specs.BenchCalls.{IsToBench, ReturnsSummary}
 use Rattle.dag_build.specs.NodeColumns.{node_columns}
-use Rattle.program_laws.specs.WorkBounds.{instances_in}
+use Rattle.schedule_laws.specs.StartCounts.{instances_in}
 use Rattle.pipe_model.specs.declared.memory.NoMemory.{NoMemory}
 use Rattle.cilkp_program.proofs.SerialDags.{given_columns}
 use Rattle.cilkp_program.specs.declared.bench.Measured.{Measured}

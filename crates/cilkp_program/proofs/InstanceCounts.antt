@@ -14,7 +14,7 @@ use Rattle.pipe_model.specs.Runs.RunLogs.{state_after}
 use Rattle.pipe_model.specs.Runs.State.{State, own_columns}
 use Rattle.pipe_model.specs.Runs.WholeProgramRuns.{ProgramRun, NoLoop, OfLoop}
 use Rattle.program_laws.proofs.InstanceBounds.{program_instances_are_bounded}
-use Rattle.program_laws.specs.WorkBounds.{instances_in, most_instances}
+use Rattle.schedule_laws.specs.StartCounts.{instances_in, most_instances}
 use Rattle.workload_laws.proofs.AcceptedSources.{accepted}
 use Rattle.workload_laws.specs.GeneratedPrograms.{generated_tree}
 use Rattle.cilkp_program.proofs.SerialDags.{serial_log}

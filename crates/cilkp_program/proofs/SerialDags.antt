@@ -21,7 +21,7 @@ use Rattle.pipe_model.specs.Runs.WholeProgramRuns.{IsFinishedProgramRun, Program
 use Rattle.pipe_model.proofs.Members.{among_at}
 use Rattle.dag_build.specs.NodeColumns.{AreRising, IsAccessOf, node_columns}
 use Rattle.dag_build.proofs.FirstRaceLaws.{no_report_is_race_free}
-use Rattle.language_laws.proofs.WellFormed.{accepted_is_well_formed}
+use Rattle.program_laws.proofs.WellFormed.{accepted_is_well_formed}
 use Rattle.run_laws.proofs.RunStates.IterationCounts.{runs_keep_rules}
 use Rattle.run_laws.specs.RunLaws.{KeepsRules}
 use Rattle.program_laws.proofs.ProgramElisions.{program_elision_is_a_run}

@@ -5,7 +5,7 @@ use Rattle.pipe_gen.specs.Workload.{input_text, source_text}
 use Rattle.pipe_io.specs.InputFile.{AreNumbersOf}
 use Rattle.pipe_model.specs.Language.SourceRefusals.{IsAccepted}
 use Rattle.pipe_model.specs.Language.SyntaxTree.{SyntaxTree}
-use Rattle.program_laws.specs.WorkBounds.{instances_in}
+use Rattle.schedule_laws.specs.StartCounts.{instances_in}
 use Rattle.cilkp_program.specs.SerialResults.{elision_columns, elision_output}
 
 -- the program and the input numbers of the generated source and input

@@ -10,7 +10,7 @@ ghost use Rattle.cilkp_program.specs.SerialResults.{elision_columns, elision_out
 ghost use Rattle.cilkp_words.specs.declared.ranges.TheConstants as ranges;
 ghost use Rattle.dag_build.specs.NodeColumns.{node_columns};
 ghost use Rattle.pipe_model.specs.Language.CheckingRules.{BreaksNoRule};
-ghost use Rattle.program_laws.specs.WorkBounds.{instances_in};
+ghost use Rattle.schedule_laws.specs.StartCounts.{instances_in};
 
 use crate::load::{Input, Source, input_of, source_of};
 use crate::program_run::{elide, instance_count, run_program};

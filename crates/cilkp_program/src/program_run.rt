@@ -5,7 +5,7 @@ ghost use Rattle.dag_build.specs.NodeColumns.{node_columns};
 ghost use Rattle.pipe_model.specs.Language.CheckingRules.{BreaksNoRule};
 ghost use Rattle.pipe_model.specs.Language.SyntaxTree.{tree_of};
 ghost use Rattle.pipe_model.specs.Races.FirstRaces.{AreFirstRaces};
-ghost use Rattle.program_laws.specs.WorkBounds.{instances_in};
+ghost use Rattle.schedule_laws.specs.StartCounts.{instances_in};
 ghost use Rattle.cilkp_program.specs.declared.program_run.TheConstants as bounds;
 ghost use Rattle.cilkp_program.specs.RecordedRuns.{recorded};
 ghost use Rattle.cilkp_program.specs.RunTexts.{IsPrintedAs};

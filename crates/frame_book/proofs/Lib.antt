@@ -5,4 +5,3 @@ pub mod Actions
 pub mod Conditions
 pub mod Keeping
 mod CopiedStatements
-pub mod PlannedPrograms

@@ -1,12 +1,11 @@
 -- Books without events.
-use Rattle.std.specs.Prelude.{◌≡◌, ℕ, ℤ, List, None, [], ◌∷◌, ◌≤◌, replicate, ◌++◌, pos, ◌≤ℤ◌}
+use Rattle.std.specs.Prelude.{ℕ, ℤ, List, [], ◌∷◌, ◌≤◌, replicate, ◌++◌, pos, ◌≤ℤ◌}
 use Rattle.pipe_model.specs.declared.tree.Program.{Program}
 use Rattle.pipe_model.specs.Language.Programs.{natural, pipeline_of}
-use Rattle.pipe_model.specs.Language.CheckingRules.{BreaksNoRule}
 use Rattle.pipe_model.specs.Language.SyntaxTree.{SyntaxTree}
 use Rattle.order_2d.specs.declared.starts.TheConstants.{MOST_STARTS}
 use Rattle.pipe_frame.specs.Ties.{ListIdentities}
-use Rattle.program_laws.specs.WorkBounds.{most_instances}
+use Rattle.schedule_laws.specs.StartCounts.{most_instances}
 use Rattle.frame_book.specs.BookStates.{BookState}
 use Rattle.frame_book.specs.Rooms.{IsPlanned}
 
@@ -16,10 +15,6 @@ pub record IsPlannedProgram (tree : SyntaxTree) (input : List ℤ) : Type 0 wher
   pub bounded : most_instances tree ≤ MOST_STARTS
   pub some_iterations : pos 0 ≤ℤ tree.limits.iterations
   pub some_stages : pos 0 ≤ℤ tree.limits.stages
-
--- a book has room for each accepted program, on every input
-abbrev pub AcceptedProgramsArePlanned : Type 0
-AcceptedProgramsArePlanned = (tree : SyntaxTree) (input : List ℤ) → BreaksNoRule tree → IsPlannedProgram tree input
 
 abbrev pub new_book : Program → List ℤ → ℕ → ListIdentities → BookState
 new_book p input limit lists = record {

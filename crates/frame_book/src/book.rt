@@ -26,7 +26,7 @@ ghost use Rattle.frame_book.specs.BookStates.{pipeline_in, replies_at, item_or, 
 ghost use Rattle.pipe_frame.specs.Replies.{IsPerformed, accessed, replies_of};
 ghost use Rattle.order_2d.specs.SeenOrders.{AreOfLists, AreSameLists, HasSeen};
 ghost use Rattle.frame_book.specs.NewBooks.{IsPlannedProgram, new_book};
-ghost use Rattle.program_laws.specs.WorkBounds.{most_instances};
+ghost use Rattle.schedule_laws.specs.StartCounts.{most_instances};
 ghost use Rattle.frame_book.specs.CallEffects.{identities_of_orders, after_stop, after_begin, with_named, with_finished, with_held};
 ghost use Rattle.frame_book.specs.CallEffects.{with_entered, after_enter, after_advance, folded_after, after_name_next, after_rescue};
 ghost use Rattle.frame_book.specs.CallEffects.{with_resumed, after_leave_ready, IsReady, kept_folded, stage_end};

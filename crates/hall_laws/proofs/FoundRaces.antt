@@ -31,8 +31,8 @@ use Rattle.pipe_model.specs.Runs.Run.{Run}
 use Rattle.pipe_model.specs.Runs.RunLogs.{accesses_after, columns_after, state_after}
 use Rattle.pipe_model.proofs.CellAccesses.{one_place, placed_among}
 use Rattle.frame_book.specs.BookStates.{BookState, state_of}
-use Rattle.program_laws.proofs.ControlOutlines.{control_goes_by_outlines}
-use Rattle.program_laws.proofs.HistoryFolds.{histories_are_states}
+use Rattle.schedule_laws.proofs.ControlOutlines.{control_goes_by_outlines}
+use Rattle.schedule_laws.proofs.HistoryFolds.{histories_are_states}
 use Rattle.race_detection.proofs.RunReports.{runs_are_detected}
 use Rattle.race_detection.specs.FoundReports.{cell_bound, found_reports}
 use Rattle.race_report.specs.RaceReports.{IsFoundIn, report_found}

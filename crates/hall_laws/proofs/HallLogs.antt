@@ -24,8 +24,8 @@ use Rattle.pipe_model.specs.Runs.TicketLogs.{ClosedLogs, TimedAction}
 use Rattle.pipe_model.proofs.Members.{among_right, none_among}
 use Rattle.frame_book.specs.BookStates.{BookState, events_of, last_ticket, made, state_of, timed_access}
 use Rattle.frame_book.proofs.BookLogs.LogEntries.{last_ticket-push}
-use Rattle.program_laws.proofs.BookOrder.{rising_tickets_are_in_order}
-use Rattle.program_laws.proofs.TicketPaths.{ordered_tickets_merge}
+use Rattle.schedule_laws.proofs.BookOrder.{rising_tickets_are_in_order}
+use Rattle.schedule_laws.proofs.TicketPaths.{ordered_tickets_merge}
 use Rattle.run_laws.proofs.LogMerge.ControlStates.{IsAllowedAt, allowed_at, control_state_is}
 use Rattle.run_laws.proofs.RunStates.FrontAndBack.{state_from-push}
 use Rattle.run_record.proofs.RisingLists.{among_map}

@@ -21,7 +21,7 @@ use Rattle.pipe_model.specs.Runs.RunLogs.{accesses_after, state_after}
 use Rattle.pipe_model.specs.Runs.State.{State, is_completed, accesses_of, initial_state, next_state}
 use Rattle.pipe_model.specs.Runs.TicketLogs.{ClosedLogs, IsMerge, LogEntry, OfShard, event_of}
 use Rattle.frame_book.specs.BookStates.{BookState, events_of, made, state_of}
-use Rattle.program_laws.proofs.ControlOutlines.{control_goes_by_outlines, control_skips_accesses, runs_have_control_runs}
+use Rattle.schedule_laws.proofs.ControlOutlines.{control_goes_by_outlines, control_skips_accesses, runs_have_control_runs}
 use Rattle.run_laws.proofs.LogMerge.ClosedLogs.{merged_logs_are_a_run}
 use Rattle.run_laws.proofs.LogMerge.Entries.{timed}
 use Rattle.run_laws.proofs.LogMerge.FittingLogs.{IsWithinInstance}

@@ -21,7 +21,7 @@ use Rattle.pipe_model.specs.Runs.State.{Frame, State, accesses_of, current_index
 use Rattle.pipe_model.specs.Runs.TicketLogs.{IsMerge, InOrder, LogEntry, OfBook, OfShard, book_in, end_tickets, event_of, if_shard}
 use Rattle.pipe_model.specs.Runs.TicketLogs.{shard_in, start_tickets, ticket_at}
 use Rattle.pipe_model.proofs.Members.{among_left, among_right}
-use Rattle.program_laws.proofs.ControlOutlines.{runs_have_control_runs}
+use Rattle.schedule_laws.proofs.ControlOutlines.{runs_have_control_runs}
 use Rattle.run_laws.proofs.Iterations.CellWrites.{other_cell_writes_none}
 use Rattle.run_laws.proofs.LogMerge.FittingLogs.{IsWithinInstance}
 use Rattle.run_laws.proofs.LogMerge.InstanceCounts.{control_counts, end_tickets_counted, one_open, start_tickets_counted, started_in}

@@ -1,6 +1,3 @@
-pub mod Straight
-pub mod LegalStages
-pub mod WellFormed
 pub mod SpelledSizes
 pub mod SpelledMarks
 pub mod TokenCounts
@@ -8,4 +5,3 @@ pub mod WritableOperators
 pub mod SpellablePrograms
 pub mod MarkedTokens
 pub mod MarkPlaces
-pub mod AcceptedOrRefused

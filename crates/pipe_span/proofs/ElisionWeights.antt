@@ -29,11 +29,11 @@ use Rattle.pipe_model.specs.Runs.Run.{EmptyRun}
 use Rattle.pipe_model.specs.Runs.RunLogs.{column_of_frame, state_after}
 use Rattle.pipe_model.specs.Runs.State.{Frame, State, initial_state, own_columns}
 use Rattle.pipe_model.specs.Runs.WholeProgramRuns.{ProgramRun, NoLoop, OfLoop}
-use Rattle.language_laws.proofs.WellFormed.{accepted_is_well_formed}
+use Rattle.program_laws.proofs.WellFormed.{accepted_is_well_formed}
 use Rattle.program_laws.proofs.InstanceBounds.{program_instances_are_bounded}
 use Rattle.program_laws.proofs.ProgramElisions.{program_elision_is_a_run}
 use Rattle.program_laws.specs.ProgramRunLaws.{HasElisionLog}
-use Rattle.program_laws.specs.WorkBounds.{instances_in, most_instances}
+use Rattle.schedule_laws.specs.StartCounts.{instances_in, most_instances}
 use Rattle.run_laws.proofs.RunStates.IterationCounts.{runs_keep_rules}
 use Rattle.stage_code.specs.declared.instr.Part.TheVariants as parts
 use Rattle.stage_code.specs.FlatCode.{FlatCode}

@@ -8,9 +8,9 @@ use Rattle.pipe_model.specs.Runs.Run.{Run}
 use Rattle.pipe_model.specs.declared.event.Event.{Event}
 use Rattle.pipe_model.specs.Runs.RunLogs.{column_of_frame, ended_columns_after, state_after}
 use Rattle.pipe_model.specs.Runs.State.{Frame, frame_at}
-use Rattle.frame_book.proofs.PlannedPrograms.{accepted_programs_are_planned}
 use Rattle.program_laws.proofs.InstanceBounds.{program_instances_are_bounded}
-use Rattle.program_laws.specs.WorkBounds.{instances_in}
+use Rattle.program_laws.proofs.PlannedLimits.{planned_limits}
+use Rattle.schedule_laws.specs.StartCounts.{instances_in}
 use Rattle.run_laws.proofs.RunStates.RunInvariant.{run_consistent}
 
 -- each column has an instance, and the instances and the columns can be counted
@@ -55,9 +55,9 @@ pub columns_are_small : (tree : SyntaxTree) (input : List ℤ) (limit : ℕ) (ev
     → Run (pipeline_after_init tree input) limit events (state_after events) → HasSmallColumns (ended_columns_after events)
 columns_are_small tree input limit events accepted run =
     let s = state_after events in
-    let counted = program_instances_are_bounded tree input limit events s accepted run in
-    let planned = (accepted_programs_are_planned tree input accepted).bounded in
-    let h = small s.frames 262145 (λ i f there. ((run_consistent run).sound.well i f there).filled) (omega (arith, counted, planned)) in
+    let bounded = program_instances_are_bounded tree input limit events s accepted run in
+    let planned = (planned_limits tree accepted.obeys).bounded in
+    let h = small s.frames 262145 (λ i f there. ((run_consistent run).sound.well i f there).filled) (omega (arith, bounded, planned)) in
     let count = h.count in
     record {
       count = omega (arith, count);

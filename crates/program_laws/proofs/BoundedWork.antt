@@ -1,9 +1,9 @@
 -- The work of programs: at most two accesses a step, and at most as many instances as the limit allows.
 use Rattle.std.proofs.Common.{◌≡◌, sym, subst, ℕ, zero, suc, ℤ, pos, negsuc, Bool, true, false, List, [], Option, Some, None, if◌then◌else◌}
-use Rattle.std.proofs.Common.{nat_lt, ◌<◌, ◌≤◌, ◌+◌, ◌*◌, ◌-◌, refl, arith, length, ◌==◌, inl, inr, not, mul-le-mul_right}
+use Rattle.std.proofs.Common.{nat_lt, ◌<◌, ◌≤◌, ◌+◌, ◌*◌, ◌-◌, refl, arith, length, ◌==◌, inl, inr, mul-le-mul_right}
 use Rattle.std.proofs.Math.Nat.{mul_assoc}
-use Rattle.pipe_model.specs.Language.CheckingRules.{Fault, fault_of, is_between, limit_fault_or, first_limit_out}
-use Rattle.language_laws.proofs.WellFormed.{accepted_is_well_formed}
+use Rattle.program_laws.proofs.PlannedLimits.{planned_limits}
+use Rattle.program_laws.proofs.WellFormed.{accepted_is_well_formed}
 use Rattle.pipe_model.specs.Language.ProgramsOfTrees.{pipeline_after_init}
 use Rattle.std.specs.Prelude.{int_lt, int_div, int_rem, ◌+ℤ◌}
 use Rattle.std.proofs.Math.IntN.{◌-ℤ◌, ◌*ℤ◌, neg_ℤ}
@@ -26,7 +26,7 @@ use Rattle.pipe_model.specs.Language.Interaction.{Interaction, Return, Raise, St
 use Rattle.pipe_model.specs.Pipelines.Pipeline.{AlwaysClosesLoop, HasBoundedWork}
 use Rattle.pipe_model.specs.Language.Programs.{natural, pipeline_of, setting_of}
 use Rattle.pipe_model.specs.Language.SyntaxTree as syntax
-use Rattle.pipe_model.specs.Language.SyntaxTree.{SyntaxTree, Expression, Number, Name, Element, And, Or, Binary, Unary, More, Take, Iter}
+use Rattle.pipe_model.specs.Language.SyntaxTree.{Expression, Number, Name, Element, And, Or, Binary, Unary, More, Take, Iter}
 use Rattle.pipe_model.specs.Language.SyntaxTree.{Statement, Let, Assign, AssignElement, Emit, If, While, NextStage, Statements, Empty, Then}
 use Rattle.pipe_model.specs.Language.SyntaxTree.{kind_of_stage}
 use Rattle.program_laws.specs.WorkBounds.{ProgramsHaveBoundedWork, ProgramRunsAreBounded}
@@ -366,35 +366,13 @@ sum_all last stages each n one le = elim (cases_lt last n) [
       omega (arith, rest, small, m, q))
 ]
 
--- if the first of two faults is `None`, the test passed and the rest is `None`
-test_passed : {A : Type 0} (ok : Bool) (v : A) (rest : Option A) → (if not ok then Some v else rest) ≡ None → (ok ≡ true) × (rest ≡ None)
-test_passed true v rest h = (refl, h)
-test_passed false v rest h = absurd (cc)
-
--- a program without a fault has no limit that is out of its range
-no_limit_out : (o : Option ℕ) (rest : Option Fault) → limit_fault_or o rest ≡ None → o ≡ None
-no_limit_out None rest h = refl
-no_limit_out (Some which) rest h = absurd (cc)
-
-from_one : (high z : ℤ) → is_between (pos 1) high z ≡ true → 1 ≤ natural z
-from_one high (pos zero) h = absurd (cc)
-from_one high (pos (suc n)) h = omega arith
-from_one high (negsuc n) h = absurd (cc)
-
--- the stage limit of an accepted program is at least 1
-pub stages_from_one : (tree : SyntaxTree) → fault_of tree ≡ None → 1 ≤ natural tree.limits.stages
-stages_from_one tree h =
-    let first = test_passed _ 1 _ (no_limit_out (first_limit_out tree.limits) _ h) in
-    let second = test_passed _ 2 _ first.1 in
-    from_one (pos 4096) tree.limits.stages second.0
-
 pub program_runs_are_bounded : ProgramRunsAreBounded
 program_runs_are_bounded tree input limit events s a r going =
     let budget = natural tree.limits.steps in
     let stages = natural tree.limits.stages in
     let last = natural tree.limits.iterations in
     let well = accepted_is_well_formed tree input a in
-    let one = stages_from_one tree a.obeys in
+    let one = (planned_limits tree a.obeys).one_stage in
     let h = runs_are_bounded (pipeline_after_init tree input) limit (2 * budget) (further last stages) events s r well.closes
     (λ i. further_bounded last stages (2 * budget) i ((pipeline_of tree input).behaviour i)
     (λ e. subst (λ n. AlwaysClosesLoop ((pipeline_of tree input).behaviour n)) (sym e) well.closes)

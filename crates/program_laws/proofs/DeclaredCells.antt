@@ -19,29 +19,29 @@ use Rattle.pipe_model.specs.declared.tree.StageKind.{StageKind}
 use Rattle.pipe_model.specs.Language.CheckingRules.{BreaksNoRule, CheckingRule, breaks, broken_at, cell_total, first_broken, first_fault}
 use Rattle.pipe_model.specs.Language.CheckingRules.{first_limit_out, rules_in_order}
 use Rattle.pipe_model.specs.Language.Evaluation.{CellRange, Environment, Local, Setting, StagePosition, assign, divided, element_of, emit}
-use Rattle.pipe_model.specs.Language.Evaluation.{evaluate, execute, execute_all, first_environment, fitting, go_to_next_stage, go_to_stage}
+use Rattle.pipe_model.specs.Language.Evaluation.{evaluate, execute, execute_all, first_environment, fitting, go_to_stage}
 use Rattle.pipe_model.specs.Language.Evaluation.{if_zero, is_i64, leave_block, local_value, loop_turns, named_value, operate, operate_one}
 use Rattle.pipe_model.specs.Language.Evaluation.{run_iteration, take_at}
 use Rattle.pipe_model.specs.Language.Interaction.{Get, Interaction, Raise, Return, Set, Stage, Step, bind, with_budget}
 use Rattle.pipe_model.specs.Language.Marks.{DeclaredCell, Mark, mark_at, marks_of, marks_of_cells, marks_of_expression, marks_of_statements}
 use Rattle.pipe_model.specs.Language.Marks.{opening}
 use Rattle.pipe_model.specs.declared.region.Region.TheVariants as regions
-use Rattle.pipe_model.specs.Language.Programs.{declared_size, natural, pipeline_of, range_of, setting_of}
+use Rattle.pipe_model.specs.Language.Programs.{declared_size, natural, range_of, setting_of}
 use Rattle.pipe_model.specs.Language.ProgramsOfTrees.{pipeline_after_init, whole_of}
 use Rattle.pipe_model.specs.Language.SyntaxTree as syntax
 use Rattle.pipe_model.specs.Language.SyntaxTree.{And, Assign, AssignElement, Binary, Element, Emit, Empty, Expression, If, Iter, Let, More}
 use Rattle.pipe_model.specs.Language.SyntaxTree.{Name, NextStage, Number, Or, Statement, Statements, SyntaxTree, Take, Then, Unary, While}
 use Rattle.pipe_model.specs.Language.SyntaxTree.{kind_of_stage}
-use Rattle.pipe_model.specs.Pipelines.Behaviour.{Accessed, Action, Behaviour, Ended, Ending, Offers, Performs, Reading, Staged, Staging}
+use Rattle.pipe_model.specs.Pipelines.Behaviour.{Accessed, Action, Behaviour, Ended, Ending, Offers, Reading, Staged, Staging}
 use Rattle.pipe_model.specs.Pipelines.Behaviour.{Writing, accesses_in, behaviour_after, behaviour_after_all, read_access, write_access}
 use Rattle.pipe_model.specs.Pipelines.Pipeline.{Pipeline}
 use Rattle.pipe_model.specs.Pipelines.SerialElision.{serial_trace}
 use Rattle.pipe_model.specs.Pipelines.Store.{InitialStore, value_after}
 use Rattle.pipe_model.specs.Runs.Allowed.{ProgramAllows}
-use Rattle.pipe_model.specs.Runs.Run.{EmptyRun, Run, RunThen}
+use Rattle.pipe_model.specs.Runs.Run.{EmptyRun, RunThen}
 use Rattle.pipe_model.specs.Runs.State.{State, frame_at, trace_in}
 use Rattle.program_laws.proofs.OneInstance.{AreUnbroken, rest_is_none, unbroken, unbroken_left}
-use Rattle.program_laws.specs.DeclaredCells.{AccessesBelow, ActionsAccessBelow, InitAccessesItsCells, IsBelow, IsInside, PartsAccessBelow}
+use Rattle.program_laws.specs.DeclaredCells.{AccessesBelow, ActionsAccessBelow, InitAccessesItsCells, IsBelow, IsInside}
 use Rattle.program_laws.specs.DeclaredCells.{ProgramRunsAccessTheirCells, ProgramsAccessTheirCells, RunsAccessBelow, cell_count}
 
 -- ---- trees

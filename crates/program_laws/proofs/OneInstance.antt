@@ -15,8 +15,8 @@ use Rattle.pipe_model.specs.Language.Programs.{natural, setting_of}
 use Rattle.pipe_model.specs.Language.SyntaxTree as syntax
 use Rattle.pipe_model.specs.Language.SyntaxTree.{SyntaxTree, Expression, Statement, Let, Assign, AssignElement, Emit, If, While, NextStage}
 use Rattle.pipe_model.specs.Language.SyntaxTree.{Statements, Empty, Then}
-use Rattle.language_laws.proofs.Straight.{IsStraight, Returns, Raises, Steps, Gets, Sets, Anything, straight-bind, straight-evaluate}
-use Rattle.language_laws.proofs.Straight.{straight-element_of, either, either_by_zero}
+use Rattle.program_laws.proofs.Straight.{IsStraight, Returns, Raises, Steps, Gets, Sets, Anything, straight-bind, straight-evaluate}
+use Rattle.program_laws.proofs.Straight.{straight-element_of, either, either_by_zero}
 use Rattle.pipe_model.specs.Pipelines.WholePrograms.{IsOneInstance}
 use Rattle.pipe_model.specs.Language.ProgramsOfTrees.{part_of}
 use Rattle.program_laws.specs.ProgramRunLaws.{PartsAreOneInstance}

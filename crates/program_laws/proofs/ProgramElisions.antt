@@ -17,7 +17,7 @@ use Rattle.pipe_model.specs.Pipelines.SerialElision.{serial_trace}
 use Rattle.pipe_model.specs.Runs.State.{State, initial_state, accesses_of}
 use Rattle.pipe_model.specs.Language.SyntaxTree.{Empty, Statements, SyntaxTree}
 use Rattle.pipe_model.specs.Runs.Throttling.{IsThrottled}
-use Rattle.language_laws.proofs.WellFormed.{accepted_is_well_formed}
+use Rattle.program_laws.proofs.WellFormed.{accepted_is_well_formed}
 use Rattle.run_laws.proofs.Elision.SerialRun.{serial_elision_is_a_run}
 use Rattle.run_laws.proofs.RunStates.FrontAndBack.{run_state_is}
 use Rattle.run_laws.proofs.RunStates.IterationCounts.{runs_keep_rules}

@@ -19,9 +19,9 @@ use Rattle.pipe_model.specs.Language.SyntaxTree as syntax
 use Rattle.pipe_model.specs.Language.SyntaxTree.{Expression, Number, Name, Element, And, Or, Binary, Unary, More, Take, Iter, Statement}
 use Rattle.pipe_model.specs.Language.SyntaxTree.{Let, Assign, AssignElement, Emit, If, While, NextStage, Statements, Empty, Then}
 use Rattle.pipe_model.specs.Language.SyntaxTree.{kind_of_stage}
-use Rattle.language_laws.proofs.Straight.{IsStraight, Returns, Raises, Steps, Gets, Sets, Anything, straight-evaluate, straight-element_of}
-use Rattle.language_laws.proofs.Straight.{straight-fitting}
-use Rattle.language_laws.proofs.Straight.{either as straight_either}
+use Rattle.program_laws.proofs.Straight.{IsStraight, Returns, Raises, Steps, Gets, Sets, Anything, straight-evaluate, straight-element_of}
+use Rattle.program_laws.proofs.Straight.{straight-fitting}
+use Rattle.program_laws.proofs.Straight.{either as straight_either}
 use Rattle.pipe_model.specs.Language.Programs.{natural, setting_of}
 use Rattle.program_laws.specs.LoopTurns.{with_turns}
 use Rattle.pipe_model.specs.Language.ProgramsOfTrees.{execute_part}

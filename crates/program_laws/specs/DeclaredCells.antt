@@ -1,10 +1,9 @@
 -- Programs access their own cells only: cell 0 is the input's cursor, cell 1 is the output, and the declared cells follow.
-use Rattle.std.specs.Prelude.{◌≡◌, ◌<◌, ◌+◌, ℕ, ℤ, All, List}
+use Rattle.std.specs.Prelude.{◌<◌, ◌+◌, ℕ, ℤ, All, List}
 use Rattle.pipe_model.specs.declared.access.Access.{Access as CellAccess}
 use Rattle.pipe_model.specs.declared.event.Event.{Event}
 use Rattle.pipe_model.specs.declared.event.Event.TheVariants.{Access, Advance, Begin, Enter, Finish, Stop}
 use Rattle.pipe_model.specs.Language.CheckingRules.{BreaksNoRule, cell_total}
-use Rattle.pipe_model.specs.Language.Programs.{pipeline_of}
 use Rattle.pipe_model.specs.Language.ProgramsOfTrees.{pipeline_after_init, whole_of}
 use Rattle.pipe_model.specs.Language.SyntaxTree.{SyntaxTree}
 use Rattle.pipe_model.specs.Pipelines.Behaviour.{Action, Behaviour, Ending, Performs, Reading, Staging, Writing, accesses_in}

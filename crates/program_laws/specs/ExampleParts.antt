@@ -1,16 +1,17 @@
 -- What the worked examples of programs share: expressions, limits, and the outcome of a program.
-use Rattle.std.specs.Prelude.{◌≡◌, ℕ, ℤ, pos, List, [], ◌∷◌, Option, Some, codes}
+use Rattle.std.specs.Prelude.{◌≡◌, ℕ, ℤ, pos, List, [], ◌∷◌, Option, Some, None, codes}
 use Rattle.pipe_model.specs.declared.trap.Trap.{Trap}
 use Rattle.pipe_model.specs.declared.trap.TrapAt.{TrapAt}
-use Rattle.pipe_model.specs.declared.trap.TrapPlace.TheVariants.{Init, Last}
+use Rattle.pipe_model.specs.declared.trap.TrapPlace.TheVariants.{At, Init, Last}
+use Rattle.pipe_model.specs.declared.tree.Declaration.{Declaration}
 use Rattle.pipe_model.specs.declared.tree.Limits.{Limits}
 use Rattle.pipe_model.specs.Language.Grammar.{declaration}
 use Rattle.pipe_model.specs.Language.ProgramsOfTrees.{whole_of}
 use Rattle.pipe_model.specs.Language.SyntaxTree.{Expression, Number, Name, Binary, Unary, Assign, Emit, Statements, Empty, Then, SyntaxTree}
 use Rattle.pipe_model.specs.Pipelines.WholePrograms.{program_output, program_trap}
-use Rattle.language_laws.specs.LanguageExamples.{n, plus, plain_cell}
+use Rattle.pipe_model.specs.Races.Columns.{at}
 
--- names of one letter, beside `n`, `s` and `t` of `language_laws`
+-- names of one letter
 abbrev pub a : List ℕ
 a = codes "a"
 
@@ -20,10 +21,29 @@ c = codes "c"
 abbrev pub k : List ℕ
 k = codes "k"
 
+abbrev pub n : List ℕ
+n = codes "n"
+
+abbrev pub s : List ℕ
+s = codes "s"
+
+abbrev pub t : List ℕ
+t = codes "t"
+
+-- the declaration of a plain cell
+abbrev pub plain_cell : List ℕ → ℤ → Declaration
+plain_cell name value = declaration name None value
+
 abbrev pub number : ℕ → Expression
 number m = Number (pos m)
 
--- operators, beside `plus` and `less` of `language_laws`
+-- operators
+abbrev pub plus : Expression → Expression → Expression
+plus x y = Binary 9 x y
+
+abbrev pub less : Expression → Expression → Expression
+less x y = Binary 5 x y
+
 abbrev pub equal : Expression → Expression → Expression
 equal x y = Binary 3 x y
 
@@ -83,6 +103,10 @@ computing last = record {
   body = Empty;
   last = last;
 }
+
+-- a trap in an instance, with its stage number
+abbrev pub trap_at : Trap → ℕ → ℕ → ℤ → TrapAt
+trap_at trap i k number = record { place = At (at i k) number; trap = trap }
 
 abbrev pub trap_in_init : Trap → TrapAt
 trap_in_init trap = record { place = Init; trap = trap }

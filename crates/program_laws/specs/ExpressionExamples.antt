@@ -4,7 +4,7 @@ use Rattle.pipe_model.specs.declared.trap.Trap.{Trap}
 use Rattle.pipe_model.specs.declared.trap.Trap.TheVariants as traps
 use Rattle.pipe_model.specs.Language.SyntaxTree.{Expression, Name, Element, And, Or, More, Take, Iter, Let, Assign, AssignElement, Emit}
 use Rattle.pipe_model.specs.Language.SyntaxTree.{Empty, Then, SyntaxTree}
-use Rattle.language_laws.specs.LanguageExamples.{n, t, plus, less, plain_cell, trap_at}
+use Rattle.program_laws.specs.ExampleParts.{n, t, plus, less, plain_cell, trap_at}
 use Rattle.program_laws.specs.ExampleParts.{HasOutputAndTrap, a, at_least, at_most, computing, count_up, difference, emit_all, equal}
 use Rattle.program_laws.specs.ExampleParts.{failing, greater_than, limits_of, negation, negative, number, product, quotient, remainder}
 use Rattle.program_laws.specs.ExampleParts.{trap_in_final, unequal}

@@ -1,14 +1,12 @@
-pub mod ControlLaws
 pub mod DeclaredCells
 pub mod ExampleParts
 pub mod ExpressionExamples
-pub mod HistoryStateLaws
+pub mod LoopExamples
 pub mod LoopTurns
 pub mod ProgramExamples
 pub mod ProgramHeadline
 pub mod ProgramRunLaws
 pub mod ScheduleExamples
-pub mod ScheduleLaws
 pub mod StatementExamples
-pub mod TicketOrderLaws
+pub mod WellFormedPrograms
 pub mod WorkBounds

@@ -8,7 +8,7 @@ use Rattle.pipe_model.specs.Language.ProgramsOfTrees.{whole_of}
 use Rattle.pipe_model.specs.Language.SyntaxTree.{Expression, Name, Element, Let, Assign, Emit, If, Stage, Statements, Empty, Then}
 use Rattle.pipe_model.specs.Language.SyntaxTree.{SyntaxTree}
 use Rattle.pipe_model.specs.Pipelines.WholePrograms.{program_columns}
-use Rattle.language_laws.specs.LanguageExamples.{n, s, t, plus, less, plain_cell, trap_at}
+use Rattle.program_laws.specs.ExampleParts.{n, s, t, plus, less, plain_cell, trap_at}
 use Rattle.program_laws.specs.ExampleParts.{HasOutputAndTrap, a, count_up, equal, failing, k, limits_of, negative, number, product}
 use Rattle.program_laws.specs.ExampleParts.{trap_in_final, trap_in_init}
 

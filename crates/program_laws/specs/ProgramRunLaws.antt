@@ -1,5 +1,5 @@
 -- Laws of the runs of whole programs.
-use Rattle.std.specs.Prelude.{◌≡◌, ◌↔◌, ◌<◌, ◌++◌, true, ℕ, ℤ, List, None, map}
+use Rattle.std.specs.Prelude.{◌≡◌, ◌↔◌, ◌<◌, ◌++◌, true, ℕ, ℤ, List, map}
 use Rattle.pipe_model.specs.declared.event.RunLog.{RunLog}
 use Rattle.pipe_model.specs.Pipelines.ElisionResults.{first_trap, serial_ended_columns, serial_output, serial_trap}
 use Rattle.pipe_model.specs.Language.Programs.{pipeline_of}

@@ -9,7 +9,7 @@ use Rattle.pipe_model.specs.Pipelines.Behaviour.{read_access, write_access}
 use Rattle.pipe_model.specs.Language.ProgramsOfTrees.{pipeline_after_init}
 use Rattle.pipe_model.specs.Runs.Schedules.{played}
 use Rattle.pipe_model.specs.Language.SyntaxTree.{Name, Assign, Emit, Stage, Empty, Then, SyntaxTree}
-use Rattle.language_laws.specs.LanguageExamples.{n, less, plain_cell}
+use Rattle.program_laws.specs.ExampleParts.{n, less, plain_cell}
 use Rattle.program_laws.specs.ExampleParts.{limits_of, number}
 
 -- limits iterations 1, stages 2, steps 50, emits 1; cell n = 0; pipe_while (n < 1) { n = 1; pipe_wait(1); emit n; }

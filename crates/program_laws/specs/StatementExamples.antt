@@ -9,7 +9,7 @@ use Rattle.pipe_model.specs.Language.ProgramsOfTrees.{whole_of}
 use Rattle.pipe_model.specs.Language.SyntaxTree.{Expression, Name, Element, Take, Iter, Let, Assign, AssignElement, Emit, If, While, Stage}
 use Rattle.pipe_model.specs.Language.SyntaxTree.{NextStage, Statements, Empty, Then, SyntaxTree}
 use Rattle.pipe_model.specs.Pipelines.WholePrograms.{program_columns}
-use Rattle.language_laws.specs.LanguageExamples.{n, s, t, plus, less, plain_cell, trap_at}
+use Rattle.program_laws.specs.ExampleParts.{n, s, t, plus, less, plain_cell, trap_at}
 use Rattle.program_laws.specs.ExampleParts.{HasOutputAndTrap, a, c, computing, count_up, emit_all, equal, k, limits_of, negative, number}
 use Rattle.program_laws.specs.ExampleParts.{remainder, trap_in_final}
 

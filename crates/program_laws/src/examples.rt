@@ -7,9 +7,36 @@ ghost use Rattle.program_laws.specs.ExpressionExamples.{OperandsAreInOrder, Righ
 ghost use Rattle.program_laws.specs.StatementExamples.{BlocksEndLocals, BranchesAreTaken, ElementsAreAssigned, EveryOtherWaits};
 ghost use Rattle.program_laws.specs.StatementExamples.{LoopsTurn, NamesAreAssigned, StagesAreNamed, StagesTrap};
 ghost use Rattle.program_laws.specs.StatementExamples.{WaitsEmit};
+ghost use Rattle.program_laws.specs.LoopExamples.{CountingEnds, CountingTraps, LinesArePrinted, PrefixSumsHaveStages, StepsAreCounted};
 ghost use Rattle.program_laws.specs.ProgramExamples.{InitAndFinalRun, InitPreparesTheLoop, StepsAreExact, TrappedInitEndsAll};
 ghost use Rattle.program_laws.specs.ProgramExamples.{TrapsCloseTheLoop};
 ghost use Rattle.program_laws.specs.ScheduleExamples.{SchedulesArePlayed};
+
+/// A loop that counts to 2 emits 1 and 2 and ends by its test.
+pub fn counting_ends()
+    ensures { CountingEnds }
+{}
+
+/// A loop that would count to 3 within a limit of two iterations emits 1 and 2 and traps in the
+/// test of iteration 2.
+pub fn counting_traps()
+    ensures { CountingTraps }
+{}
+
+/// A test that is a number takes two steps: one for the number and one for the loop.
+pub fn steps_are_counted()
+    ensures { StepsAreCounted }
+{}
+
+/// The output and the columns of prefix sums that are computed in a second stage that waits.
+pub fn prefix_sums_have_stages()
+    ensures { PrefixSumsHaveStages }
+{}
+
+/// The printed lines of an output and of a trap.
+pub fn lines_are_printed()
+    ensures { LinesArePrinted }
+{}
 
 /// Numbers, a local and a cell.
 pub fn names_are_read()

@@ -1,8 +1,9 @@
-//! Bounds on the turns of loops, on the work of a program, and on the length of its runs.
+//! Bounds on the turns of loops, on the work of a program, on the length of its runs, and on the turns
+//! of its schedules.
 
 ghost use Rattle.program_laws.specs.LoopTurns.{MoreTurnsChangeNoPart, MoreTurnsChangeNothing};
 ghost use Rattle.program_laws.specs.WorkBounds.{ProgramInstancesAreBounded, ProgramRunsAreBounded, ProgramsHaveBoundedWork};
-ghost use Rattle.program_laws.specs.WorkBounds.{StartsAreCounted};
+ghost use Rattle.program_laws.specs.WorkBounds.{SchedulesFinish};
 
 /// A larger bound on the turns of loops does not change a program: its instances have no steps for
 /// more turns.
@@ -25,9 +26,13 @@ pub fn program_runs_are_bounded()
     ensures { ProgramRunsAreBounded }
 {}
 
-/// A run starts each instance of its columns once, and an accepted program has at most
-/// `iterations * stages + 1` instances.
+/// A run of an accepted program has at most `iterations * stages + 1` instances.
+#[tactic(auto, using(crate::proofs::InstanceBounds::program_instances_are_bounded))]
 pub fn program_instances_are_bounded()
-    ensures counted { StartsAreCounted }
-    ensures bounded { ProgramInstancesAreBounded }
+    ensures { ProgramInstancesAreBounded }
+{}
+
+/// With `2 * steps + 2` turns for each instance a schedule of an accepted program finishes.
+pub fn schedules_finish()
+    ensures { SchedulesFinish }
 {}

@@ -22,7 +22,7 @@ use Rattle.pipe_model.specs.Orders.HistoryReports.{reports_below}
 use Rattle.pipe_model.specs.Orders.TwoOrders.{down_place, right_place}
 use Rattle.pipe_model.specs.Races.CellRaces.{NotedAccess, accesses_to}
 use Rattle.pipe_model.specs.Races.Reports.{RiseByCell}
-use Rattle.program_laws.proofs.HistoryFolds.{histories_are_states}
+use Rattle.schedule_laws.proofs.HistoryFolds.{histories_are_states}
 use Rattle.race_report.specs.RaceReports.{IsFoundIn, report_found}
 use Rattle.race_detection.specs.NotedRuns.{HaveNoted, found_below, found_of, history_at}
 

@@ -13,7 +13,7 @@ use Rattle.pipe_model.specs.Runs.ControlParts.{control_after, without_accesses}
 use Rattle.pipe_model.specs.Runs.ControlRun.{is_access}
 use Rattle.pipe_model.specs.Runs.Run.{Run, EmptyRun, RunThen, state_from}
 use Rattle.pipe_model.specs.Runs.State.{State, initial_state, next_state, own_columns}
-use Rattle.program_laws.proofs.ControlOutlines.{control_goes_by_outlines, control_skips_accesses, runs_have_control_runs}
+use Rattle.schedule_laws.proofs.ControlOutlines.{control_goes_by_outlines, control_skips_accesses, runs_have_control_runs}
 use Rattle.run_laws.proofs.ListOrders.StartsOfRuns.{starts_of_then}
 use Rattle.run_laws.proofs.RaceHistories.CellReports.{reports_are_right}
 use Rattle.race_detection.specs.DetectionLaws.{RunsAreDetected}

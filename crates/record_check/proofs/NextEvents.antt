@@ -14,7 +14,7 @@ use Rattle.pipe_model.specs.Runs.NextEvents.{event_if, event_of_behaviour, event
 use Rattle.pipe_model.specs.Runs.Run.{AllowedFrom, Run, state_from}
 use Rattle.pipe_model.specs.Runs.RunLogs.{state_after}
 use Rattle.pipe_model.specs.Runs.State.{Frame, State, accesses_of, frame_at, initial_state, next_state}
-use Rattle.program_laws.proofs.AllowedEvents.{allowed_is_next}
+use Rattle.schedule_laws.proofs.AllowedEvents.{allowed_is_next}
 use Rattle.run_laws.proofs.RunStates.FrontAndBack.{runs_from_the_front}
 use Rattle.schedule_play.specs.declared.turns.Turn.TheVariants as turns
 use Rattle.schedule_play.specs.Turns.{turn_event}

@@ -3,7 +3,7 @@ use Rattle.std.proofs.Common.{◌∙◌, sym, ap, map, List}
 use Rattle.pipe_model.specs.Runs.ControlParts.{control_after}
 use Rattle.pipe_model.specs.Runs.RunLogs.{column_of_frame, state_after}
 use Rattle.pipe_model.specs.Runs.State.{Frame}
-use Rattle.program_laws.proofs.ControlOutlines.{runs_have_control_runs}
+use Rattle.schedule_laws.proofs.ControlOutlines.{runs_have_control_runs}
 use Rattle.run_record.specs.OwnColumns.{RunsMakeTheirColumns}
 use Rattle.run_record.proofs.Outlines.{columns_of_outlines}
 

@@ -18,17 +18,19 @@ use Rattle.pipe_model.specs.Runs.RunLogs.{columns_after, state_after}
 use Rattle.pipe_model.specs.Runs.Schedules.{candidates, played, running_instances}
 use Rattle.pipe_model.specs.Runs.State.{State, initial_state, next_state}
 use Rattle.pipe_model.specs.Runs.WholeProgramRuns.{NoLoop, OfLoop, ProgramIsFinished, WithLoop, WithoutLoop, played_output, played_trap}
-use Rattle.language_laws.proofs.WellFormed.{accepted_is_well_formed}
+use Rattle.program_laws.proofs.WellFormed.{accepted_is_well_formed}
 use Rattle.program_ends.specs.declared.ends.ProgramResults.{ProgramResults}
 use Rattle.program_ends.specs.ProgramEnds.{HasResults, reaches_final}
 use Rattle.program_ends.proofs.ElidedRuns.{finished_runs_agree_with_elisions}
 use Rattle.program_laws.proofs.BoundedWork.{program_runs_are_bounded}
-use Rattle.program_laws.proofs.Candidates.{played_runs_are_runs}
-use Rattle.program_laws.proofs.InstanceBounds.{program_instances_are_bounded, starts_are_counted}
-use Rattle.program_laws.proofs.PlayedSchedules.{finished_runs_have_no_candidate, schedules_finish, schedules_play_runs}
+use Rattle.schedule_laws.proofs.Candidates.{played_runs_are_runs}
+use Rattle.program_laws.proofs.InstanceBounds.{program_instances_are_bounded}
+use Rattle.schedule_laws.proofs.CountedStarts.{starts_are_counted}
+use Rattle.schedule_laws.proofs.PlayedSchedules.{finished_runs_have_no_candidate, schedules_play_runs}
+use Rattle.program_laws.proofs.FinishedSchedules.{schedules_finish}
 use Rattle.program_laws.proofs.ProgramRuns.{well_formed_after}
-use Rattle.program_laws.specs.ScheduleLaws.{IsPlayed as IsPlayedRun}
-use Rattle.program_laws.specs.WorkBounds.{most_instances}
+use Rattle.schedule_laws.specs.ScheduleLaws.{IsPlayed as IsPlayedRun}
+use Rattle.schedule_laws.specs.StartCounts.{most_instances}
 use Rattle.race_detection.specs.FoundReports.{found_reports}
 use Rattle.run_laws.proofs.RunStates.FrontAndBack.{front_is_run}
 use Rattle.run_laws.proofs.RunStates.IterationCounts.{runs_keep_rules}

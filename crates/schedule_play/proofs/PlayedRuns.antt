@@ -32,10 +32,11 @@ use Rattle.pipe_model.specs.Runs.Schedules.{candidates, chosen, played, running_
 use Rattle.pipe_model.specs.Runs.State.{Frame, State, accesses_of, own_columns}
 use Rattle.pipe_model.specs.Runs.Throttling.{IsThrottled}
 use Rattle.pipe_model.proofs.Members.{among_at}
-use Rattle.frame_book.proofs.PlannedPrograms.{accepted_programs_are_planned}
-use Rattle.program_laws.proofs.Candidates.{played_runs_are_runs}
-use Rattle.program_laws.proofs.InstanceBounds.{program_instances_are_bounded, starts_are_counted}
-use Rattle.program_laws.proofs.PlayedSchedules.{finished_runs_have_no_candidate, schedules_play_runs}
+use Rattle.book_laws.proofs.PlannedPrograms.{accepted_programs_are_planned}
+use Rattle.schedule_laws.proofs.Candidates.{played_runs_are_runs}
+use Rattle.program_laws.proofs.InstanceBounds.{program_instances_are_bounded}
+use Rattle.schedule_laws.proofs.CountedStarts.{starts_are_counted}
+use Rattle.schedule_laws.proofs.PlayedSchedules.{finished_runs_have_no_candidate, schedules_play_runs}
 use Rattle.race_detection.proofs.RunReports.{runs_are_detected}
 use Rattle.race_detection.specs.FoundReports.{found_reports}
 use Rattle.run_laws.proofs.RunStates.IterationCounts.{runs_keep_rules}

@@ -15,7 +15,7 @@ use Rattle.pipe_model.specs.Runs.Throttling.{IsThrottled}
 use Rattle.pipe_model.specs.Runs.WholeProgramRuns.{ProgramIsFinished, ProgramRun, played_output, played_trap}
 use Rattle.program_ends.specs.ProgramEnds.{reaches_final}
 use Rattle.program_laws.specs.ProgramHeadline.{HasNoProgramRace}
-use Rattle.program_laws.specs.WorkBounds.{most_instances}
+use Rattle.schedule_laws.specs.StartCounts.{most_instances}
 use Rattle.race_detection.specs.FoundReports.{found_reports}
 use Rattle.schedule_play.specs.declared.loop_play.LoopPlay.{LoopPlay}
 use Rattle.schedule_play.specs.declared.loop_play.PlayLimits.{PlayLimits}

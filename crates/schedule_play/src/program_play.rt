@@ -19,7 +19,7 @@ ghost use Rattle.pipe_model.specs.Runs.State.{accesses_of};
 ghost use Rattle.pipe_model.specs.Runs.Throttling.{IsThrottled};
 ghost use Rattle.pipe_model.specs.Runs.WholeProgramRuns.{ProgramIsFinished, ProgramRun, played_output, played_trap};
 ghost use Rattle.program_ends.specs.ProgramEnds.{reaches_final};
-ghost use Rattle.program_laws.specs.WorkBounds.{most_instances};
+ghost use Rattle.schedule_laws.specs.StartCounts.{most_instances};
 ghost use Rattle.race_detection.specs.FoundReports.{found_reports};
 ghost use Rattle.schedule_play.specs.ProgramPlays.{HasElisionResults, IsEndOfLoop, IsPlayed, MeetsPlayGuarantees, enough_turns};
 ghost use Rattle.schedule_play.specs.ProgramPlays.{played_events};

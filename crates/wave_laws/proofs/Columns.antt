@@ -15,7 +15,7 @@ use Rattle.pipe_model.specs.Language.SyntaxTree.{Number, Unary, Let, While, Stat
 use Rattle.pipe_model.specs.declared.operator_codes.TheConstants as operator_codes
 use Rattle.pipe_model.specs.Pipelines.Behaviour.{Action, Staged, accesses_in, trace_end}
 use Rattle.pipe_model.specs.Pipelines.SerialElision.{serial_trace, unless}
-use Rattle.language_laws.proofs.Straight.{IsStraight}
+use Rattle.program_laws.proofs.Straight.{IsStraight}
 use Rattle.wave_laws.specs.Waves.Grid.{column_points}
 use Rattle.wave_laws.specs.Waves.LoweredLoops.{lowered_test, lowered_turn}
 use Rattle.wave_laws.specs.Waves.Points.{at_row, is_trap, point_trace, steps, steps_after, steps_before}

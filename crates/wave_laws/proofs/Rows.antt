@@ -8,8 +8,8 @@ use Rattle.pipe_model.specs.Language.Interaction.{Interaction}
 use Rattle.pipe_model.specs.Language.SyntaxTree as syntax
 use Rattle.pipe_model.specs.Language.SyntaxTree.{Expression, Statement, Let, Assign, AssignElement, Emit, If, While, NextStage, Statements}
 use Rattle.pipe_model.specs.Language.SyntaxTree.{Empty, Then}
-use Rattle.language_laws.proofs.Straight.{IsStraight, Returns, Raises, Steps, Gets, Sets, Anything, straight-bind, straight-evaluate}
-use Rattle.language_laws.proofs.Straight.{straight-element_of, either, either_by_zero}
+use Rattle.program_laws.proofs.Straight.{IsStraight, Returns, Raises, Steps, Gets, Sets, Anything, straight-bind, straight-evaluate}
+use Rattle.program_laws.proofs.Straight.{straight-element_of, either, either_by_zero}
 use Rattle.wave_laws.specs.Waves.Points.{at_row}
 use Rattle.wave_laws.specs.Waves.WaveLoops.{AllHaveNoStage, AllKeepRow, HasNoStage, KeepsRow, row}
 

@@ -18,7 +18,7 @@ use Rattle.pipe_model.specs.Pipelines.SerialElision.{serial_trace, located}
 use Rattle.pipe_model.specs.Pipelines.Store.{InitialStore, value_after}
 use Rattle.pipe_model.specs.Pipelines.WholePrograms.{part_trap}
 use Rattle.pipe_model.specs.Races.Columns.{at, node_at}
-use Rattle.language_laws.proofs.Straight.{IsStraight, Returns, Raises, Steps, Gets, Sets}
+use Rattle.program_laws.proofs.Straight.{IsStraight, Returns, Raises, Steps, Gets, Sets}
 use Rattle.wave_laws.specs.Waves.Grid.{points_accesses}
 use Rattle.wave_laws.specs.Waves.GridResults.{kind_in_row, located_points, point_nodes, points_end, points_trap}
 use Rattle.wave_laws.specs.Waves.Points.{is_trap, steps}

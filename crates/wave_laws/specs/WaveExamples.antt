@@ -8,7 +8,7 @@ use Rattle.pipe_model.specs.declared.trap.Trap.TheVariants as traps
 use Rattle.pipe_model.specs.declared.trap.TrapAt.{TrapAt}
 use Rattle.pipe_model.specs.Language.SyntaxTree.{Name, Number, Assign, Emit, Empty, Then, SyntaxTree}
 use Rattle.pipe_model.specs.Pipelines.Behaviour.{node_of}
-use Rattle.language_laws.specs.LanguageExamples.{plain_cell, plus, s, trap_at}
+use Rattle.program_laws.specs.ExampleParts.{plain_cell, plus, s, trap_at}
 use Rattle.wave_laws.specs.Waves.GridResults.{grid_columns, grid_output, grid_trap}
 use Rattle.wave_laws.specs.Waves.LoweredLoops.{lowered}
 use Rattle.wave_laws.specs.Waves.WaveFaults.{BadTest, RowSet, wave_fault}

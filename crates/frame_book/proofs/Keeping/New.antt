@@ -22,7 +22,7 @@ use Rattle.frame_book.specs.Invariant.{IsBook}
 use Rattle.frame_book.specs.Rooms.{IsPlanned, IsFresh, total, rooms_of, room_in}
 use Rattle.frame_book.specs.KeptTokens.{IsAtHome}
 use Rattle.frame_book.specs.NewBooks.{IsPlannedProgram}
-use Rattle.program_laws.specs.WorkBounds.{most_instances}
+use Rattle.schedule_laws.specs.StartCounts.{most_instances}
 use Rattle.frame_book.specs.IterationRows.{IterationRow, empty_row}
 use Rattle.frame_book.specs.CallEffects.{identities_of_orders}
 use Rattle.frame_book.specs.Tables.{Tables}

@@ -21,8 +21,8 @@ use Rattle.pipe_model.specs.Runs.Allowed.{Allowed, IsRunning}
 use Rattle.pipe_model.specs.Runs.NextEvents.{event_of_behaviour, next_event}
 use Rattle.pipe_model.specs.Runs.State.{Frame, State, accesses_of, current_index, frame_at, next_state, update_frame, with_action}
 use Rattle.frame_book.specs.BookStates.{item_or, left_of, pipeline_in, replies_at, state_of}
-use Rattle.program_laws.proofs.AllowedEvents.{allowed_events_are_next, event_at_running}
-use Rattle.program_laws.proofs.ControlOutlines.{accesses_change_no_outline}
+use Rattle.schedule_laws.proofs.AllowedEvents.{allowed_events_are_next, event_at_running}
+use Rattle.schedule_laws.proofs.ControlOutlines.{accesses_change_no_outline}
 use Rattle.order_2d.proofs.EventsSoFar.{without-append}
 use Rattle.run_laws.proofs.Iterations.PerformedActions.{behaviour_after_all-push}
 use Rattle.run_laws.proofs.LogMerge.ControlPart.{same_frame}

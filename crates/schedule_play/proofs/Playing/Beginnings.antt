@@ -2,7 +2,7 @@
 use Rattle.std.proofs.Common.{◌≡◌, le_trans, sym, subst, refl, ℕ, ℤ, ◌+◌, ◌*◌, ◌≤◌, arith, List, [], Some, None, append-nil}
 use Rattle.std.proofs.Math.Nat.{mul-le-mul_left, mul-le-mul_right}
 use Rattle.cell_store.specs.ShardState.{IsStateAfter, ShardState}
-use Rattle.language_laws.proofs.WellFormed.{accepted_is_well_formed}
+use Rattle.program_laws.proofs.WellFormed.{accepted_is_well_formed}
 use Rattle.pipe_model.specs.declared.tree.Program.{Program}
 use Rattle.pipe_model.specs.Language.Programs.{natural, store_of}
 use Rattle.pipe_model.specs.Language.ProgramsOfTrees.{pipeline_after_init, whole_of}
@@ -12,9 +12,9 @@ use Rattle.pipe_model.specs.Pipelines.WholePrograms.{init_accesses}
 use Rattle.pipe_model.specs.Runs.Run.{EmptyRun}
 use Rattle.pipe_model.specs.Runs.State.{initial_state}
 use Rattle.program_laws.proofs.BoundedWork.{program_runs_are_bounded}
-use Rattle.program_laws.specs.WorkBounds.{most_instances}
+use Rattle.schedule_laws.specs.StartCounts.{most_instances}
 use Rattle.frame_book.specs.NewBooks.{new_book}
-use Rattle.frame_book.proofs.PlannedPrograms.{accepted_programs_are_planned}
+use Rattle.book_laws.proofs.PlannedPrograms.{accepted_programs_are_planned}
 use Rattle.stage_code.specs.FlatCode.{FlatCode}
 use Rattle.stage_code.specs.LimitRanges.{HasRangesOfLimits}
 use Rattle.serial_elision.proofs.PartRuns.{natural_most}

@@ -26,7 +26,7 @@ use Rattle.frame_book.specs.BookStates.{with_events}
 use Rattle.frame_book.specs.CallEffects.{after_begin}
 use Rattle.frame_book.specs.GivenTokens.{IsOutOf}
 use Rattle.frame_book.proofs.BookLogs.LogEntries.{events_of_with}
-use Rattle.program_laws.proofs.AllowedEvents.{begin_is_allowed}
+use Rattle.schedule_laws.proofs.AllowedEvents.{begin_is_allowed}
 use Rattle.run_laws.proofs.RunStates.FrameMoves.{frame_at_begun}
 use Rattle.run_laws.proofs.RunStates.LoopEnds.{iterations_begin_in_turn}
 use Rattle.stage_code.specs.FlatCode.{FlatCode}

@@ -20,7 +20,7 @@ use Rattle.frame_book.specs.BookStates.{TokenState, Out, Spent, events_of, item_
 use Rattle.frame_book.specs.CallEffects.{kept_now, with_entered}
 use Rattle.frame_book.specs.GivenTokens.{IsOutOf}
 use Rattle.frame_book.proofs.BookLogs.LogEntries.{events_of_with}
-use Rattle.program_laws.proofs.AllowedEvents.{allowed_events_are_next}
+use Rattle.schedule_laws.proofs.AllowedEvents.{allowed_events_are_next}
 use Rattle.run_laws.proofs.RunStates.FrameMoves.{enter_pending_is, entered_frame, frame_at_moved}
 use Rattle.run_laws.proofs.RunStates.Frames.{frame_at_within, length-update_frame}
 use Rattle.stage_code.specs.FlatCode.{FlatCode}

@@ -25,8 +25,8 @@ use Rattle.frame_book.specs.TokenLaws.{EndsNoneOf}
 use Rattle.frame_book.proofs.BookLogs.LogEntries.{state_after-push}
 use Rattle.frame_book.proofs.StartedInstances.OtherTokens.{tokens_stay_until_their_ends}
 use Rattle.order_2d.proofs.EventsSoFar.{without-append}
-use Rattle.program_laws.specs.ControlLaws.{AgreeInControl, HasControlRun}
-use Rattle.program_laws.proofs.ControlOutlines.{control_goes_by_outlines, control_skips_accesses, runs_have_control_runs}
+use Rattle.schedule_laws.specs.ControlLaws.{AgreeInControl, HasControlRun}
+use Rattle.schedule_laws.proofs.ControlOutlines.{control_goes_by_outlines, control_skips_accesses, runs_have_control_runs}
 use Rattle.stage_code.specs.FlatCode.{FlatCode}
 use Rattle.schedule_play.specs.RunningIterations.{RunningIterationState, IsRunningIteration}
 use Rattle.schedule_play.specs.OneAccess.{HasAllCells}

@@ -1,6 +1,6 @@
 use Rattle.std.proofs.Common.{◌≡◌, take}
 use Rattle.dag_build.specs.NodeColumns.{node_columns}
-use Rattle.program_laws.specs.WorkBounds.{instances_in}
+use Rattle.schedule_laws.specs.StartCounts.{instances_in}
 use Rattle.cilkp_program.proofs.program_run.instance_count.Given as goal
 
 abbrev pub invariant-loop-column : goal.invariant-loop-column

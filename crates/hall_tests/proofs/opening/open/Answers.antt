@@ -1,5 +1,5 @@
 use Rattle.std.proofs.Common.{subst, sym}
-use Rattle.frame_book.proofs.PlannedPrograms.{accepted_programs_are_planned}
+use Rattle.book_laws.proofs.PlannedPrograms.{accepted_programs_are_planned}
 use Rattle.frame_book.specs.NewBooks.{IsPlannedProgram}
 use Rattle.pipe_hall.specs.ShardParts.{HaveIdentities}
 use Rattle.pipe_model.specs.declared.tree.Program.{Program}

@@ -5,7 +5,7 @@ use Rattle.pipe_engine.proofs.Openings.{can_drive, map_both}
 use Rattle.pipe_hall.specs.SeatViews.{constants_of}
 use Rattle.pipe_model.specs.Language.CheckingRules.{cell_total}
 use Rattle.pipe_worker.specs.Machines.{cells_of}
-use Rattle.frame_book.proofs.PlannedPrograms.{accepted_programs_are_planned}
+use Rattle.book_laws.proofs.PlannedPrograms.{accepted_programs_are_planned}
 use Rattle.frame_book.specs.NewBooks.{IsPlannedProgram}
 use Rattle.pipe_hall.specs.ShardParts.{HaveIdentities}
 use Rattle.pipe_model.specs.declared.tree.Program.{Program}

@@ -3,11 +3,11 @@ use Rattle.std.specs.Result.{IfOk}
 use Rattle.pipe_frame.specs.Ties.{BelongsTo, ListIdentities}
 use Rattle.pipe_model.specs.declared.tree.Program.{Program}
 use Rattle.pipe_model.specs.Language.SyntaxTree.{tree_of}
-use Rattle.program_laws.specs.WorkBounds.{most_instances}
+use Rattle.schedule_laws.specs.StartCounts.{most_instances}
 use Rattle.stage_code.specs.FlatCode.{FlatCode}
 use Rattle.stage_interp.specs.RemainingBehaviour.{IsCodeOf}
 use Rattle.frame_book.specs.NewBooks.{IsPlannedProgram, new_book}
-use Rattle.frame_book.proofs.PlannedPrograms.{accepted_programs_are_planned}
+use Rattle.book_laws.proofs.PlannedPrograms.{accepted_programs_are_planned}
 use Rattle.schedule_play.specs.Runners.{CanRun, no_tie}
 use Rattle.schedule_play.proofs.opening.open_book.Goals as goal
 

@@ -9,7 +9,7 @@ use Rattle.std.specs.Prelude.{vec_capacity}
 use Rattle.pipe_model.specs.Language.Programs.{natural}
 use Rattle.pipe_model.specs.Language.SyntaxTree.{tree_of}
 use Rattle.frame_book.specs.NewBooks.{IsPlannedProgram}
-use Rattle.program_laws.specs.WorkBounds.{most_instances}
+use Rattle.schedule_laws.specs.StartCounts.{most_instances}
 use Rattle.frame_book.specs.IterationRows.{empty_row}
 use Rattle.frame_book.proofs.Keeping.New.{abs_is, non_neg_is, fits_small, new_keeps}
 use Rattle.frame_book.proofs.Iterations.AliveRows.{alive_none}

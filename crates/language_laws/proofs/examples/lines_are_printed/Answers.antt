@@ -1,7 +1,0 @@
-use Rattle.std.proofs.Common.{refl}
-use Rattle.std.specs.Fmt.{digits}
-use Rattle.language_laws.proofs.examples.lines_are_printed.Goals as goal
-
-pub returns : goal.returns
-unfolding digits
-returns c = (refl, refl)

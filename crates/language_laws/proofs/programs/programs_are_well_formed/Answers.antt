@@ -1,5 +1,0 @@
-use Rattle.language_laws.proofs.WellFormed.{accepted_is_well_formed}
-use Rattle.language_laws.proofs.programs.programs_are_well_formed.Goals as goal
-
-pub returns : goal.returns
-returns c = accepted_is_well_formed

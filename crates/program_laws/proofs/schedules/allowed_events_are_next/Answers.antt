@@ -1,5 +1,0 @@
-use Rattle.program_laws.proofs.AllowedEvents.{allowed_events_are_next}
-use Rattle.program_laws.proofs.schedules.allowed_events_are_next.Goals as goal
-
-pub returns : goal.returns
-returns c = allowed_events_are_next

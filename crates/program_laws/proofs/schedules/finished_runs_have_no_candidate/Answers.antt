@@ -1,5 +1,0 @@
-use Rattle.program_laws.proofs.PlayedSchedules.{finished_runs_have_no_candidate}
-use Rattle.program_laws.proofs.schedules.finished_runs_have_no_candidate.Goals as goal
-
-pub returns : goal.returns
-returns c = finished_runs_have_no_candidate
