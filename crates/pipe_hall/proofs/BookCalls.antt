@@ -1,5 +1,5 @@
 -- The calls of the book that start an instance, change nothing, or stop the run.
-use Rattle.std.proofs.Common.{◌≡◌, ◌≢◌, ℕ, zero, suc, ◌+◌, ◌<◌, ◌≤◌, ◌&&◌, max, List, [], ◌∷◌, ◌++◌, map, length, get_or, set, refl}
+use Rattle.std.proofs.Common.{◌≡◌, ◌≢◌, ℕ, zero, suc, ◌+◌, ◌<◌, ◌≤◌, ◌&&◌, max, List, [], ◌∷◌, ◌++◌, map, length, get_or, set, refl, ◌==◌}
 use Rattle.std.proofs.Common.{sym, ap, ap₂, ◌∙◌, subst, arith, cond, ne_eqb, Bool, true, false, Option, Some, None, append-nil}
 use Rattle.std.proofs.lemmas.List.{length-append, map-append, same_from_push, length_push, get_or_push, length-set, length-map}
 use mathlib.Core.Logic.{dite}

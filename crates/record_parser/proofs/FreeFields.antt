@@ -1,7 +1,7 @@
 -- Fields have no space in them, so a text is divided at its spaces in one way.
-use Rattle.std.proofs.Common.{◌≡◌, ◌≢◌, ◌∙◌, ap, sym, subst, refl, arith, ℕ, ℤ, pos, negsuc, suc, ◌<◌, ◌^◌, List, [], ◌∷◌, Bool, true}
+use Rattle.std.proofs.Common.{◌≡◌, ◌≢◌, ◌∙◌, ap, sym, subst, refl, arith, ℕ, ℤ, pos, negsuc, suc, ◌<◌, ◌^◌, List, [], ◌∷◌, ◌++◌, Bool, true}
 use Rattle.std.proofs.Common.{false, FitsSigned}
-use Rattle.std.specs.Prelude.{◌&&◌, not}
+use Rattle.std.specs.Prelude.{◌==◌, ◌&&◌, not}
 use Rattle.std.specs.Fmt.{decimal, signed_decimal}
 use Rattle.std.specs.Int.{IsInRange}
 use Rattle.std.specs.List.{list_all}
@@ -21,7 +21,8 @@ use Rattle.record_parser.specs.LogForms.{space, word_text}
 use Rattle.record_parser.specs.declared.log_word.LogWord.{LogWord}
 use Rattle.record_parser.specs.declared.log_word.LogWord.TheVariants as words
 use Rattle.record_parser.specs.RecordLines.{IsIteration}
-use Rattle.record_parser.proofs.Divisions.{free_cons}
+use Rattle.record_parser.specs.OutcomeForms.{EndsInAccess, IsInstanceText, slash}
+use Rattle.record_parser.proofs.Divisions.{at_last, free_append, free_cons}
 use Rattle.record_parser.proofs.PlainDecimals.{own}
 
 -- ---- words
@@ -76,6 +77,9 @@ trap_letters traps.InputEnd = refl
 trap_letters traps.IterLimit = refl
 trap_letters traps.OutputLimit = refl
 
+pub kind_free : (b : ℕ) (kind : AccessKind) → is_letter b ≡ false → IsFreeOf b (kind_text kind)
+kind_free b kind other = free_by is_letter b (kind_text kind) other (kind_letters kind)
+
 pub word_free : (b : ℕ) (w : LogWord) → is_letter b ≡ false → IsFreeOf b (word_text w)
 word_free b w other = free_by is_letter b (word_text w) other (word_letters w)
 
@@ -103,3 +107,19 @@ pub no_sign : 45 ≢ space
 no_sign e = omega (arith, e)
 
 -- ---- instances
+
+pub no_digit_slash : IsInRange 48 57 slash → ⊥
+no_digit_slash r = let low = r.0 in omega (arith, low)
+
+pub instance_free : (text : List ℕ) → IsInstanceText text → IsFreeOf space text
+instance_free text h = subst (IsFreeOf space) (sym h.is)
+    (free_append space (decimal h.iteration) (slash ∷ signed_decimal h.number) (iteration_free space h.iteration h.within no_digit)
+    (free_cons space slash (signed_decimal h.number) (λ e. omega (arith, e)) (signed_free space h.number h.fits no_digit no_sign)))
+
+-- a text ends in one access
+pub one_access : (text before other : List ℕ) → EndsInAccess text before → EndsInAccess text other → before ≡ other
+one_access text before other h g =
+    let parts = at_last space text (before ++ space ∷ kind_text h.kind) h.instance (other ++ space ∷ kind_text g.kind) g.instance
+    h.is (instance_free h.instance h.is_instance) g.is (instance_free g.instance g.is_instance) in
+    (at_last space (before ++ space ∷ kind_text h.kind) before (kind_text h.kind) other (kind_text g.kind) refl
+    (kind_free space h.kind refl) parts.0 (kind_free space g.kind refl)).0

@@ -12,7 +12,7 @@ use Rattle.pipe_model.specs.declared.tree.Declaration.{Declaration}
 use Rattle.pipe_model.specs.Texts.{instance_text, kind_text, race_line, trap_name, trap_place}
 use Rattle.race_report.specs.CellNames.{cell_name}
 use Rattle.record_parser.specs.LogForms.{space}
-use Rattle.record_parser.specs.OutcomeForms.{AtInstance, InFinal, InInit, IsInstanceText, IsPlaceText, IsRaceText}
+use Rattle.record_parser.specs.OutcomeForms.{AtInstance, InFinal, InInit, IsInstanceText, IsOutcomeTrapText, IsPlaceText, IsRaceText}
 use Rattle.record_parser.specs.OutcomeForms.{IsWordedOutcome, RaceLine, TrapLine, slash}
 use Rattle.record_parser.specs.RecordLines.{IsIteration, IsOutcomeLine, IsOutput, IsPlaceInRanges, IsRace, IsTrap, line_feed}
 
@@ -35,6 +35,27 @@ race_text name kind instance kind' instance' =
     ∙ cut ((name ++ space ∷ kind) ++ space ∷ instance) kind' (space ∷ last)
     ∙ cut (name ++ space ∷ kind) instance (space ∷ three)
     ∙ cut name kind (space ∷ two))
+
+-- the race that the parts of a line say; the index of an instance is not in the line
+race_of_parts : (cells : List Declaration) (line text : List ℕ) (h : IsRaceText cells text) → line ≡ codes "race" ++ space ∷ text
+    → IsOutcomeLine cells line
+race_of_parts cells line text h e = IsRace (record {
+  cell = record { 0 = h.cell };
+  earlier = record { iteration = h.earlier.is_instance.iteration; index = 0 };
+  earlier_number = h.earlier.is_instance.number;
+  earlier_kind = h.earlier.kind;
+  later = record { iteration = h.later.is_instance.iteration; index = 0 };
+  later_number = h.later.is_instance.number;
+  later_kind = h.later.kind;
+}) (record {
+  cell = h.within;
+  earlier = (h.earlier.is_instance.within, h.earlier.is_instance.fits);
+  later = (h.later.is_instance.within, h.later.is_instance.fits);
+}) (ap (λ l. l ++ line_feed ∷ []) (e ∙ ap (λ t. codes "race" ++ space ∷ t) whole) ∙ race_text name (kind_text h.earlier.kind) first
+    (kind_text h.later.kind) second)
+  where
+    name : List ℕ
+    name = cell_name cells h.cell
 
     first : List ℕ
     first = decimal h.earlier.is_instance.iteration ++ slash ∷ signed_decimal h.earlier.is_instance.number
@@ -62,13 +83,34 @@ pub record HasTrapPlace (text : List ℕ) : Type 0 where
   pub ranges : IsPlaceInRanges place
   pub text_is : text ≡ trap_place place
 
+place_of_text : (text : List ℕ) → IsPlaceText text → HasTrapPlace text
+place_of_text text (InInit e) = record { place = places.Init; ranges = tt; text_is = e }
+place_of_text text (InFinal e) = record { place = places.Last; ranges = tt; text_is = e }
+place_of_text text (AtInstance instance h e) = record {
+  place = places.At (record { iteration = h.iteration; index = 0 }) h.number;
+  ranges = (h.within, h.fits);
+  text_is = e ∙ ap (λ i. codes "at" ++ space ∷ i) h.is;
+}
+
 text_of_place : (p : TrapPlace) → IsPlaceInRanges p → IsPlaceText (trap_place p)
 text_of_place places.Init r = InInit refl
 text_of_place (places.At node n) r = AtInstance (decimal node.iteration ++ slash ∷ signed_decimal n)
     (instance_parts node.iteration n r.0 r.1) refl
 text_of_place places.Last r = InFinal refl
 
+trap_of_parts : (cells : List Declaration) (line text : List ℕ) → IsOutcomeTrapText text → line ≡ codes "trap" ++ space ∷ text
+    → IsOutcomeLine cells line
+trap_of_parts cells line text h e =
+    let p = place_of_text h.place h.is_place in
+    IsTrap (record { trap = h.trap; place = p.place }) p.ranges
+    (ap (λ l. l ++ line_feed ∷ []) (e ∙ ap (λ t. codes "trap" ++ space ∷ t) (h.is ∙ ap (λ x. trap_name h.trap ++ space ∷ x) p.text_is))
+    ∙ trap_text (trap_name h.trap) (trap_place p.place))
+
 -- ---- both
+
+pub outcome_of_worded : (cells : List Declaration) (line : List ℕ) → IsWordedOutcome cells line → IsOutcomeLine cells line
+outcome_of_worded cells line (RaceLine text h e) = race_of_parts cells line text h e
+outcome_of_worded cells line (TrapLine text h e) = trap_of_parts cells line text h e
 
 worded_race : (cells : List Declaration) (line : List ℕ) (r : Report) → IsRaceText cells
     ((((cell_name cells r.cell.0 ++ space ∷ kind_text r.earlier_kind) ++ space ∷ instance_text r.earlier r.earlier_number)

@@ -1,5 +1,5 @@
 -- The actions of an iteration in a merge rise, so they are its trace.
-use Rattle.std.proofs.Common.{List, ◌≡◌, [], ◌∷◌, inl, sym, ◌∙◌, inr, ap, arith, refl, ℕ, ◌<◌, ◌%◌, Bool, ◌++◌, true, false, subst}
+use Rattle.std.proofs.Common.{List, ◌≡◌, [], ◌∷◌, inl, sym, ◌∙◌, inr, ap, arith, refl, ℕ, ◌<◌, ◌%◌, Bool, ◌++◌, true, false, subst, ◌==◌}
 use Rattle.std.proofs.Common.{map}
 use Rattle.pipe_model.specs.Pipelines.Behaviour.{Staged, Ended, Accessed, Action, Performs}
 use Rattle.pipe_model.specs.Runs.ControlRun.{is_access}
