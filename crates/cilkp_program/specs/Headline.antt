@@ -9,6 +9,7 @@ use Rattle.pipe_model.specs.Language.SyntaxTree.{SyntaxTree}
 use Rattle.pipe_model.specs.Texts.{trap_lines}
 use Rattle.pipe_model.specs.Runs.Throttling.{IsThrottled}
 use Rattle.pipe_model.specs.Runs.WholeProgramRuns.{IsFinishedProgramRun}
+use Rattle.cilkp_program.specs.declared.status.TheConstants as statuses
 use Rattle.cilkp_program.specs.CommandFiles.{NamesInput, NamesSource, RunsUnder}
 use Rattle.race_report.specs.CellNames.{race_lines}
 use Rattle.pipe_io.specs.Reads.{Content}
@@ -35,13 +36,13 @@ pub record AgreesWithElision (tree : SyntaxTree) (input : List ℤ) (reports : L
   -- no cell is reported exactly if the dag of the serial elision has no race
   pub silent : (reports ≡ []) ↔ ElisionHasNoRace tree input
   -- the status is 2 exactly if the dag of the serial elision has a race, and then the races are printed
-  pub racy : (status ≡ 2) ↔ (ElisionHasNoRace tree input → ⊥)
-  pub races : status ≡ 2 → text ≡ race_lines tree.cells reports
+  pub racy : (status ≡ statuses.RACES) ↔ (ElisionHasNoRace tree input → ⊥)
+  pub races : status ≡ statuses.RACES → text ≡ race_lines tree.cells reports
   -- otherwise the output and the trap of the serial elision are printed, with status 3 exactly if it has a trap, and status 0 exactly if
   -- not
   pub otherwise : ElisionHasNoRace tree input → text ≡ elision_output_text tree input ++ trap_lines (elision_trap tree input)
-  pub trapped : (status ≡ 3) ↔ (ElisionHasNoRace tree input × (elision_trap tree input ≢ None))
-  pub untrapped : (status ≡ 0) ↔ (ElisionHasNoRace tree input × (elision_trap tree input ≡ None))
+  pub trapped : (status ≡ statuses.TRAPPED) ↔ (ElisionHasNoRace tree input × (elision_trap tree input ≢ None))
+  pub untrapped : (status ≡ statuses.FINISHED) ↔ (ElisionHasNoRace tree input × (elision_trap tree input ≡ None))
 
 -- a run of the program under the throttling limit: its log, its reports, and the status and the text of the call
 pub record MeetsHeadline (tree : SyntaxTree) (input : List ℤ) (limit : ℕ) (log : RunLog) (reports : List Report) (status : ℕ)
@@ -58,4 +59,4 @@ pub record MeetsHeadline (tree : SyntaxTree) (input : List ℤ) (limit : ℕ) (l
 
 -- the status is that of a program that was run: 0, 2 or 3
 abbrev pub IsRunStatus : ℕ → Type 0
-IsRunStatus status = (status ≡ 0) ⊎ ((status ≡ 2) ⊎ (status ≡ 3))
+IsRunStatus status = (status ≡ statuses.FINISHED) ⊎ ((status ≡ statuses.RACES) ⊎ (status ≡ statuses.TRAPPED))

@@ -11,6 +11,7 @@ pub mod program_play;
 pub mod program_run;
 pub mod refusal;
 mod saved_run;
+pub mod status;
 pub mod text;
 mod wave_loop;
 mod work_and_span;
