@@ -27,7 +27,7 @@ pub trait Orders {
         ensures order { IsTrue result ↔ StandsBefore (down_first self.old) a.now.down_first b.now.down_first }
         ensures down { KeepsOrder (down_first self.old) (down_first self.new) }
         ensures right { KeepsOrder (right_first self.old) (right_first self.new) }
-        ensures same { identity self.new ≡ identity self.old };
+        ensures unchanged { identity self.new ≡ identity self.old };
 
     /// Returns whether the first instance is strictly before the second in the right-first list.
     /// Both must be in the lists.
@@ -37,5 +37,5 @@ pub trait Orders {
         ensures order { IsTrue result ↔ StandsBefore (right_first self.old) a.now.right_first b.now.right_first }
         ensures down { KeepsOrder (down_first self.old) (down_first self.new) }
         ensures right { KeepsOrder (right_first self.old) (right_first self.new) }
-        ensures same { identity self.new ≡ identity self.old };
+        ensures unchanged { identity self.new ≡ identity self.old };
 }
