@@ -89,8 +89,8 @@ abbrev pub LogsGrowAtTheirEnd : Type 0
 LogsGrowAtTheirEnd = OfEachRun (λ limit events s. (e : Event) → ControlAllows limit s e → AddsEntries events s e)
 
 -- each entry of both logs of a run names an element that is already in the list
-abbrev pub LogsNameWhatStands : Type 0
-LogsNameWhatStands = OfEachRun (λ limit events s.
+abbrev pub LogsNameEarlierElements : Type 0
+LogsNameEarlierElements = OfEachRun (λ limit events s.
     IsLog 1 (down_first_log (starts_of events)) × IsLog 1 (right_first_log (own_columns s) (starts_of events)))
 
 -- a longer log keeps the order of the elements that were there

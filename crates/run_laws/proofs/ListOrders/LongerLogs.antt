@@ -11,7 +11,7 @@ use Rattle.run_laws.proofs.ListOrders.StartNumbers.{counted_down, counted_right}
 use Rattle.run_laws.proofs.ListOrders.StartPlaces.{IsCounted}
 use Rattle.run_laws.proofs.ListOrders.SoundStarts.{of_each_run}
 use Rattle.run_laws.proofs.ListOrders.StartsOfRuns.{are_columns}
-use Rattle.run_laws.specs.OrderLaws.{LongerLogsKeepTheOrder, LogsNameWhatStands}
+use Rattle.run_laws.specs.OrderLaws.{LongerLogsKeepTheOrder, LogsNameEarlierElements}
 
 module _ (x y : ℕ) where
   -- further entries keep the order of two elements
@@ -79,8 +79,8 @@ counted_is_log columns starts taken ord c = log_entries_are_log taken 0 starts (
     omega (arith, once, b))
 
 -- the logs of a run
-pub logs_name_what_stands : LogsNameWhatStands
-logs_name_what_stands = of_each_run (λ limit events s r. let h = r.sound in (
+pub logs_name_earlier_elements : LogsNameEarlierElements
+logs_name_earlier_elements = of_each_run (λ limit events s r. let h = r.sound in (
   counted_is_log (own_columns s) (starts_of events) (down_first_taken (start_number (starts_of events))) h.ordered
       (counted_down (own_columns s) (starts_of events) (are_columns s.frames (starts_of events) h) h.ordered),
   counted_is_log (own_columns s) (starts_of events)
