@@ -10,7 +10,7 @@ use Rattle.pipe_model.specs.declared.node.NodeId.{NodeId}
 use Rattle.pipe_model.specs.Orders.AccessHistory.{AccessHistory, FoundRace}
 use Rattle.pipe_model.specs.Orders.GrowingLists.{AreIn}
 use Rattle.pipe_model.specs.Orders.HistoryStates.{history_after}
-use Rattle.pipe_model.specs.Orders.OrderList.{StandsBefore}
+use Rattle.pipe_model.specs.Orders.OrderList.{IsBeforeIn}
 use Rattle.pipe_model.specs.Races.CellRaces.{NotedAccess, access_at, noted_access}
 
 -- the history of no accesses
@@ -39,8 +39,8 @@ pub record KeepsAmong (h : History) (x : MarkedNode) (h' : History) : Type 0 whe
 
 -- y is before x in each order exactly if y's element is before x's element in the list
 pub record AgreeOn (down_first right_first : List ℕ) (down right : NodeId → ℕ) (x y : MarkedNode) : Type 0 where
-  pub in_down : StandsBefore down_first y.marks.down_first x.marks.down_first ↔ (down y.node < down x.node)
-  pub in_right : StandsBefore right_first y.marks.right_first x.marks.right_first ↔ (right y.node < right x.node)
+  pub in_down : IsBeforeIn down_first y.marks.down_first x.marks.down_first ↔ (down y.node < down x.node)
+  pub in_right : IsBeforeIn right_first y.marks.right_first x.marks.right_first ↔ (right y.node < right x.node)
 
 -- the orders agree with the lists on x and each kept instance
 abbrev pub AgreeOnKept : List ℕ → List ℕ → (NodeId → ℕ) → (NodeId → ℕ) → MarkedNode → History → Type 0

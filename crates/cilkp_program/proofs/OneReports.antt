@@ -38,7 +38,8 @@ first_race_report : (columns : List (List Node)) (accesses : List NodeAccess) (c
     → ReportsFirstRaceOfCell columns accesses r
     → IsFirstRaceReport columns accesses cell r
 first_race_report columns accesses cell r e h =
-    subst (λ c. IsFirstRaceReport columns accesses c r) e (record { earlier = h.earlier; later = h.later; first = h.first; known = h.told })
+    subst (λ c. IsFirstRaceReport columns accesses c r) e
+    (record { earlier = h.earlier; later = h.later; first = h.first; known = h.report_is })
 
 -- a cell has at most one report of its first race
 one_report : (columns : List (List Node)) (accesses : List NodeAccess) (cell : ℕ) (r s : Report) → IsFirstRaceReport columns accesses cell r

@@ -3,6 +3,7 @@ use Rattle.std.specs.Prelude.{◌≡◌, ℕ, ℤ, List, [], length, Option, Som
 use Rattle.pipe_model.specs.declared.event.RunLog.{RunLog}
 use Rattle.pipe_model.specs.declared.report.Report.{Report}
 use Rattle.pipe_model.specs.Language.SyntaxTree.{SyntaxTree}
+use Rattle.pipe_model.specs.declared.exit_status.TheConstants as statuses
 use Rattle.cilkp_program.specs.Benchmarks.{IsGenerated, elision_summary}
 use Rattle.cilkp_program.specs.TakenText.{HasTaken}
 use Rattle.cilkp_words.specs.Commands.{Command, Bench}
@@ -17,7 +18,7 @@ pub record IsToBench (asked : Option Command) (tree : SyntaxTree) (numbers : Lis
 -- the summary was written completely, with status 0, no run log and no reports
 pub record ReturnsSummary (tree : SyntaxTree) (numbers : List ℤ) (status written : ℕ) (run_log : Option RunLog) (reports : List Report)
     (taken_before taken_now : Option (List ℕ)) : Type 0 where
-  pub done : status ≡ 0
+  pub done : status ≡ statuses.FINISHED
   pub whole : written ≡ length (elision_summary tree numbers)
   pub taken : HasTaken written (elision_summary tree numbers) taken_before taken_now
   pub unlogged : run_log ≡ None

@@ -4,6 +4,7 @@ use Rattle.pipe_model.specs.declared.event.RunLog.{RunLog}
 use Rattle.pipe_model.specs.declared.report.Report.{Report}
 use Rattle.pipe_model.specs.Language.CanonicalText.{program_text}
 use Rattle.pipe_model.specs.Language.SyntaxTree.{SyntaxTree}
+use Rattle.pipe_model.specs.declared.exit_status.TheConstants as statuses
 use Rattle.cilkp_program.specs.TakenText.{HasTaken}
 use Rattle.pipe_io.specs.Reads.{Content}
 use Rattle.cilkp_program.specs.ProgramFiles.{IsSourceOf}
@@ -18,7 +19,7 @@ pub record IsToFormat (asked : Option Command) (content : Content) (tree : Synta
 -- the canonical text of the program was written completely, with status 0, and nothing was run
 pub record ReturnsText (tree : SyntaxTree) (status written : ℕ) (run_log : Option RunLog) (reports : List Report)
     (taken_before taken_now : Option (List ℕ)) : Type 0 where
-  pub done : status ≡ 0
+  pub done : status ≡ statuses.FINISHED
   pub whole : written ≡ length (program_text tree)
   pub taken : HasTaken written (program_text tree) taken_before taken_now
   pub not_run : run_log ≡ None

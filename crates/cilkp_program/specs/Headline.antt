@@ -3,6 +3,7 @@ use Rattle.std.specs.Prelude.{◌≡◌, ◌≤◌, ◌⊎◌, ℕ, ℤ, List, O
 use Rattle.pipe_model.specs.declared.event.RunLog.{RunLog}
 use Rattle.pipe_model.specs.declared.report.Report.{Report}
 use Rattle.pipe_model.specs.Language.SyntaxTree.{SyntaxTree}
+use Rattle.pipe_model.specs.declared.exit_status.TheConstants as statuses
 use Rattle.cilkp_program.specs.CommandFiles.{NamesInput, NamesSource, RunsUnder}
 use Rattle.program_laws.specs.ProgramHeadline as laws
 use Rattle.race_report.specs.CellNames.{race_lines}
@@ -34,4 +35,4 @@ MeetsHeadline tree input limit log reports status text =
 
 -- the status of a program that was run is 0, 2 or 3
 abbrev pub IsRunStatus : ℕ → Type 0
-IsRunStatus status = (status ≡ 0) ⊎ ((status ≡ 2) ⊎ (status ≡ 3))
+IsRunStatus status = (status ≡ statuses.FINISHED) ⊎ ((status ≡ statuses.RACES) ⊎ (status ≡ statuses.TRAPPED))

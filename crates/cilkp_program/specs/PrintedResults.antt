@@ -6,6 +6,7 @@ use Rattle.pipe_model.specs.Language.SyntaxTree.{SyntaxTree}
 use Rattle.pipe_model.specs.Texts.{fault_read}
 use Rattle.pipe_io.specs.Faults.{CountRose}
 use Rattle.pipe_io.specs.Reads.{Content}
+use Rattle.pipe_model.specs.declared.exit_status.TheConstants as statuses
 use Rattle.cilkp_program.specs.CommandFiles.{CanRunBy, NamesInput, NamesRecord, NamesSource, asks_wave}
 use Rattle.cilkp_program.specs.ProgramFiles.{AreHeldBy, FileContents, IsInputOf, IsSourceOf}
 use Rattle.cilkp_program.specs.ResultTable.{ResultRow}
@@ -30,17 +31,17 @@ pub data IsCallResult (asked : Option Command) (holds : Option Content) (before 
       → IsRow asked holds status text log reports
       → IsCallResult asked holds before now status text log reports
   SourceFault : (source : List ℕ) → before ≤ now → CountRose before now → NamesSource asked source
-      → IsCallResult asked holds before now 4 (fault_read source) None []
+      → IsCallResult asked holds before now statuses.READ_FAULT (fault_read source) None []
   InputFault : (source input : List ℕ) (file : Option (List ℕ)) (tree : SyntaxTree) → before ≤ now → CountRose before now
       → NamesSource asked source
       → NamesInput asked input
       → IfSome holds (λ content. content source ≡ file) → IsSourceOf file tree → CanRunBy (asks_wave asked) tree
-      → IsCallResult asked holds before now 4 (fault_read input) None []
+      → IsCallResult asked holds before now statuses.READ_FAULT (fault_read input) None []
   RecordFault : (source input saved : List ℕ) (file other : Option (List ℕ)) (tree : SyntaxTree) (numbers : List ℤ) → before ≤ now
       → CountRose before now
       → NamesSource asked source → NamesInput asked input → NamesRecord asked saved → IfSome holds (λ content. content source ≡ file)
       → IfSome holds (λ content. content input ≡ other) → IsSourceOf file tree → IsInputOf other numbers
-      → IsCallResult asked holds before now 4 (fault_read saved) None []
+      → IsCallResult asked holds before now statuses.READ_FAULT (fault_read saved) None []
 
 -- the call's text was written completely
 pub record IsPrinted (asked : Option Command) (holds : Option Content) (faults_before faults_now status written : ℕ) (log : Option RunLog)

@@ -12,6 +12,7 @@ use Rattle.record_check.specs.declared.answer.RunKind.{RunKind}
 use Rattle.record_check.specs.declared.answer.RunKind.TheVariants.{Finished, Unfinished, Stopped}
 use Rattle.record_parser.specs.RecordLines.{IsFirstBadLine, IsRecord, lines_of}
 use Rattle.record_parser.specs.declared.bounds.TheConstants.{LONGEST_RECORD}
+use Rattle.pipe_model.specs.declared.exit_status.TheConstants as statuses
 
 -- the line that says how far a run is
 abbrev pub kind_line : RunKind → List ℕ
@@ -21,8 +22,8 @@ kind_line Stopped = codes "run stopped\n"
 
 -- the status of a run with these races
 abbrev pub status_of_reports : List Report → ℕ
-status_of_reports [] = 0
-status_of_reports (r ∷ rs) = 2
+status_of_reports [] = statuses.FINISHED
+status_of_reports (r ∷ rs) = statuses.RACES
 
 -- the line that refuses a record of this name: there is no such file, it is too long, or it has a line of no known form
 pub data RecordRefusal (tree : SyntaxTree) (name : List ℕ) (file : Option (List ℕ)) : List ℕ → Type 0 where
@@ -43,9 +44,10 @@ pub record IsRecordOf (tree : SyntaxTree) (file : Option (List ℕ)) (events : L
 -- event on, or they are a run, whose log and races are returned
 pub data RecordResult (tree : SyntaxTree) (numbers : List ℤ) (throttle : ℕ) (name : List ℕ) (file : Option (List ℕ))
     : ℕ → List ℕ → Option RunLog → List Report → Type 0 where
-  NoRecord : {text : List ℕ} → RecordRefusal tree name file text → RecordResult tree numbers throttle name file 1 text None []
+  NoRecord : {text : List ℕ} → RecordRefusal tree name file text
+      → RecordResult tree numbers throttle name file statuses.REFUSED text None []
   NoRun : (events : List Event) (k : ℕ) → IsRecordOf tree file events → IsRefusedRecord (whole_of tree numbers) throttle events k
-      → RecordResult tree numbers throttle name file 1 (numbered_line (codes "refused record NotAllowed at ") k) None []
+      → RecordResult tree numbers throttle name file statuses.REFUSED (numbered_line (codes "refused record NotAllowed at ") k) None []
   RunOf : (events : List Event) (kind : RunKind) (log : RunLog) (reports : List Report) → IsRecordOf tree file events
       → IsCheckedRecord (whole_of tree numbers) throttle events kind log reports
       → RecordResult tree numbers throttle name file (status_of_reports reports) (kind_line kind ++ race_lines tree.cells reports)

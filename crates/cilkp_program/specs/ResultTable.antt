@@ -5,6 +5,7 @@ use Rattle.pipe_model.specs.declared.report.Report.{Report}
 use Rattle.pipe_model.specs.Language.CanonicalText.{program_text}
 use Rattle.pipe_model.specs.Language.SyntaxTree.{SyntaxTree}
 use Rattle.pipe_model.specs.Texts.{refused_usage}
+use Rattle.pipe_model.specs.declared.exit_status.TheConstants as statuses
 use Rattle.cilkp_program.specs.Benchmarks.{IsGenerated, elision_summary}
 use Rattle.cilkp_program.specs.CommandFiles.{CanRunBy, NamesInput, NamesSource, asks_record, asks_wave, program_by}
 use Rattle.cilkp_program.specs.ProgramFiles.{AreAccepted, FileContents, InputRefusal, IsSourceOf, SourceRefusal}
@@ -33,19 +34,19 @@ pub data IsLogOf (asked : Option Command) (tree : SyntaxTree) (numbers : List �
 -- refuses a program that is no wave
 -- loop before its input, and otherwise has a run of the lowered program, as `run` has one. All other commands have one result
 pub data ResultRow (asked : Option Command) (held : FileContents) : ℕ → List ℕ → Option RunLog → List Report → Type 0 where
-  NoCommand : asked ≡ None → ResultRow asked held 1 refused_usage None []
+  NoCommand : asked ≡ None → ResultRow asked held statuses.REFUSED refused_usage None []
   SourceRefused : (source : List ℕ) {text : List ℕ} → NamesSource asked source → SourceRefusal source held.source text
-      → ResultRow asked held 1 text None []
+      → ResultRow asked held statuses.REFUSED text None []
   Formats : (source : List ℕ) (tree : SyntaxTree) → asked ≡ Some (Format source) → IsSourceOf held.source tree
-      → ResultRow asked held 0 (program_text tree) None []
+      → ResultRow asked held statuses.FINISHED (program_text tree) None []
   Benches : (seed size : ℕ) (tree : SyntaxTree) (numbers : List ℤ) → asked ≡ Some (Bench seed size) → IsGenerated seed size tree numbers
-      → ResultRow asked held 0 (elision_summary tree numbers) None []
+      → ResultRow asked held statuses.FINISHED (elision_summary tree numbers) None []
   WaveRefused : (source input : List ℕ) (workers throttle : ℕ) {text : List ℕ} (tree : SyntaxTree)
       → asked ≡ Some (Wave source input workers throttle)
-      → IsSourceOf held.source tree → IsRefusedWave held.source tree text → ResultRow asked held 1 text None []
+      → IsSourceOf held.source tree → IsRefusedWave held.source tree text → ResultRow asked held statuses.REFUSED text None []
   InputRefused : (input : List ℕ) {text : List ℕ} (tree : SyntaxTree) → NamesInput asked input → IsSourceOf held.source tree
       → CanRunBy (asks_wave asked) tree
-      → InputRefusal input held.input text → ResultRow asked held 1 text None []
+      → InputRefusal input held.input text → ResultRow asked held statuses.REFUSED text None []
   Runs : (throttle : ℕ) {status : ℕ} {text : List ℕ} {reports : List Report} (log : RunLog) (tree : SyntaxTree) (numbers : List ℤ)
       → IsLogOf asked tree numbers throttle log → AreAccepted held tree numbers
       → IsRecordedRun (asks_record asked) (program_by (asks_wave asked) tree) numbers throttle log reports status text
@@ -59,4 +60,4 @@ pub data ResultRow (asked : Option Command) (held : FileContents) : ℕ → List
       (numbers : List ℤ) → asked ≡ Some (CheckRecord source input saved throttle) → AreAccepted held tree numbers
       → RecordResult tree numbers throttle saved held.saved status text log reports → ResultRow asked held status text log reports
   Weighs : (source input : List ℕ) {text : List ℕ} (tree : SyntaxTree) (numbers : List ℤ) → asked ≡ Some (Span source input)
-      → AreAccepted held tree numbers → IsSpanText tree numbers text → ResultRow asked held 0 text None []
+      → AreAccepted held tree numbers → IsSpanText tree numbers text → ResultRow asked held statuses.FINISHED text None []

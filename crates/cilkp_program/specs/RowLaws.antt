@@ -2,6 +2,7 @@
 use Rattle.std.specs.Prelude.{◌≡◌, ◌≢◌, false, ℕ, List, Option}
 use Rattle.pipe_model.specs.declared.event.RunLog.{RunLog}
 use Rattle.pipe_model.specs.declared.report.Report.{Report}
+use Rattle.pipe_model.specs.declared.exit_status.TheConstants as statuses
 use Rattle.cilkp_program.specs.CommandFiles.{AsksRun, asks_record}
 use Rattle.cilkp_program.specs.ProgramFiles.{FileContents}
 use Rattle.cilkp_program.specs.ResultTable.{ResultRow}
@@ -23,4 +24,4 @@ CallsHaveOneStatus = (asked : Option Command) (held : FileContents) (status othe
     (log other_log : Option RunLog)
     (reports other_reports : List Report)
     → ResultRow asked held status text log reports → ResultRow asked held other_status other_text other_log other_reports
-    → (status ≡ other_status) × (asks_record asked ≡ false → status ≢ 2 → text ≡ other_text)
+    → (status ≡ other_status) × (asks_record asked ≡ false → status ≢ statuses.RACES → text ≡ other_text)

@@ -13,6 +13,7 @@ use Rattle.pipe_model.specs.Language.ProgramsOfTrees.{whole_of}
 use Rattle.pipe_model.specs.Language.SyntaxTree.{SyntaxTree}
 use Rattle.pipe_model.specs.Texts.{output_lines, trap_line}
 use Rattle.race_report.specs.CellNames.{race_lines}
+use Rattle.pipe_model.specs.declared.exit_status.TheConstants as statuses
 
 abbrev pub elision_output : SyntaxTree → List ℤ → List ℤ
 elision_output tree input = program_output (whole_of tree input)
@@ -43,7 +44,8 @@ ElisionHasNoRace tree input = IsRaceFree (elision_columns tree input) (elision_a
 pub data ElisionResult (tree : SyntaxTree) (input : List ℤ) : ℕ → List ℕ → List Report → Type 0 where
   Races : (reports : List Report) → (ElisionHasNoRace tree input → ⊥) → AreFirstRaces (elision_columns tree input)
       (elision_accesses tree input) reports
-      → ElisionResult tree input 2 (race_lines tree.cells reports) reports
-  Finishes : ElisionHasNoRace tree input → elision_trap tree input ≡ None → ElisionResult tree input 0 (elision_output_text tree input) []
+      → ElisionResult tree input statuses.RACES (race_lines tree.cells reports) reports
+  Finishes : ElisionHasNoRace tree input → elision_trap tree input ≡ None
+      → ElisionResult tree input statuses.FINISHED (elision_output_text tree input) []
   Traps : (t : TrapAt) → ElisionHasNoRace tree input → elision_trap tree input ≡ Some t
-      → ElisionResult tree input 3 (elision_output_text tree input ++ trap_line t) []
+      → ElisionResult tree input statuses.TRAPPED (elision_output_text tree input ++ trap_line t) []

@@ -4,6 +4,7 @@ use Rattle.pipe_model.specs.declared.event.RunLog.{RunLog}
 use Rattle.pipe_model.specs.declared.report.Report.{Report}
 use Rattle.pipe_model.specs.Language.SyntaxTree.{SyntaxTree}
 use Rattle.pipe_io.specs.Reads.{Content}
+use Rattle.pipe_model.specs.declared.exit_status.TheConstants as statuses
 use Rattle.cilkp_program.specs.ProgramFiles.{IsInputOf, IsSourceOf}
 use Rattle.cilkp_program.specs.SpanResults.{IsSpanText}
 use Rattle.cilkp_program.specs.TakenText.{HasTaken}
@@ -22,7 +23,7 @@ pub record IsToWeigh (asked : Option Command) (content : Content) (tree : Syntax
 pub record ReturnsSpan (tree : SyntaxTree) (numbers : List ℤ) (status written : ℕ) (run_log : Option RunLog) (reports : List Report)
     (taken_before taken_now : Option (List ℕ)) : Type 0 where
   pub text : List ℕ
-  pub done : status ≡ 0
+  pub done : status ≡ statuses.FINISHED
   pub whole : written ≡ length text
   pub taken : HasTaken written text taken_before taken_now
   pub weighed : IsSpanText tree numbers text

@@ -15,6 +15,7 @@ use Rattle.wave_laws.specs.Waves.GridResults.{grid_accesses, grid_nodes, grid_ou
 use Rattle.wave_laws.specs.Waves.LoweredLoops.{lowered}
 use Rattle.wave_laws.specs.Waves.WaveLoops.{IsWave}
 use Rattle.pipe_io.specs.Reads.{Content}
+use Rattle.pipe_model.specs.declared.exit_status.TheConstants as statuses
 use Rattle.cilkp_program.specs.Headline.{IsRunStatus}
 use Rattle.cilkp_program.specs.ProgramFiles.{IsInputOf, IsSourceOf}
 use Rattle.cilkp_program.specs.TakenText.{HasTaken}
@@ -41,12 +42,12 @@ pub record AgreesWithGrid (tree : SyntaxTree) (input : List ℤ) (reports : List
   -- no cell is reported exactly if the dag of the grid has no race
   pub silent : (reports ≡ []) ↔ GridHasNoRace tree input
   -- the status is 2 exactly if the dag of the grid has a race, and then the races are printed
-  pub racy : (status ≡ 2) ↔ (GridHasNoRace tree input → ⊥)
-  pub races : status ≡ 2 → text ≡ race_lines tree.cells reports
+  pub racy : (status ≡ statuses.RACES) ↔ (GridHasNoRace tree input → ⊥)
+  pub races : status ≡ statuses.RACES → text ≡ race_lines tree.cells reports
   -- otherwise the output and the trap of the grid are printed, with status 3 exactly if it has a trap, and status 0 exactly if not
   pub otherwise : GridHasNoRace tree input → text ≡ output_lines (grid_output tree input) ++ trap_lines (grid_trap tree input)
-  pub trapped : (status ≡ 3) ↔ (GridHasNoRace tree input × (grid_trap tree input ≢ None))
-  pub untrapped : (status ≡ 0) ↔ (GridHasNoRace tree input × (grid_trap tree input ≡ None))
+  pub trapped : (status ≡ statuses.TRAPPED) ↔ (GridHasNoRace tree input × (grid_trap tree input ≢ None))
+  pub untrapped : (status ≡ statuses.FINISHED) ↔ (GridHasNoRace tree input × (grid_trap tree input ≡ None))
 
 -- the call returned the log of a finished run of the lowered program under the throttling limit, and its text was written completely
 pub record ReturnsGrid (tree : SyntaxTree) (numbers : List ℤ) (limit status written : ℕ) (run_log : Option RunLog) (reports : List Report)

@@ -5,6 +5,7 @@ ghost use Rattle.std.specs.Prelude.{◌≡◌, ◌≢◌, ℕ, ℤ, ◌≤◌, �
 ghost use Rattle.pipe_model.specs.Language.CanonicalText.{program_text};
 ghost use Rattle.pipe_model.specs.Language.CheckingRules.{BreaksNoRule};
 ghost use Rattle.pipe_model.specs.Language.SyntaxTree.{SyntaxTree, tree_of};
+ghost use Rattle.pipe_model.specs.declared.exit_status.TheConstants as statuses;
 ghost use Rattle.cilkp_program.specs.PrintedResults.{IsCallResult, IsPrinted, IsCutShort, IsGivenUp};
 ghost use Rattle.pipe_io.specs.Faults.{CountGrew, CountRose};
 ghost use Rattle.cilkp_program.specs.Formatting.{ReturnsText, IsToFormat};
@@ -32,6 +33,7 @@ use crate::prepare::{Prepared, prepare};
 use crate::program_play::play_program;
 use crate::program_run::{FinishedRun, printed_run, recorded, run_elision, run_program};
 use crate::saved_run::check_saved;
+use pipe_model::exit_status::{FINISHED, WRITE_FAULT};
 use crate::text::line;
 use crate::work_and_span::weighed_result;
 use cilkp_words::commands::Command;
@@ -50,10 +52,6 @@ use pipe_worker::gate::Gate;
 use std::alloc::Global;
 use std::sync::Wait;
 use std::thread::Threads;
-
-const FINISHED: u8 = 0;
-
-const WRITE_FAULT: u8 = 5;
 
 /// How a call ended.
 #[derive(Drop)]
@@ -153,7 +151,12 @@ fn elision_result(
 
 // The result of `format` for an accepted program: its canonical text.
 fn text_of(alloc: Global, program: &Program) -> Result<CommandResult, NoMemory>
-    ensures { IfOk result (λ a. a ≡ record { status = 0; text = program_text (tree_of program.now); run_log = None; reports = [] }) }
+    ensures { IfOk result (λ a. a ≡ record {
+      status = statuses.FINISHED;
+      text = program_text (tree_of program.now);
+      run_log = None;
+      reports = [];
+    }) }
 {
     Ok(CommandResult {
         status: FINISHED,
@@ -505,11 +508,11 @@ pub fn cilkp<R: Threads + Wait + Sync, F: Files, S: Sink, G: Gate + Sync>(
 
     // Unless the status is 5, the text of the call's row, or the line of a read that failed, was
     // written completely; the run log and the reports are the row's.
-    ensures printed { IfOk result (λ e. e.status ≢ 5 →
+    ensures printed { IfOk result (λ e. e.status ≢ statuses.WRITE_FAULT →
         IsPrinted (command_of (words_of words.now)) (F.holds files.old) (F.faults files.old) (F.faults files.new)
         e.status e.written e.run_log e.reports (S.taken out.old) (S.taken out.new)) }
     // If the status is 5, a prefix of that text was written, and not all of it.
-    ensures cut_short { IfOk result (λ e. e.status ≡ 5 →
+    ensures cut_short { IfOk result (λ e. e.status ≡ statuses.WRITE_FAULT →
         IsCutShort (command_of (words_of words.now)) (F.holds files.old) (F.faults files.old) (F.faults files.new)
         e.written e.run_log e.reports (S.taken out.old) (S.taken out.new)) }
     // After out of memory, nothing was written or a prefix of that text.
@@ -518,16 +521,17 @@ pub fn cilkp<R: Threads + Wait + Sync, F: Files, S: Sink, G: Gate + Sync>(
         (S.taken out.old) (S.taken out.new)) }
     // Unless the status is 5, there is a run log exactly if the words are a `run`, a `play`, a `wave` or a
     // `check-record` command, the call was not refused, and no read failed.
-    ensures logged { IfOk result (λ e. e.status ≢ 5 → (is_some e.run_log ≡ true)
-        ↔ (KeepsLog (command_of (words_of words.now)) × (e.status ≢ 1) × (e.status ≢ 4))) }
+    ensures logged { IfOk result (λ e. e.status ≢ statuses.WRITE_FAULT → (is_some e.run_log ≡ true)
+        ↔ (KeepsLog (command_of (words_of words.now)) × (e.status ≢ statuses.REFUSED) × (e.status ≢ statuses.READ_FAULT))) }
 
     // If the status is that of a fault, its count rose in this call. If a count grew, the status is
     // that of a fault.
-    ensures read_fault { IfOk result (λ e. e.status ≡ 4 → CountRose (F.faults files.old) (F.faults files.new)) }
-    ensures write_fault { IfOk result (λ e. e.status ≡ 5 → CountRose (S.faults out.old) (S.faults out.new)) }
-    ensures files_grew { IfOk result (λ e. CountGrew (F.faults files.old) (F.faults files.new) → (e.status ≡ 4) ⊎ (e.status ≡ 5)) }
-    ensures sink_grew { IfOk result (λ e. CountGrew (S.faults out.old) (S.faults out.new) → e.status ≡ 5) }
-    ensures statuses { IfOk result (λ e. e.status ≤ 5) }
+    ensures read_fault { IfOk result (λ e. e.status ≡ statuses.READ_FAULT → CountRose (F.faults files.old) (F.faults files.new)) }
+    ensures write_fault { IfOk result (λ e. e.status ≡ statuses.WRITE_FAULT → CountRose (S.faults out.old) (S.faults out.new)) }
+    ensures files_grew { IfOk result (λ e. CountGrew (F.faults files.old) (F.faults files.new)
+        → (e.status ≡ statuses.READ_FAULT) ⊎ (e.status ≡ statuses.WRITE_FAULT)) }
+    ensures sink_grew { IfOk result (λ e. CountGrew (S.faults out.old) (S.faults out.new) → e.status ≡ statuses.WRITE_FAULT) }
+    ensures statuses { IfOk result (λ e. e.status ≤ statuses.WRITE_FAULT) }
 
     // The files are unchanged, and no count of faults falls.
     ensures counts { (F.faults files.old ≤ F.faults files.new) × (S.faults out.old ≤ S.faults out.new) }

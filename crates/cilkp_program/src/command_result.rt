@@ -2,17 +2,15 @@
 
 ghost use Rattle.std.specs.Prelude.{◌≡◌, [], None, IfOk};
 ghost use Rattle.pipe_model.specs.Texts.{fault_read};
+ghost use Rattle.pipe_model.specs.declared.exit_status.TheConstants as statuses;
 
+use pipe_model::exit_status::{READ_FAULT, REFUSED};
 use crate::text::named_line;
 use pipe_model::event::RunLog;
 use pipe_model::list::Bytes;
 use pipe_model::memory::NoMemory;
 use pipe_model::report::Reports;
 use std::alloc::Global;
-
-const REFUSED: u8 = 1;
-
-const READ_FAULT: u8 = 4;
 
 /// The result of a command before its text is printed.
 #[derive(Drop)]
@@ -25,7 +23,7 @@ pub struct CommandResult {
 
 /// Returns the result of a call that is refused with this line.
 pub fn refused(alloc: Global, text: Bytes) -> CommandResult
-    ensures { result ≡ record { status = 1; text = text; run_log = None; reports = [] } }
+    ensures { result ≡ record { status = statuses.REFUSED; text = text; run_log = None; reports = [] } }
 {
     CommandResult {
         status: REFUSED,
@@ -38,7 +36,7 @@ pub fn refused(alloc: Global, text: Bytes) -> CommandResult
 /// Returns the result of a call that could not read the file of this name. Returns an error only if
 /// memory runs out.
 pub fn read_fault(alloc: Global, name: &str) -> Result<CommandResult, NoMemory>
-    ensures { IfOk result (λ a. a ≡ record { status = 4; text = fault_read name.now; run_log = None; reports = [] }) }
+    ensures { IfOk result (λ a. a ≡ record { status = statuses.READ_FAULT; text = fault_read name.now; run_log = None; reports = [] }) }
 {
     Ok(CommandResult {
         status: READ_FAULT,

@@ -16,6 +16,7 @@ ghost use Rattle.cilkp_words.specs.declared.ranges.TheConstants as ranges;
 ghost use Rattle.pipe_model.specs.Pipelines.WholePrograms.{program_columns};
 ghost use Rattle.cilkp_program.specs.SerialResults.{elision_accesses, elision_columns, elision_output, elision_trap};
 
+use pipe_model::exit_status::{FINISHED, RACES, TRAPPED};
 use dag_build::dag::Dag;
 use pipe_check::checked::Checked;
 use pipe_engine::run::{EngineRun, run};
@@ -34,12 +35,6 @@ use stage_code::lower::lower;
 use std::alloc::Global;
 use std::sync::Wait;
 use std::thread::Threads;
-
-const FINISHED: u8 = 0;
-
-const RACES: u8 = 2;
-
-const TRAPPED: u8 = 3;
 
 /// The most instances that are counted: more than a run of an accepted program has.
 pub const MOST_COUNTED_INSTANCES: u64 = 1_000_000;

@@ -12,6 +12,7 @@ ghost use Rattle.cilkp_program.specs.RecordResults.{IsRecordOf, RecordResult, ki
 use crate::command_result::{CommandResult, read_fault, refused};
 use crate::load::MISSING;
 use crate::refusal::numbered_line;
+use pipe_model::exit_status::{FINISHED, RACES};
 use crate::text::{line, named_line};
 use pipe_check::checked::Checked;
 use pipe_io::files::Files;
@@ -28,10 +29,6 @@ use record_parser::fault::RecordFault;
 use record_parser::parse::parse_record;
 use stage_code::lower::lower;
 use std::alloc::Global;
-
-const WITHOUT_RACE: u8 = 0;
-
-const RACES: u8 = 2;
 
 /// The result of loading a record.
 #[derive(Drop)]
@@ -123,11 +120,7 @@ fn result_of_run(
     }) }
 {
     let text = run_text(alloc, checked, kind, &reports)?;
-    let status = if reports.is_empty() {
-        WITHOUT_RACE
-    } else {
-        RACES
-    };
+    let status = if reports.is_empty() { FINISHED } else { RACES };
     Ok(CommandResult {
         status,
         text,

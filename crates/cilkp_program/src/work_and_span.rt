@@ -5,9 +5,11 @@ ghost use Rattle.dag_build.specs.NodeColumns.{node_columns};
 ghost use Rattle.pipe_model.specs.Language.CheckingRules.{BreaksNoRule};
 ghost use Rattle.pipe_model.specs.Language.SyntaxTree.{tree_of};
 ghost use Rattle.pipe_model.specs.Races.Reports.{number_at};
+ghost use Rattle.pipe_model.specs.declared.exit_status.TheConstants as statuses;
 ghost use Rattle.cilkp_program.specs.SpanResults.{IsSpanText, instance_line, span_text};
 
 use crate::command_result::CommandResult;
+use pipe_model::exit_status::FINISHED;
 use pipe_check::checked::Checked;
 use pipe_model::column::{Column, Columns};
 use pipe_model::list::{Bytes, Numbers};
@@ -18,8 +20,6 @@ use pipe_span::heaviest::{Span, heaviest};
 use pipe_span::weigh::weigh;
 use stage_code::lower::lower;
 use std::alloc::{AllocError, Global};
-
-const FINISHED: u8 = 0;
 
 // The stage number of an instance; 0 if the columns have none of this name.
 fn number_of(columns: &[Column], x: NodeId) -> i64
@@ -84,7 +84,7 @@ pub fn weighed_result(
 ) -> Result<CommandResult, NoMemory>
     requires { BreaksNoRule (tree_of checked.now) }
     ensures text { IfOk result (λ a. IsSpanText (tree_of checked.now) input.now a.text) }
-    ensures others { IfOk result (λ a. a ≡ record { status = 0; text = a.text; run_log = None; reports = [] }) }
+    ensures others { IfOk result (λ a. a ≡ record { status = statuses.FINISHED; text = a.text; run_log = None; reports = [] }) }
 {
     Ok(CommandResult {
         status: FINISHED,

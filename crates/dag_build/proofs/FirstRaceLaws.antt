@@ -48,7 +48,7 @@ has_accesses columns accesses r h =
           (subst (λ (y : NotedAccess). AreParallel columns (access_at noted h.earlier).who y.who) two.later_is race.parallel);
       earlier_cell = two.earlier_cell;
       later_cell = two.later_cell;
-      report_is = h.told ∙ (λ i. report_of columns r.cell.0 (two.earlier_is i) (two.later_is i));
+      report_is = h.report_is ∙ (λ i. report_of columns r.cell.0 (two.earlier_is i) (two.later_is i));
     }
 
 -- each report names a race of the list

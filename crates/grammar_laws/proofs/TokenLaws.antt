@@ -17,7 +17,7 @@ use Rattle.pipe_model.specs.Language.Lexis.{is_blank, is_letter, is_digit, is_na
 use Rattle.pipe_model.specs.Language.Lexis.{punctuation_symbol, reserved_words, symbol_of, word_or_name, word_symbol}
 use Rattle.pipe_model.specs.Language.Tokens.{begins_comment, is_line_feed, kind_of, symbol_as, symbol_in, text_in, token_at, BeginsNothing}
 use Rattle.pipe_model.specs.Language.Tokens.{BeginsWith, HasTokens, IsComment, IsLexed, IsReached, IsToken, IsTokenWithinBounds}
-use Rattle.pipe_model.specs.Language.Tokens.{LexicalFault, StandsIn, BadByte, TooWide, SourceTooLong, NameTooLong, HasFault, IsTooLong}
+use Rattle.pipe_model.specs.Language.Tokens.{LexicalFault, IsInSource, BadByte, TooWide, SourceTooLong, NameTooLong, HasFault, IsTooLong}
 use Rattle.pipe_model.specs.Language.Tokens.{HasBadByte, HasWideNumber, HasLongName, Scans, Stops, Blank, Comment, Taken}
 use Rattle.grammar_laws.proofs.LongestSymbols.{GoesOn, one_goes_on, blank_begins_no_symbol, one_longest}
 
@@ -66,10 +66,10 @@ symbol_of_kind text (symbols.Sign b) e = refl
 -- ---- what bytes begin with
 
 -- the text is a blank, a comment or a token
-data Stands : List ℕ → List ℕ → Option Symbol → Type 0 where
-  ABlank : (b : ℕ) (rest : List ℕ) → is_blank b ≡ true → Stands (b ∷ []) rest None
-  AComment : (text rest : List ℕ) → IsComment text rest → Stands text rest None
-  AToken : (text rest : List ℕ) (s : Symbol) → IsToken text rest s → Stands text rest (Some s)
+data IsPiece : List ℕ → List ℕ → Option Symbol → Type 0 where
+  ABlank : (b : ℕ) (rest : List ℕ) → is_blank b ≡ true → IsPiece (b ∷ []) rest None
+  AComment : (text rest : List ℕ) → IsComment text rest → IsPiece text rest None
+  AToken : (text rest : List ℕ) (s : Symbol) → IsToken text rest s → IsPiece text rest (Some s)
 
 -- no blank is a slash
 no_blank_slash : (b c : ℕ) → is_blank b ≡ true → ((b == 47) && (c == 47)) ≡ true → ⊥
@@ -132,16 +132,16 @@ comment_no_token : (x u y v : List ℕ) (s : Symbol) → IsComment x u → IsTok
 comment_no_token x u y v s h t e = false≢true (sym t.no_comment ∙ ap begins_comment (sym e) ∙ comment_begins x u h.begins)
 
 -- bytes begin with one blank, comment or token
-one_stands : {x u y v : List ℕ} {o o' : Option Symbol} → Stands x u o → Stands y v o' → x ++ u ≡ y ++ v → AreSame x y u v o o'
-one_stands (ABlank b rest g) (ABlank c after h) e = record { text = cc (e); rest = cc (e); symbol = refl }
-one_stands (ABlank b rest g) (AComment y v h) e = absurd (blank_no_comment b rest y v g h.begins e)
-one_stands (ABlank b rest g) (AToken y v s t) e = absurd (blank_no_token b rest y v s g t e)
-one_stands (AComment x u h) (ABlank b rest g) e = absurd (blank_no_comment b rest x u g h.begins (sym e))
-one_stands (AComment x u h) (AComment y v i) e = let p = one_comment x y u v h i e in record { text = p.0; rest = p.1; symbol = refl }
-one_stands (AComment x u h) (AToken y v s t) e = absurd (comment_no_token x u y v s h t e)
-one_stands (AToken x u s t) (ABlank b rest g) e = absurd (blank_no_token b rest x u s g t (sym e))
-one_stands (AToken x u s t) (AComment y v h) e = absurd (comment_no_token y v x u s h t (sym e))
-one_stands (AToken x u s t) (AToken y v s' t') e =
+one_piece : {x u y v : List ℕ} {o o' : Option Symbol} → IsPiece x u o → IsPiece y v o' → x ++ u ≡ y ++ v → AreSame x y u v o o'
+one_piece (ABlank b rest g) (ABlank c after h) e = record { text = cc (e); rest = cc (e); symbol = refl }
+one_piece (ABlank b rest g) (AComment y v h) e = absurd (blank_no_comment b rest y v g h.begins e)
+one_piece (ABlank b rest g) (AToken y v s t) e = absurd (blank_no_token b rest y v s g t e)
+one_piece (AComment x u h) (ABlank b rest g) e = absurd (blank_no_comment b rest x u g h.begins (sym e))
+one_piece (AComment x u h) (AComment y v i) e = let p = one_comment x y u v h i e in record { text = p.0; rest = p.1; symbol = refl }
+one_piece (AComment x u h) (AToken y v s t) e = absurd (comment_no_token x u y v s h t e)
+one_piece (AToken x u s t) (ABlank b rest g) e = absurd (blank_no_token b rest x u s g t (sym e))
+one_piece (AToken x u s t) (AComment y v h) e = absurd (comment_no_token y v x u s h t (sym e))
+one_piece (AToken x u s t) (AToken y v s' t') e =
     let p = one_longest x y u v s s' t.longest t'.longest t.symbol t'.symbol e in
     record { text = p.0; rest = p.1; symbol = sym t.symbol ∙ ap symbol_of p.0 ∙ t'.symbol }
 
@@ -158,7 +158,7 @@ record IsPast (place : ℕ) (bytes : List ℕ) (tokens : List Token) (rest : Lis
   pub following : List ℕ
   pub symbol : Option Symbol
   pub others : List Token
-  pub stands : Stands text following symbol
+  pub piece : IsPiece text following symbol
   pub parts : bytes ≡ text ++ following
   pub first : tokens ≡ taken place text symbol ++ others
   pub scan : Scans (place + length text) following others rest
@@ -174,7 +174,7 @@ past_or_not (Blank {bytes} {tokens} b g d) =
       following = bytes;
       symbol = None;
       others = tokens;
-      stands = ABlank b bytes g;
+      piece = ABlank b bytes g;
       parts = refl;
       first =
           refl;
@@ -186,7 +186,7 @@ past_or_not (Comment {bytes} {tokens} text h d) =
       following = bytes;
       symbol = None;
       others = tokens;
-      stands = AComment text bytes h;
+      piece = AComment text bytes h;
       parts = refl;
       first =
           refl;
@@ -198,7 +198,7 @@ past_or_not (Taken {bytes} {tokens} text s t d) =
       following = bytes;
       symbol = Some s;
       others = tokens;
-      stands = AToken text bytes s t;
+      piece = AToken text bytes s t;
       parts = refl;
       first =
           refl;
@@ -224,10 +224,10 @@ with_front xs tokens others rest end (inr f) =
 
 -- two scans that go past the same text meet if they meet after it
 past_same : (place : ℕ) (text following bytes rest end : List ℕ) (o : Option Symbol) (tokens others : List Token)
-    → Stands text following o → ((us : List Token) → Scans (place + length text) following us end → Meet tokens us rest end)
+    → IsPiece text following o → ((us : List Token) → Scans (place + length text) following us end → Meet tokens us rest end)
     → Scans place (text ++ following) (taken place text o ++ tokens) rest
     → Scans place bytes others end → text ++ following ≡ bytes → Meet (taken place text o ++ tokens) others rest end
-past_same place text following bytes rest end o tokens others stands meets whole d e = elim (past_or_not d) [
+past_same place text following bytes rest end o tokens others piece meets whole d e = elim (past_or_not d) [
   | inl p ↦ inr (record {
     more = taken place text o ++ tokens;
     place = place;
@@ -235,7 +235,7 @@ past_same place text following bytes rest end o tokens others stands meets whole
     scan = subst (λ x. Scans place x (taken place text o ++ tokens) rest) (e ∙ p.0) whole;
   })
   | inr p ↦ (
-      let same = one_stands stands p.stands (e ∙ p.parts) in
+      let same = one_piece piece p.piece (e ∙ p.parts) in
       let first : others ≡ taken place text o ++ p.others = p.first ∙ ap (λ x. taken place x p.symbol ++ p.others) (sym same.text)
       ∙ ap (λ x. taken place text x ++ p.others) (sym same.symbol) in
       let scan : Scans (place + length text) following p.others end =
@@ -262,18 +262,18 @@ scans_meet {other} {end} {others = us} (Taken {place} {bytes} {rest} {tokens} te
 -- ---- one list of tokens
 
 -- a blank, a comment or a token has at least one byte
-stands_some : {x u : List ℕ} {o : Option Symbol} → Stands x u o → [] ≡ x ++ u → ⊥
-stands_some (ABlank b rest g) e = (let none : [] ≡ b ∷ rest = e in cc (none))
-stands_some (AComment [] rest h) e = false≢true h.begins
-stands_some (AComment (b ∷ text) rest h) e = (let none : [] ≡ b ∷ (text ++ rest) = e in cc (none))
-stands_some (AToken [] rest s t) e = (let none : None ≡ Some s = t.symbol in cc (none))
-stands_some (AToken (b ∷ text) rest s t) e = (let none : [] ≡ b ∷ (text ++ rest) = e in cc (none))
+piece_is_some : {x u : List ℕ} {o : Option Symbol} → IsPiece x u o → [] ≡ x ++ u → ⊥
+piece_is_some (ABlank b rest g) e = (let none : [] ≡ b ∷ rest = e in cc (none))
+piece_is_some (AComment [] rest h) e = false≢true h.begins
+piece_is_some (AComment (b ∷ text) rest h) e = (let none : [] ≡ b ∷ (text ++ rest) = e in cc (none))
+piece_is_some (AToken [] rest s t) e = (let none : None ≡ Some s = t.symbol in cc (none))
+piece_is_some (AToken (b ∷ text) rest s t) e = (let none : [] ≡ b ∷ (text ++ rest) = e in cc (none))
 
 -- a scan from the end stays there
 from_end : {place : ℕ} {rest : List ℕ} {tokens : List Token} → Scans place [] tokens rest → (rest ≡ []) × (tokens ≡ [])
 from_end d = elim (past_or_not d) [
   | inl p ↦ (sym p.0, p.1)
-  | inr p ↦ absurd (stands_some p.stands p.parts)
+  | inr p ↦ absurd (piece_is_some p.piece p.parts)
 ]
 
 -- a source has one list of tokens
@@ -308,7 +308,7 @@ data IsStop : List ℕ → Option Symbol → Type 0 where
   Beyond : {bytes : List ℕ} (s : Symbol) → BeginsWith bytes s → (IsWithinBounds s → ⊥) → IsStop bytes (Some s)
 
 -- bytes that begin with nothing begin with no blank, comment or token
-nothing_at : {x u : List ℕ} {o : Option Symbol} (bytes : List ℕ) → BeginsNothing bytes → Stands x u o → bytes ≡ x ++ u → ⊥
+nothing_at : {x u : List ℕ} {o : Option Symbol} (bytes : List ℕ) → BeginsNothing bytes → IsPiece x u o → bytes ≡ x ++ u → ⊥
 nothing_at [] n s e = n
 nothing_at (b ∷ bs) n (ABlank c rest g) e = false≢true (sym n.0 ∙ ap is_blank (let same : b ≡ c = cc (e) in same) ∙ g)
 nothing_at (b ∷ bs) n (AComment x u h) e = false≢true (sym n.1 ∙ ap begins_comment e ∙ comment_begins x u h.begins)
@@ -317,7 +317,7 @@ nothing_at (b ∷ bs) n (AToken x u s t) e = n.2 x u s e t.symbol
 -- a stop is not at the end
 stop_is_some : {bytes : List ℕ} {o : Option Symbol} → IsStop bytes o → bytes ≡ [] → ⊥
 stop_is_some (Nothing {bytes} n) e = (let none : BeginsNothing [] = rw e at n in none)
-stop_is_some (Beyond s w b) e = stands_some (AToken w.text w.rest s w.token) (sym e ∙ w.parts)
+stop_is_some (Beyond s w b) e = piece_is_some (AToken w.text w.rest s w.token) (sym e ∙ w.parts)
 
 -- bytes have at most one cause to stop
 one_thing : {bytes : List ℕ} {o o' : Option Symbol} → IsStop bytes o → IsStop bytes o' → o ≡ o'
@@ -325,7 +325,7 @@ one_thing (Nothing n) (Nothing m) = refl
 one_thing (Nothing {bytes} n) (Beyond s w b) = absurd (nothing_at bytes n (AToken w.text w.rest s w.token) w.parts)
 one_thing (Beyond s w b) (Nothing {bytes} n) = absurd (nothing_at bytes n (AToken w.text w.rest s w.token) w.parts)
 one_thing (Beyond s w b) (Beyond s' w' b') =
-    let same = one_stands (AToken w.text w.rest s w.token) (AToken w'.text w'.rest s' w'.token) (sym w.parts ∙ w'.parts) in same.symbol
+    let same = one_piece (AToken w.text w.rest s w.token) (AToken w'.text w'.rest s' w'.token) (sym w.parts ∙ w'.parts) in same.symbol
 
 -- a symbol beyond its bounds is not taken
 not_taken : (place : ℕ) (bytes : List ℕ) (tokens : List Token) (end : List ℕ) (s : Symbol) → BeginsWith bytes s → (IsWithinBounds s → ⊥)
@@ -333,7 +333,7 @@ not_taken : (place : ℕ) (bytes : List ℕ) (tokens : List Token) (end : List �
     → IsPast place bytes tokens end → ⊥
 unfolding taken
 not_taken place bytes tokens end s w b bounded p =
-    let same = one_stands (AToken w.text w.rest s w.token) p.stands (sym w.parts ∙ p.parts) in
+    let same = one_piece (AToken w.text w.rest s w.token) p.piece (sym w.parts ∙ p.parts) in
     let first : tokens ≡ token_at place w.text s ∷ p.others =
     p.first ∙ ap (λ x. taken place x p.symbol ++ p.others) (sym same.text) ∙ ap (λ x. taken place w.text x ++ p.others) (sym same.symbol) in
     let here : All IsTokenWithinBounds (token_at place w.text s ∷ p.others) = rw first at bounded in
@@ -344,7 +344,7 @@ stays : {place : ℕ} {bytes end : List ℕ} {tokens : List Token} {o : Option S
     → All IsTokenWithinBounds tokens → bytes ≡ end
 stays (Nothing {bytes} n) d w = elim (past_or_not d) [
   | inl p ↦ p.0
-  | inr p ↦ absurd (nothing_at bytes n p.stands p.parts)
+  | inr p ↦ absurd (nothing_at bytes n p.piece p.parts)
 ]
 stays {place} {end} {tokens} (Beyond {bytes} s b beyond) d w = elim (past_or_not d) [
   | inl p ↦ p.0
@@ -458,10 +458,10 @@ token_symbol source text rest place s e h =
     ap symbol_of same ∙ h ∙ sym (ap Some (ap (λ x. symbol_as (kind_of s) x) same ∙ symbol_of_kind text s h))
 
 -- the token of a text is in the source that has the text at its offset
-stands_in : (source text rest : List ℕ) (place : ℕ) (s : Symbol) → drop place source ≡ text ++ rest → symbol_of text ≡ Some s
-    → StandsIn source (token_at place text s)
-stands_in source [] rest place s e h = (let none : None ≡ Some s = h in cc (none))
-stands_in source (b ∷ text) rest place s e h = record {
+in_source : (source text rest : List ℕ) (place : ℕ) (s : Symbol) → drop place source ≡ text ++ rest → symbol_of text ≡ Some s
+    → IsInSource source (token_at place text s)
+in_source source [] rest place s e h = (let none : None ≡ Some s = h in cc (none))
+in_source source (b ∷ text) rest place s e h = record {
   symbol = token_symbol source (b ∷ text) rest place s e h;
   within = omega (arith, ap length e, length-drop place source, length-append (b ∷ text) rest);
 }
@@ -472,16 +472,16 @@ after_front source text rest place e = sym (drop-drop (length text) place source
     ∙ drop-append_seam text rest
 
 -- each token of a scan is in the source
-all_stand_in : {place : ℕ} {bytes rest : List ℕ} {tokens : List Token} (source : List ℕ) → Scans place bytes tokens rest
+all_in_source : {place : ℕ} {bytes rest : List ℕ} {tokens : List Token} (source : List ℕ) → Scans place bytes tokens rest
     → drop place source ≡ bytes
-    → All (StandsIn source) tokens
-all_stand_in source (Stops place rest) e = All-nil (StandsIn source)
-all_stand_in source (Blank {place} {bytes} b g d) e = all_stand_in source d (after_front source (b ∷ []) bytes place e)
-all_stand_in source (Comment {place} {bytes} text h d) e = all_stand_in source d (after_front source text bytes place e)
-all_stand_in source (Taken {place} {bytes} {tokens} text s t d) e =
-    All-cons (StandsIn source) (token_at place text s) tokens (stands_in source text bytes place s e t.symbol)
-    (all_stand_in source d (after_front source text bytes place e))
+    → All (IsInSource source) tokens
+all_in_source source (Stops place rest) e = All-nil (IsInSource source)
+all_in_source source (Blank {place} {bytes} b g d) e = all_in_source source d (after_front source (b ∷ []) bytes place e)
+all_in_source source (Comment {place} {bytes} text h d) e = all_in_source source d (after_front source text bytes place e)
+all_in_source source (Taken {place} {bytes} {tokens} text s t d) e =
+    All-cons (IsInSource source) (token_at place text s) tokens (in_source source text bytes place s e t.symbol)
+    (all_in_source source d (after_front source text bytes place e))
 
 -- each token of a source is in it, and its text there is the text of its symbol
-pub tokens_stand : (source : List ℕ) (tokens : List Token) → HasTokens source tokens → All (StandsIn source) tokens
-tokens_stand source tokens d = all_stand_in source d refl
+pub tokens_in_source : (source : List ℕ) (tokens : List Token) → HasTokens source tokens → All (IsInSource source) tokens
+tokens_in_source source tokens d = all_in_source source d refl

@@ -1,7 +1,7 @@
 -- Laws of tokens and of lexical faults.
 use Rattle.std.specs.Prelude.{◌≡◌, ℕ, List, All}
 use Rattle.pipe_model.specs.declared.token.Token.{Token}
-use Rattle.pipe_model.specs.Language.Tokens.{HasFault, HasTokens, IsLexed, LexicalFault, StandsIn}
+use Rattle.pipe_model.specs.Language.Tokens.{HasFault, HasTokens, IsLexed, LexicalFault, IsInSource}
 
 -- a source has at most one list of tokens
 abbrev pub SourcesHaveOneListOfTokens : Type 0
@@ -18,5 +18,5 @@ SourcesWithTokensHaveNoFault = (source : List ℕ) (tokens : List Token) (fault 
     → HasFault source fault → ⊥
 
 -- each token of a source is in it, and its text there is the text of its symbol
-abbrev pub TokensStandInTheirSource : Type 0
-TokensStandInTheirSource = (source : List ℕ) (tokens : List Token) → HasTokens source tokens → All (StandsIn source) tokens
+abbrev pub TokensAreInTheirSource : Type 0
+TokensAreInTheirSource = (source : List ℕ) (tokens : List Token) → HasTokens source tokens → All (IsInSource source) tokens

@@ -1,7 +1,7 @@
 //! Laws of tokens and of lexical faults.
 
 ghost use Rattle.grammar_laws.specs.TokenLaws.{SourcesHaveOneListOfTokens, SourcesHaveOneFault, SourcesWithTokensHaveNoFault};
-ghost use Rattle.grammar_laws.specs.TokenLaws.{TokensStandInTheirSource};
+ghost use Rattle.grammar_laws.specs.TokenLaws.{TokensAreInTheirSource};
 
 /// A source has at most one list of tokens, with their kinds, offsets and lengths.
 pub fn sources_have_one_list_of_tokens()
@@ -19,6 +19,6 @@ pub fn sources_with_tokens_have_no_fault()
 {}
 
 /// Each token of a source is in it, and its text there is the text of its symbol.
-pub fn tokens_stand_in_their_source()
-    ensures { TokensStandInTheirSource }
+pub fn tokens_are_in_their_source()
+    ensures { TokensAreInTheirSource }
 {}

@@ -61,18 +61,18 @@ module _ (code : FlatCode) (cells : ℕ) (input : List ℤ) (t : Behaviour) (run
       → HasEnded code cells input t run trace end
   ends_so (stage_ends.Wait n) e = record {
     performs = names_next kinds.Wait n e.0 e.1;
-    stands = λ names. subst (Represents code cells input run) (after_trace t trace kinds.Wait n e.0 h e.1) e.2;
+    represents = λ names. subst (Represents code cells input run) (after_trace t trace kinds.Wait n e.0 h e.1) e.2;
   }
   ends_so (stage_ends.Continue n) e = record {
     performs = names_next kinds.Continue n e.0 e.1;
-    stands = λ names. subst (Represents code cells input run) (after_trace t trace kinds.Continue n e.0 h e.1) e.2;
+    represents = λ names. subst (Represents code cells input run) (after_trace t trace kinds.Continue n e.0 h e.1) e.2;
   }
-  ends_so stage_ends.End e = record { performs = ends_now ends.End e; stands = λ names. elim names [ ] }
-  ends_so stage_ends.Closed e = record { performs = ends_now ends.Closed e; stands = λ names. elim names [ ] }
-  ends_so (stage_ends.Trap w) e = record { performs = ends_now (ends.Trapped w) e; stands = λ names. elim names [ ] }
+  ends_so stage_ends.End e = record { performs = ends_now ends.End e; represents = λ names. elim names [ ] }
+  ends_so stage_ends.Closed e = record { performs = ends_now ends.Closed e; represents = λ names. elim names [ ] }
+  ends_so (stage_ends.Trap w) e = record { performs = ends_now (ends.Trapped w) e; represents = λ names. elim names [ ] }
   ends_so stage_ends.Stopped e = record {
     performs = subst (Performs t) (sym (append-nil (accessed trace))) h;
-    stands =
+    represents =
         λ names. elim names [ ];
   }
 

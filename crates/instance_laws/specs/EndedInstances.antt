@@ -20,7 +20,7 @@ accesses_of trace = map (λ e. e.access) trace
 pub record HasEnded (code : FlatCode) (cells : ℕ) (input : List ℤ) (t : Behaviour) (run : RunState) (trace : List Entry)
     (end : StageEnd) : Type 0 where
   pub performs : Performs t (accessed trace ++ stage_end_actions end)
-  pub stands : NamesNextStage end → Represents code cells input run (after_instance t (replies_of trace))
+  pub represents : NamesNextStage end → Represents code cells input run (after_instance t (replies_of trace))
 
 -- a machine that ran over a memory without accesses, which now has the accesses of the trace, has ended its instance
 abbrev pub MachinesPerformTheirInstances : Type 0

@@ -3,7 +3,7 @@ use Rattle.std.proofs.Common.{◌≡◌, ◌≢◌, ℕ, ◌+◌, ◌^◌, ◌<�
 use Rattle.std.proofs.Common.{refl, sym, ap, ◌∙◌, subst, arith, eq-eqb, ne_eqb, inl, inr, length-set}
 use Rattle.std.proofs.lemmas.Bool.{cases_eq, lt-ltb, ltb-true}
 use Rattle.std.proofs.lemmas.List.{get_or_append_left, get_or_push, get_or-set_other, get_or-set_same, length_push}
-use Rattle.pipe_model.specs.Orders.OrderList.{has, insert_after, list_of_log, StandsBefore}
+use Rattle.pipe_model.specs.Orders.OrderList.{has, insert_after, list_of_log, IsBeforeIn}
 use Rattle.run_laws.proofs.ListOrders.InsertionLists.{HasBelow, entries_insert_elements, has_below-insert_after}
 use Rattle.om_relabel.specs.declared.links.Links.{Links}
 use Rattle.om_relabel.specs.declared.links.TheConstants.{END, MOST_ELEMENTS, TOP}
@@ -182,7 +182,7 @@ kept_inserted old new log k x l labelled list long =
 
 -- two elements are in the order of their labels
 pub before_is : (links : Links) (log : List ℕ) → IsKept links log → (x y a b : ℕ) → x ≤ length log → y ≤ length log
-    → a ≡ label_of links x → b ≡ label_of links y → IsTrue (ltb a b) ↔ StandsBefore (list_of_log log) x y
+    → a ≡ label_of links x → b ≡ label_of links y → IsTrue (ltb a b) ↔ IsBeforeIn (list_of_log log) x y
 before_is links log k x y a b lx ly ea eb =
     let count = k.count in
     let there : (z : ℕ) → z ≤ length log → has z (list_of_log log) ≡ true = λ z l.

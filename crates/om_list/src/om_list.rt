@@ -3,7 +3,7 @@
 ghost use Rattle.std.specs.Prelude.{◌≡◌, ◌<◌, ◌≤◌, ◌+◌, ◌++◌, ◌∷◌, [], ◌↔◌, IfOk, IsTrue, length, slice_index};
 ghost use Rattle.om_list.specs.ChosenLabels.{HasChosenLabel};
 ghost use Rattle.om_list.specs.LabelledList.{HasRisingLabels};
-ghost use Rattle.pipe_model.specs.Orders.OrderList.{StandsBefore, list_of_log};
+ghost use Rattle.pipe_model.specs.Orders.OrderList.{IsBeforeIn, list_of_log};
 
 use crate::insertion::insert_element;
 use om_relabel::error::OutOfMemory;
@@ -81,7 +81,7 @@ impl OmList {
     pub fn before(&self, x: u32, y: u32) -> bool
         requires first { x ≤ length self.now.log }
         requires second { y ≤ length self.now.log }
-        ensures { IsTrue result ↔ StandsBefore (list_of_log self.now.log) x y }
+        ensures { IsTrue result ↔ IsBeforeIn (list_of_log self.now.log) x y }
     {
         self.links.label[x as usize] < self.links.label[y as usize]
     }

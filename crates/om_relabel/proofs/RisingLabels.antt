@@ -2,7 +2,7 @@
 use Rattle.std.proofs.Common.{◌≡◌, ◌≢◌, ℕ, zero, suc, ◌+◌, ◌<◌, ◌≤◌, ◌↔◌, List, [], ◌∷◌, length, get_or, true, refl, sym, ap, ◌∙◌, subst}
 use Rattle.std.proofs.Common.{arith, eq-eqb, ne_eqb, inl, inr}
 use Rattle.std.proofs.lemmas.Bool.{cases_eq}
-use Rattle.pipe_model.specs.Orders.OrderList.{has, StandsBefore}
+use Rattle.pipe_model.specs.Orders.OrderList.{has, IsBeforeIn}
 use Rattle.om_relabel.specs.Labels.{LabelsRise}
 
 -- the head of a list is in it
@@ -41,7 +41,7 @@ label_within label low top (y ∷ ys) x r h = elim (cases_eq y x) [
 
 -- two elements are in the order of their labels
 pub before_by_label : (label : ℕ → ℕ) (low top : ℕ) (xs : List ℕ) (x y : ℕ) → LabelsRise label low top xs
-    → has x xs ≡ true → has y xs ≡ true → StandsBefore xs x y ↔ (label x < label y)
+    → has x xs ≡ true → has y xs ≡ true → IsBeforeIn xs x y ↔ (label x < label y)
 before_by_label label low top [] x y r h k = cc
 before_by_label label low top (z ∷ zs) x y r h k = elim (cases_eq z x) [
   | inl e ↦ elim (cases_eq z y) [

@@ -3,7 +3,7 @@ use Rattle.std.proofs.Common.{◌≡◌, ℕ, suc, ◌+◌, ◌-◌, ◌%◌, �
 use Rattle.std.proofs.Common.{subst, arith, length-append}
 use mathlib.Core.Option.{none}
 use Rattle.atomic_table.specs.Table.{State, step, keeps, Allows}
-use Rattle.pipe_model.specs.Orders.OrderList.{IsLog, StandsBefore, list_of_log}
+use Rattle.pipe_model.specs.Orders.OrderList.{IsLog, IsBeforeIn, list_of_log}
 use Rattle.run_laws.proofs.ListOrders.InsertionLists.{list_has_below}
 use Rattle.om_relabel.proofs.RisingLabels.{before_by_label}
 use Rattle.om_shared.specs.declared.view.View.{View}
@@ -58,7 +58,7 @@ module _ (capacity : ℕ) where
   -- two current labels give the order
   order_is : (s : State ℕ View) (r : IsOrdered capacity s) (id : ℕ) (seen : List ℕ) (at x y a b : ℕ)
       → KnowsAs r.now id seen (Asking at ((y, b) ∷ (x, a) ∷ [])) → at % 2 ≡ 0 → r.now.sequence ≡ at
-      → StandsBefore (list_of_log seen) x y ↔ (a < b)
+      → IsBeforeIn (list_of_log seen) x y ↔ (a < b)
   order_is s r id seen at x y a b k even here =
       let current = k.3 even (sym here) in
       let ly : y ≤ length seen = k.2.0 in
@@ -71,7 +71,7 @@ module _ (capacity : ℕ) where
       let more = length-append seen rest in
       let p = before_by_label (label_at r.now.labels) 0 (2 ^ 62) (list_of_log r.now.log) x y up
       (h.each x (omega (arith, lx, long, more))) (h.each y (omega (arith, ly, long, more))) in
-      let q : StandsBefore (list_of_log r.now.log) x y ↔ StandsBefore (list_of_log seen) x y =
+      let q : IsBeforeIn (list_of_log r.now.log) x y ↔ IsBeforeIn (list_of_log seen) x y =
       rw whole (longer_order seen rest x y (subst (IsLog 1) whole r.valid) lx ly) in
       let ea : a ≡ label_at r.now.labels x = current.1.0 in
       let eb : b ≡ label_at r.now.labels y = current.0 in (

@@ -4,7 +4,7 @@ use Rattle.std.proofs.Common.{arith, append_assoc, append-nil}
 use Rattle.std.proofs.lemmas.Bool.{le-leb, lt-leb}
 use mathlib.Core.Logic.{dite}
 use native.Mathlib.Decide.{dec_le}
-use Rattle.pipe_model.specs.Orders.OrderList.{IsLog, StandsBefore, list_of_log}
+use Rattle.pipe_model.specs.Orders.OrderList.{IsLog, IsBeforeIn, list_of_log}
 use Rattle.run_laws.proofs.ListOrders.InsertionLists.{list_has_below}
 use Rattle.run_laws.proofs.ListOrders.LongerLogs.{longer_logs_keep_the_order}
 use Rattle.om_shared.specs.SharedLists.{StartsWith}
@@ -17,7 +17,7 @@ log_prefix e (z ∷ log) more h = (h.0, log_prefix (e + 1) log more h.1)
 
 -- a longer log changes the order of no two elements that were there
 pub longer_order : (log rest : List ℕ) (x y : ℕ) → IsLog 1 (log ++ rest) → x ≤ length log → y ≤ length log
-    → StandsBefore (list_of_log (log ++ rest)) x y ↔ StandsBefore (list_of_log log) x y
+    → IsBeforeIn (list_of_log (log ++ rest)) x y ↔ IsBeforeIn (list_of_log log) x y
 longer_order log rest x y ok lx ly =
     let below = list_has_below log (log_prefix 1 log rest ok) in
     longer_logs_keep_the_order log rest x y ok (below.each x (omega (arith, lx))) (below.each y (omega (arith, ly)))

@@ -2,7 +2,7 @@
 use Rattle.std.specs.Prelude.{◌≡◌, ℕ, ◌-◌, ◌%◌, ◌<◌, ◌↔◌, List, [], ◌∷◌, ◌++◌, length, slice_set, nat_le, if◌then◌else◌}
 use mathlib.Core.Option.{some}
 use Rattle.atomic_table.specs.Table.{Me, Step}
-use Rattle.pipe_model.specs.Orders.OrderList.{StandsBefore, list_of_log}
+use Rattle.pipe_model.specs.Orders.OrderList.{IsBeforeIn, list_of_log}
 use Rattle.om_shared.specs.SharedLists.{StartsWith}
 use Rattle.om_shared.specs.Rule.{view}
 use Rattle.om_shared.specs.declared.view.View.{View}
@@ -74,7 +74,7 @@ noted_label step m found m' = m' ≡ (view m.0.log m.0.learned (noting (step.wor
 abbrev pub checked_sequence : Step ℕ → SeatState → ℕ → SeatState → Type 0
 checked_sequence step m found m' = (m' ≡ m)
     × ((at x y a b : ℕ) → m.0.role ≡ Asking at ((y, b) ∷ (x, a) ∷ []) → at % 2 ≡ 0 → found ≡ at
-    → StandsBefore (list_of_log m.0.log) x y ↔ (a < b))
+    → IsBeforeIn (list_of_log m.0.log) x y ↔ (a < b))
 
 abbrev pub longer : List ℕ → List ℕ → List ℕ
 longer a b = if nat_le (length a) (length b) then b else a

@@ -1,7 +1,7 @@
 //! One question, step by step.
 
 ghost use Rattle.std.specs.Prelude.{◌≡◌, ◌≤◌, ◌↔◌, IsTrue, IfSome, length};
-ghost use Rattle.pipe_model.specs.Orders.OrderList.{StandsBefore, list_of_log};
+ghost use Rattle.pipe_model.specs.Orders.OrderList.{IsBeforeIn, list_of_log};
 ghost use Rattle.om_shared.specs.Seats.{IsAsking};
 
 use crate::rule::{CheckSequence, NoteLabel, NoteSequence};
@@ -22,7 +22,7 @@ pub(crate) fn compare_labels(
     ensures own { seat.new.table_id ≡ seat.old.table_id }
     ensures asking { IsAsking words.now.key words.now.table_id.words seat.new.me }
     ensures log { seat.new.me.0.log ≡ seat.old.me.0.log }
-    ensures order { IfSome result (λ b. IsTrue b ↔ StandsBefore (list_of_log seat.old.me.0.log) x y) }
+    ensures order { IfSome result (λ b. IsTrue b ↔ IsBeforeIn (list_of_log seat.old.me.0.log) x y) }
 {
     let before = words.load::<NoteSequence>(seat, SEQUENCE);
     if before % 2 != 0 {

@@ -9,7 +9,7 @@ use Rattle.order_2d.specs.StartedNodes.{HasLists}
 use Rattle.pipe_model.specs.declared.marks.Marks.{Marks}
 use Rattle.pipe_model.specs.declared.node.Node.{Node}
 use Rattle.pipe_model.specs.declared.node.NodeId.{NodeId}
-use Rattle.pipe_model.specs.Orders.OrderList.{StandsBefore, list_of_log}
+use Rattle.pipe_model.specs.Orders.OrderList.{IsBeforeIn, list_of_log}
 use Rattle.pipe_model.specs.Orders.OrderMarks.{instance_marks}
 use Rattle.pipe_model.specs.Orders.Starts.{AreStarts, start_at, start_number}
 use Rattle.pipe_model.specs.Orders.TwoOrders.{down_element, down_first_log, down_first_taken, first_placeholder, log_entries, right_element}
@@ -119,28 +119,28 @@ orders_are_precedes columns starts ok ord nodes same marks marks_same o down rig
         let r' : right_element columns starts y ≡ (marks_at (marks_of_starts columns starts starts) n).right_first =
         sym (ap (λ (k : Marks). k.right_first) b) in (
           (λ before. law.0 (record {
-            down = subst (λ z. StandsBefore (list_of_log (down_first_log starts)) z (down_element starts y)) (sym d)
-                (subst (λ z. StandsBefore (list_of_log (down_first_log starts))
+            down = subst (λ z. IsBeforeIn (list_of_log (down_first_log starts)) z (down_element starts y)) (sym d)
+                (subst (λ z. IsBeforeIn (list_of_log (down_first_log starts))
                 (marks_at (marks_of_starts columns starts starts) m).down_first z) (sym d')
-                (subst (λ l. StandsBefore (list_of_log l) (marks_at (marks_of_starts columns starts starts) m).down_first
+                (subst (λ l. IsBeforeIn (list_of_log l) (marks_at (marks_of_starts columns starts starts) m).down_first
                 (marks_at (marks_of_starts columns starts starts) n).down_first) down before.down));
-            right = subst (λ z. StandsBefore (list_of_log (right_first_log columns starts)) z (right_element columns starts y)) (sym r)
-                (subst (λ z. StandsBefore (list_of_log (right_first_log columns starts))
+            right = subst (λ z. IsBeforeIn (list_of_log (right_first_log columns starts)) z (right_element columns starts y)) (sym r)
+                (subst (λ z. IsBeforeIn (list_of_log (right_first_log columns starts))
                 (marks_at (marks_of_starts columns starts starts) m).right_first z) (sym r')
-                (subst (λ l. StandsBefore (list_of_log l) (marks_at (marks_of_starts columns starts starts) m).right_first
+                (subst (λ l. IsBeforeIn (list_of_log l) (marks_at (marks_of_starts columns starts starts) m).right_first
                 (marks_at (marks_of_starts columns starts starts) n).right_first) right before.right));
           })),
           (λ path. let both = law.1 path in record {
-            down = subst (λ l. StandsBefore (list_of_log l) (marks_at (marks_of_starts columns starts starts) m).down_first
+            down = subst (λ l. IsBeforeIn (list_of_log l) (marks_at (marks_of_starts columns starts starts) m).down_first
                 (marks_at (marks_of_starts columns starts starts) n).down_first) (sym down)
-                (subst (λ z. StandsBefore (list_of_log (down_first_log starts)) z
+                (subst (λ z. IsBeforeIn (list_of_log (down_first_log starts)) z
                 (marks_at (marks_of_starts columns starts starts) n).down_first) d
-                (subst (λ z. StandsBefore (list_of_log (down_first_log starts)) (down_element starts x) z) d' both.down));
-            right = subst (λ l. StandsBefore (list_of_log l) (marks_at (marks_of_starts columns starts starts) m).right_first
+                (subst (λ z. IsBeforeIn (list_of_log (down_first_log starts)) (down_element starts x) z) d' both.down));
+            right = subst (λ l. IsBeforeIn (list_of_log l) (marks_at (marks_of_starts columns starts starts) m).right_first
                 (marks_at (marks_of_starts columns starts starts) n).right_first) (sym right)
-                (subst (λ z. StandsBefore (list_of_log (right_first_log columns starts)) z
+                (subst (λ z. IsBeforeIn (list_of_log (right_first_log columns starts)) z
                 (marks_at (marks_of_starts columns starts starts) n).right_first) r
-                (subst (λ z. StandsBefore (list_of_log (right_first_log columns starts)) (right_element columns starts x) z) r'
+                (subst (λ z. IsBeforeIn (list_of_log (right_first_log columns starts)) (right_element columns starts x) z) r'
                 both.right));
           }),
         )

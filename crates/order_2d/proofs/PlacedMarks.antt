@@ -22,7 +22,7 @@ use Rattle.pipe_model.specs.Orders.TwoOrders.{right_first_taken}
 use Rattle.pipe_model.specs.Races.Columns.{AreColumns, at}
 use Rattle.pipe_model.specs.Runs.ControlParts.{control_after, without_accesses}
 use Rattle.run_laws.proofs.ListOrders.InsertionLists.{list_has_below}
-use Rattle.run_laws.proofs.ListOrders.LongerLogs.{logs_name_what_stands}
+use Rattle.run_laws.proofs.ListOrders.LongerLogs.{logs_name_earlier_elements}
 use Rattle.run_laws.proofs.ListOrders.StartNumbers.{counted_down, counted_right}
 use Rattle.order_2d.proofs.ListsSoFar.{length-log_entries}
 
@@ -68,7 +68,7 @@ pub replayed_marks : (log : RunLog) → IsOwnLog log → (columns : List Column)
 replayed_marks log own columns same starts starts_same numbers run marks marks_same o lists =
     let cs : List (List Node) = nodes_of_columns columns in
     let made = same_columns log own columns same in
-    let laws = logs_name_what_stands.control_runs own.control.limit (without_accesses log.events)
+    let laws = logs_name_earlier_elements.control_runs own.control.limit (without_accesses log.events)
     (control_after log.events) own.control.run in
     let logs : IsLog 1 (down_first_log starts) × IsLog 1 (right_first_log cs starts) =
     subst (λ (ss : List NodeId). IsLog 1 (down_first_log ss) × IsLog 1 (right_first_log cs ss)) (sym starts_same)

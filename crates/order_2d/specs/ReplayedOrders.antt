@@ -3,7 +3,7 @@ use Rattle.std.specs.Prelude.{◌↔◌, ℕ, ◌<◌, List, length, map, slice_
 use Rattle.pipe_model.specs.declared.marks.Marks.{Marks}
 use Rattle.pipe_model.specs.declared.node.Node.{Node}
 use Rattle.pipe_model.specs.declared.node.NodeId.{NodeId}
-use Rattle.pipe_model.specs.Orders.OrderList.{StandsBefore, list_of_log}
+use Rattle.pipe_model.specs.Orders.OrderList.{IsBeforeIn, list_of_log}
 use Rattle.pipe_model.specs.Orders.OrderMarks.{instance_marks, start_marks}
 use Rattle.pipe_model.specs.Orders.Starts.{start_at}
 use Rattle.pipe_model.specs.Races.Dag.{Precedes}
@@ -18,8 +18,8 @@ marks_at marks m = slice_index_or marks m (start_marks 0 0 0)
 
 -- an instance with the marks a is before one with the marks b in both lists
 pub record IsBeforeInLists (o : OrderPair) (a b : Marks) : Type 0 where
-  pub down : StandsBefore (list_of_log o.down.log) a.down_first b.down_first
-  pub right : StandsBefore (list_of_log o.right.log) a.right_first b.right_first
+  pub down : IsBeforeIn (list_of_log o.down.log) a.down_first b.down_first
+  pub right : IsBeforeIn (list_of_log o.right.log) a.right_first b.right_first
 
 -- of any two of the instances, the first is before the second in both lists exactly if it precedes it in the dag
 abbrev pub OrdersArePrecedes : List (List Node) → List NodeId → List Marks → OrderPair → Type 0

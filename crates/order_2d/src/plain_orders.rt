@@ -1,7 +1,7 @@
 //! Questions about two lists that do not change meanwhile.
 
 ghost use Rattle.std.specs.Prelude.{◌≡◌, ◌↔◌, IsTrue, true, []};
-ghost use Rattle.pipe_model.specs.Orders.OrderList.{IsLog, StandsBefore, has, list_of_log};
+ghost use Rattle.pipe_model.specs.Orders.OrderList.{IsLog, IsBeforeIn, has, list_of_log};
 
 use crate::two_orders::TwoOrders;
 use om_list::om_list::OmList;
@@ -44,7 +44,7 @@ fn is_before(list: &OmList, x: u32, y: u32) -> bool
     requires log { IsLog 1 list.now.log }
     requires first { has x (list_of_log list.now.log) ≡ true }
     requires second { has y (list_of_log list.now.log) ≡ true }
-    ensures { IsTrue result ↔ StandsBefore (list_of_log list.now.log) x y }
+    ensures { IsTrue result ↔ IsBeforeIn (list_of_log list.now.log) x y }
 {
     list.before(x, y)
 }

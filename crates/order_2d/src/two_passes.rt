@@ -3,7 +3,7 @@
 ghost use Rattle.std.specs.Prelude.{◌≡◌, ◌↔◌, IfOk, IsTrue, true};
 ghost use Rattle.om_shared.specs.SharedLists.{identity_of};
 ghost use Rattle.order_2d.specs.SeenOrders.{AreOf, AreSameLists, HasSeen};
-ghost use Rattle.pipe_model.specs.Orders.OrderList.{IsLog, StandsBefore, has, list_of_log};
+ghost use Rattle.pipe_model.specs.Orders.OrderList.{IsLog, IsBeforeIn, has, list_of_log};
 
 use crate::two_orders::TwoOrders;
 use om_shared::pass::OmPass;
@@ -84,7 +84,7 @@ impl TwoPasses {
     fn is_down_before<R: Wait>(&mut self, rt: &R, x: u32, y: u32) -> bool
         requires first { has x (list_of_log self.old.down_log) ≡ true }
         requires second { has y (list_of_log self.old.down_log) ≡ true }
-        ensures order { IsTrue result ↔ StandsBefore (list_of_log self.old.down_log) x y }
+        ensures order { IsTrue result ↔ IsBeforeIn (list_of_log self.old.down_log) x y }
         ensures unchanged { self.new ≡ self.old }
     {
         self.down.precedes(rt, x, y)
@@ -94,7 +94,7 @@ impl TwoPasses {
     fn is_right_before<R: Wait>(&mut self, rt: &R, x: u32, y: u32) -> bool
         requires first { has x (list_of_log self.old.right_log) ≡ true }
         requires second { has y (list_of_log self.old.right_log) ≡ true }
-        ensures order { IsTrue result ↔ StandsBefore (list_of_log self.old.right_log) x y }
+        ensures order { IsTrue result ↔ IsBeforeIn (list_of_log self.old.right_log) x y }
         ensures unchanged { self.new ≡ self.old }
     {
         self.right.precedes(rt, x, y)

@@ -8,7 +8,7 @@ use Rattle.pipe_model.specs.declared.access.AccessKind.{AccessKind}
 use Rattle.pipe_model.specs.declared.access.AccessKind.TheVariants.{Write}
 use Rattle.pipe_model.specs.declared.marks.Marks.{Marks}
 use Rattle.pipe_model.specs.Orders.GrowingLists.{AreIn, KeepsOrder}
-use Rattle.pipe_model.specs.Orders.OrderList.{IsLog, StandsBefore, list_of_log}
+use Rattle.pipe_model.specs.Orders.OrderList.{IsLog, IsBeforeIn, list_of_log}
 use Rattle.pipe_model.specs.Pipelines.Behaviour.{write_access}
 use Rattle.pipe_frame.specs.HallViews.{BeginsWith}
 use Rattle.pipe_model.specs.declared.ticket.Entry.{Entry}
@@ -52,7 +52,7 @@ pub log_keeps : (old new : List ℕ) → BeginsWith new old → IsLog 1 new → 
 log_keeps old new b valid = record {
   elements = λ x h. (let q = (list_has_below old (log_prefix 1 old b.0 (subst (IsLog 1) b.1 valid))).only x h in
       let n = length-append old b.0 in let e = ap length b.1 in (list_has_below new valid).each x (omega (arith, q, n, e)));
-  order = λ x y hx hy. subst (λ l. StandsBefore (list_of_log l) x y ↔ StandsBefore (list_of_log old) x y) (sym b.1)
+  order = λ x y hx hy. subst (λ l. IsBeforeIn (list_of_log l) x y ↔ IsBeforeIn (list_of_log old) x y) (sym b.1)
       (longer_logs_keep_the_order old b.0 x y (subst (IsLog 1) b.1 valid) hx hy);
 }
 

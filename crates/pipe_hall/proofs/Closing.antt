@@ -8,7 +8,7 @@ use Rattle.pipe_model.specs.Races.DeterminacyRaces.{Among, Here, Later}
 use Rattle.frame_book.specs.BookStates.{BookState, events_of}
 use Rattle.pipe_hall.specs.SeatViews.{HallStart, InstanceData, SeatView, ShardValue, TheBook, TheShard}
 use Rattle.pipe_model.specs.declared.access.Access.{Access}
-use Rattle.pipe_model.specs.Orders.OrderList.{StandsBefore, list_of_log}
+use Rattle.pipe_model.specs.Orders.OrderList.{IsBeforeIn, list_of_log}
 use Rattle.pipe_model.specs.Orders.Starts.{starts_of}
 use Rattle.pipe_model.specs.Orders.TwoOrders.{down_place, right_place}
 use Rattle.pipe_model.specs.Runs.RunLogs.{columns_after}
@@ -74,9 +74,9 @@ histories_at_end before b seats k x s h all slot =
     let starts = starts_of (events_of b.log) in
     let columns = columns_after (events_of b.log) in
     (h.shard.histories slot).after (down_place starts) (right_place columns starts) (λ e f me mf. record {
-      in_down = subst (λ l. StandsBefore (list_of_log l) (marks_in b f.node).down_first (marks_in b e.node).down_first ↔
+      in_down = subst (λ l. IsBeforeIn (list_of_log l) (marks_in b f.node).down_first (marks_in b e.node).down_first ↔
           (down_place starts f.node < down_place starts e.node)) (sym all.0) ((λ p. p), (λ p. p));
-      in_right = subst (λ l. StandsBefore (list_of_log l) (marks_in b f.node).right_first (marks_in b e.node).right_first ↔
+      in_right = subst (λ l. IsBeforeIn (list_of_log l) (marks_in b f.node).right_first (marks_in b e.node).right_first ↔
           (right_place columns starts f.node < right_place columns starts e.node)) (sym all.1) ((λ p. p), (λ p. p));
     }) (λ e f me mf. known_before b s.control e.node f.node (h.started e me) (h.started f mf))
 

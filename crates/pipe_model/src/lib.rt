@@ -6,6 +6,7 @@ pub mod access;
 pub mod bounds;
 pub mod column;
 pub mod event;
+pub mod exit_status;
 pub mod levels;
 pub mod list;
 pub mod marks;

@@ -8,7 +8,7 @@ use crate::marks::Marks;
 pub trait Orders {
     ghost use Rattle.std.specs.Prelude.{◌≡◌, ◌↔◌, IsTrue, List, ℕ};
     ghost use Rattle.pipe_model.specs.Orders.GrowingLists.{AreIn, KeepsOrder};
-    ghost use Rattle.pipe_model.specs.Orders.OrderList.{StandsBefore};
+    ghost use Rattle.pipe_model.specs.Orders.OrderList.{IsBeforeIn};
 
     /// The down-first list.
     ghost down_first: { Self → List ℕ };
@@ -24,18 +24,18 @@ pub trait Orders {
     fn down_before(&mut self, a: &Marks, b: &Marks) -> bool
         requires first { AreIn (down_first self.old) (right_first self.old) a.now }
         requires second { AreIn (down_first self.old) (right_first self.old) b.now }
-        ensures order { IsTrue result ↔ StandsBefore (down_first self.old) a.now.down_first b.now.down_first }
+        ensures order { IsTrue result ↔ IsBeforeIn (down_first self.old) a.now.down_first b.now.down_first }
         ensures down { KeepsOrder (down_first self.old) (down_first self.new) }
         ensures right { KeepsOrder (right_first self.old) (right_first self.new) }
-        ensures same { identity self.new ≡ identity self.old };
+        ensures unchanged { identity self.new ≡ identity self.old };
 
     /// Returns whether the first instance is strictly before the second in the right-first list.
     /// Both must be in the lists.
     fn right_before(&mut self, a: &Marks, b: &Marks) -> bool
         requires first { AreIn (down_first self.old) (right_first self.old) a.now }
         requires second { AreIn (down_first self.old) (right_first self.old) b.now }
-        ensures order { IsTrue result ↔ StandsBefore (right_first self.old) a.now.right_first b.now.right_first }
+        ensures order { IsTrue result ↔ IsBeforeIn (right_first self.old) a.now.right_first b.now.right_first }
         ensures down { KeepsOrder (down_first self.old) (down_first self.new) }
         ensures right { KeepsOrder (right_first self.old) (right_first self.new) }
-        ensures same { identity self.new ≡ identity self.old };
+        ensures unchanged { identity self.new ≡ identity self.old };
 }

@@ -22,7 +22,7 @@ pub record CanRun (code : FlatCode) (tree : SyntaxTree) (m : MachineState) : Typ
 pub record IsAtInstance (code : FlatCode) (tree : SyntaxTree) (input : List ℤ) (m : MachineState) (i : ℕ)
     (replies : List (List ℤ)) : Type 0 where
   pub can : CanRun code tree m
-  pub stands : Represents code (cells_of tree) input m.run (after_instances ((pipeline_of tree input).behaviour i) replies)
+  pub represents : Represents code (cells_of tree) input m.run (after_instances ((pipeline_of tree input).behaviour i) replies)
 
 -- there is a machine, and this holds of it
 abbrev pub HasMachine : Option MachineState → (MachineState → Type 0) → Type 0

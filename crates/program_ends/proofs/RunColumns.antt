@@ -1,5 +1,5 @@
 -- The columns of a run of an accepted program have instances, and not too many.
-use Rattle.std.proofs.Common.{◌≡◌, refl, arith, ℕ, ℤ, zero, suc, ◌<◌, ◌≤◌, ◌-◌, All, List, [], ◌∷◌, Some, length, map}
+use Rattle.std.proofs.Common.{◌≡◌, refl, arith, ℕ, ℤ, zero, suc, ◌<◌, ◌≤◌, ◌-◌, ◌^◌, All, List, [], ◌∷◌, Some, length, map}
 use Rattle.pipe_model.specs.declared.column.Column.{Column}
 use Rattle.pipe_model.specs.Language.ProgramsOfTrees.{pipeline_after_init}
 use Rattle.pipe_model.specs.Language.CheckingRules.{BreaksNoRule}
@@ -15,9 +15,9 @@ use Rattle.run_laws.proofs.RunStates.RunInvariant.{run_consistent}
 
 -- each column has an instance, and the instances and the columns can be counted
 pub record HasSmallColumns (columns : List Column) : Type 0 where
-  pub count : length columns ≤ 4294967296
+  pub count : length columns ≤ 2 ^ 32
   pub some : All (λ (c : Column). 0 < length c.nodes) columns
-  pub bounded : All (λ (c : Column). length c.nodes ≤ 4294967296) columns
+  pub bounded : All (λ (c : Column). length c.nodes ≤ 2 ^ 32) columns
 
 -- the columns have at most `bound` instances in all
 record AreSmall (bound : ℕ) (columns : List Column) : Type 0 where

@@ -1,6 +1,7 @@
 -- The headline of a whole program, for a call that has made a finished run and has right reports of it.
 use Rattle.std.specs.Prelude.{◌≡◌, ◌≢◌, ◌↔◌, ◌++◌, ℕ, ℤ, List, [], ◌∷◌, Option, Some, None, map}
 use Rattle.pipe_model.specs.declared.event.RunLog.{RunLog}
+use Rattle.pipe_model.specs.declared.exit_status.TheConstants as statuses
 use Rattle.pipe_model.specs.declared.report.Report.{Report}
 use Rattle.pipe_model.specs.declared.trap.TrapAt.{TrapAt}
 use Rattle.pipe_model.specs.Pipelines.Behaviour.{column_of}
@@ -25,15 +26,14 @@ pub record AgreesWithElision (tree : SyntaxTree) (input : List ℤ) (reports : L
     : Type 0 where
   -- no cell is reported exactly if the dag of the serial elision has no race
   pub silent : (reports ≡ []) ↔ HasNoProgramRace (whole_of tree input)
-  -- the status is 2 exactly if the dag of the serial elision has a race, and then the races are printed
-  pub racy : (status ≡ 2) ↔ (HasNoProgramRace (whole_of tree input) → ⊥)
-  pub races : status ≡ 2 → text ≡ lines
-  -- otherwise the output and the trap of the serial elision are printed, with status 3 exactly if it has a trap, and status 0 exactly if
-  -- not
+  -- the status says so exactly if the dag of the serial elision has a race, and then the races are printed
+  pub racy : (status ≡ statuses.RACES) ↔ (HasNoProgramRace (whole_of tree input) → ⊥)
+  pub races : status ≡ statuses.RACES → text ≡ lines
+  -- otherwise the output and the trap of the serial elision are printed, and the status says whether it has a trap
   pub otherwise : HasNoProgramRace (whole_of tree input)
       → text ≡ output_lines (program_output (whole_of tree input)) ++ trap_lines (program_trap (whole_of tree input))
-  pub trapped : (status ≡ 3) ↔ (HasNoProgramRace (whole_of tree input) × (program_trap (whole_of tree input) ≢ None))
-  pub untrapped : (status ≡ 0) ↔ (HasNoProgramRace (whole_of tree input) × (program_trap (whole_of tree input) ≡ None))
+  pub trapped : (status ≡ statuses.TRAPPED) ↔ (HasNoProgramRace (whole_of tree input) × (program_trap (whole_of tree input) ≢ None))
+  pub untrapped : (status ≡ statuses.FINISHED) ↔ (HasNoProgramRace (whole_of tree input) × (program_trap (whole_of tree input) ≡ None))
 
 -- the headline: a run of the program under the throttling limit, its log and its reports, and the status and the text of the call
 pub record MeetsHeadline (tree : SyntaxTree) (input : List ℤ) (limit : ℕ) (log : RunLog) (reports : List Report) (lines : List ℕ)
@@ -50,9 +50,9 @@ pub record MeetsHeadline (tree : SyntaxTree) (input : List ℤ) (limit : ℕ) (l
 
 -- the exit status of a run with these reports and this trap
 abbrev pub exit_status : List Report → Option TrapAt → ℕ
-exit_status [] None = 0
-exit_status [] (Some t) = 3
-exit_status (r ∷ rs) trap = 2
+exit_status [] None = statuses.FINISHED
+exit_status [] (Some t) = statuses.TRAPPED
+exit_status (r ∷ rs) trap = statuses.RACES
 
 -- the printed text: the text of the reports if there are any, and otherwise the output and the trap
 abbrev pub printed_text : List Report → List ℕ → List ℤ → Option TrapAt → List ℕ

@@ -5,7 +5,7 @@ use Rattle.pipe_model.specs.Runs.Allowed.{ControlAllows}
 use Rattle.pipe_model.specs.Races.Columns.{node_at, AreColumns, IsNodeOf, nodes_at, at}
 use Rattle.pipe_model.specs.Races.Dag.{Precedes, CrossEdge}
 use Rattle.pipe_model.specs.Orders.LeftParent.{left_parent, last_up_to, joined_at}
-use Rattle.pipe_model.specs.Orders.OrderList.{insert_after, IsLog, has, list_of_log, StandsBefore}
+use Rattle.pipe_model.specs.Orders.OrderList.{insert_after, IsLog, has, list_of_log, IsBeforeIn}
 use Rattle.pipe_model.specs.Orders.Starts.{AreStarts, starts_of, IsStarted, start_number, started_by}
 use Rattle.pipe_model.specs.Runs.State.{State, own_columns, next_state}
 use Rattle.pipe_model.specs.Orders.TwoOrders.{IsBeforeInBoth, down_element, right_element, down_first_log, log_entries, down_first_taken}
@@ -89,8 +89,8 @@ abbrev pub LogsGrowAtTheirEnd : Type 0
 LogsGrowAtTheirEnd = OfEachRun (λ limit events s. (e : Event) → ControlAllows limit s e → AddsEntries events s e)
 
 -- each entry of both logs of a run names an element that is already in the list
-abbrev pub LogsNameWhatStands : Type 0
-LogsNameWhatStands = OfEachRun (λ limit events s.
+abbrev pub LogsNameEarlierElements : Type 0
+LogsNameEarlierElements = OfEachRun (λ limit events s.
     IsLog 1 (down_first_log (starts_of events)) × IsLog 1 (right_first_log (own_columns s) (starts_of events)))
 
 -- a longer log keeps the order of the elements that were there
@@ -98,7 +98,7 @@ abbrev pub LongerLogsKeepTheOrder : Type 0
 LongerLogsKeepTheOrder =
     (log more : List ℕ) (x y : ℕ) → IsLog 1 (log ++ more)
     → has x (list_of_log log) ≡ true → has y (list_of_log log) ≡ true
-    → StandsBefore (list_of_log (log ++ more)) x y ↔ StandsBefore (list_of_log log) x y
+    → IsBeforeIn (list_of_log (log ++ more)) x y ↔ IsBeforeIn (list_of_log log) x y
 
 -- one more entry inserts the next element right after the element that it names
 pub record InsertsNext (log : List ℕ) (x : ℕ) : Type 0 where

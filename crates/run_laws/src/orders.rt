@@ -3,7 +3,7 @@
 
 ghost use Rattle.run_laws.specs.OrderLaws.{LeftParentsAreFound, EntriesInsertElements, StartedNodesAreOwnNodes};
 ghost use Rattle.run_laws.specs.OrderLaws.{BothOrdersOfStarts, BothOrdersArePrecedes, PlaceholdersAreTakenOnce};
-ghost use Rattle.run_laws.specs.OrderLaws.{LeftParentsAreSources, LogsGrowAtTheirEnd, LogsNameWhatStands};
+ghost use Rattle.run_laws.specs.OrderLaws.{LeftParentsAreSources, LogsGrowAtTheirEnd, LogsNameEarlierElements};
 ghost use Rattle.run_laws.specs.OrderLaws.{LongerLogsKeepTheOrder};
 
 /// The events of a run start the instances of its own columns, each once, and each after all that
@@ -55,9 +55,9 @@ pub fn logs_grow_at_their_end()
 {}
 
 /// In every run, each entry of both insertion logs names an element that is already in the list.
-#[tactic(auto, using(crate::proofs::ListOrders::LongerLogs::logs_name_what_stands))]
-pub fn logs_name_what_stands()
-    ensures { LogsNameWhatStands }
+#[tactic(auto, using(crate::proofs::ListOrders::LongerLogs::logs_name_earlier_elements))]
+pub fn logs_name_earlier_elements()
+    ensures { LogsNameEarlierElements }
 {}
 
 /// A longer insertion log keeps the order of the elements that were there.

@@ -151,36 +151,36 @@ pub record EndsInstance (code : FlatCode) (cells : ℕ) (input : List ℤ) (t : 
     (end : StageEnd) : Type 0 where
   pub performs : Performs t (accessed trace ++ stage_end_actions end)
   pub event : (p : Pipeline) (before : List Access) (i : ℕ) → stage_end_events i end ≡ next_of p before i t trace ∷ []
-  pub stands : NamesNextStage end → Represents code cells input run (after_instance t (replies_of trace))
+  pub represents : NamesNextStage end → Represents code cells input run (after_instance t (replies_of trace))
 
 pub instance_ends : (code : FlatCode) (cells : ℕ) (input : List ℤ) (t : Behaviour) (run : RunState) (trace : List Entry) (end : StageEnd)
     → IsUnderWay code cells input t run trace (actions.End end) → EndsInstance code cells input t run trace end
 instance_ends code cells input t run trace (stage_ends.Wait n) h = record {
   performs = names_next code cells input t run trace kinds.Wait n h.is_at.1.0 h.performs h.is_at.1.1;
   event = λ p before i. ap (λ d. event_of_behaviour p before i d ∷ []) (sym h.is_at.1.1);
-  stands = λ names. subst (Represents code cells input run) (after_trace t trace kinds.Wait n h.is_at.1.0 h.performs h.is_at.1.1)
+  represents = λ names. subst (Represents code cells input run) (after_trace t trace kinds.Wait n h.is_at.1.0 h.performs h.is_at.1.1)
       h.is_at.1.2;
 }
 instance_ends code cells input t run trace (stage_ends.Continue n) h = record {
   performs = names_next code cells input t run trace kinds.Continue n h.is_at.1.0 h.performs h.is_at.1.1;
   event = λ p before i. ap (λ d. event_of_behaviour p before i d ∷ []) (sym h.is_at.1.1);
-  stands = λ names. subst (Represents code cells input run) (after_trace t trace kinds.Continue n h.is_at.1.0 h.performs h.is_at.1.1)
+  represents = λ names. subst (Represents code cells input run) (after_trace t trace kinds.Continue n h.is_at.1.0 h.performs h.is_at.1.1)
       h.is_at.1.2;
 }
 instance_ends code cells input t run trace stage_ends.End h = record {
   performs = ends_now t trace ends.End h.performs h.is_at.1;
   event = λ p before i. ap (λ d. event_of_behaviour p before i d ∷ []) (sym h.is_at.1);
-  stands = λ names. elim names [ ];
+  represents = λ names. elim names [ ];
 }
 instance_ends code cells input t run trace stage_ends.Closed h = record {
   performs = ends_now t trace ends.Closed h.performs h.is_at.1;
   event = λ p before i. ap (λ d. event_of_behaviour p before i d ∷ []) (sym h.is_at.1);
-  stands = λ names. elim names [ ];
+  represents = λ names. elim names [ ];
 }
 instance_ends code cells input t run trace (stage_ends.Trap w) h = record {
   performs = ends_now t trace (ends.Trapped w) h.performs h.is_at.1;
   event = λ p before i. ap (λ d. event_of_behaviour p before i d ∷ []) (sym h.is_at.1);
-  stands = λ names. elim names [ ];
+  represents = λ names. elim names [ ];
 }
 instance_ends code cells input t run trace stage_ends.Stopped h = absurd (h.is_at.0 refl)
 

@@ -19,7 +19,7 @@ pub record CanRun (code : FlatCode) (cells : ℕ) (tree : SyntaxTree) (m : Machi
 pub record IsAtInstance (code : FlatCode) (cells : ℕ) (tree : SyntaxTree) (input : List ℤ) (m : MachineState) (i : ℕ)
     (replies : List (List ℤ)) : Type 0 where
   pub whole : CanRun code cells tree m
-  pub stands : Represents code cells input m.run (after_instances ((pipeline_of tree input).behaviour i) replies)
+  pub represents : Represents code cells input m.run (after_instances ((pipeline_of tree input).behaviour i) replies)
 
 -- a payload that belongs to no order lists and to no seat
 abbrev pub no_tie : Tie

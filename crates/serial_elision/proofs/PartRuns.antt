@@ -221,7 +221,7 @@ pub record Left (code : FlatCode) (cells : ℕ) (input : List ℤ) (store : Init
     (run : RunState)
     (nodes : List Node) (now : Log) : Type 0 where
   pub t : Behaviour
-  pub stands : Represents code cells input run t
+  pub represents : Represents code cells input run t
   pub so_far : (before : List Access) → IsStateAfter store before log.cells → SoFar store whole before i log t nodes now
 
 -- a part begins
@@ -230,9 +230,9 @@ pub left_begun : (code : FlatCode) (cells : ℕ) (input : List ℤ) (store : Ini
     (nodes : List Node) (now : Log)
     → Represents code cells input run whole → nodes ≡ no_node ∷ [] → now ≡ record log { events = log.events ++ events.Begin i ∷ [] }
     → Left code cells input store whole i log run nodes now
-left_begun code cells input store whole i log run nodes now stands first begun = record {
+left_begun code cells input store whole i log run nodes now represents first begun = record {
   t = whole;
-  stands = stands;
+  represents = represents;
   so_far = λ before state. subst (λ x. SoFar store whole before i log whole x now) (sym first)
       (subst (λ (x : Log). SoFar store whole before i log whole (no_node ∷ []) x) (sym begun) (so_far_none store whole before i log state));
 }
@@ -243,10 +243,11 @@ one_ran : (code : FlatCode) (cells cells' : ℕ) (input : List ℤ) (t : Behavio
     → ((d : Behaviour) → Represents code cells' input run d → RanFrom code cells' input d node now ran run' end)
     → Represents code cells input run t → cells' ≡ cells → node ≡ at i (length nodes - 1) → end ≡ end'
     → RanFrom code cells input t (at i (length nodes - 1)) now ran run' end'
-one_ran code cells cells' input t i node nodes now ran run run' end end' h stands same here is =
+one_ran code cells cells' input t i node nodes now ran run run' end end' h represents same here is =
     subst (λ c. RanFrom code c input t (at i (length nodes - 1)) now ran run' end') same
     (subst (λ x. RanFrom code cells' input t x now ran run' end') here
-    (subst (λ x. RanFrom code cells' input t node now ran run' x) is (h t (subst (λ c. Represents code c input run t) (sym same) stands))))
+    (subst (λ x. RanFrom code cells' input t node now ran run' x) is (h t (subst (λ c. Represents code c input run t)
+    (sym same) represents))))
 
 -- an instance ran, and the next is entered
 pub left_entered : (code : FlatCode) (cells cells' : ℕ) (input : List ℤ) (store : InitialStore) (whole : Behaviour) (i : ℕ) (log : Log)
@@ -257,10 +258,11 @@ pub left_entered : (code : FlatCode) (cells cells' : ℕ) (input : List ℤ) (st
     → now' ≡ record ran { events = ran.events ++ events.Advance i kind n ∷ (events.Enter i ∷ []) }
     → Left code cells input store whole i log run' nodes' now'
 left_entered code cells cells' input store whole i log run run' node nodes nodes' now ran now' end kind n h did same here is grown entered =
-    let one = one_ran code cells cells' input h.t i node nodes now ran run run' end (instance_ends.Next kind n) did h.stands same here is in
+    let one = one_ran code cells cells' input h.t i node nodes now ran run run' end
+    (instance_ends.Next kind n) did h.represents same here is in
     record {
       t = one.ends.0;
-      stands = one.ends.2;
+      represents = one.ends.2;
       so_far = λ before state. subst (λ x. SoFar store whole before i log one.ends.0 x now') (sym grown)
           (subst (λ (x : Log). SoFar store whole before i log one.ends.0 (nodes ++ node_of kind n ∷ []) x) (sym entered)
           (so_far_entered store whole before i log one.ends.0 nodes ran kind n
@@ -280,7 +282,7 @@ pub left_ended : (code : FlatCode) (cells cells' : ℕ) (input : List ℤ) (stor
     → IsStateAfter store before log.cells
     → PartRan store before (serial_trace store whole before) i log (record { nodes = nodes; end = Some e }) now'
 left_ended code cells cells' input store whole i log run run' node nodes now ran now' end e before h did same here is finished state =
-    let one = one_ran code cells cells' input h.t i node nodes now ran run run' end (instance_ends.Ended e) did h.stands same here is in
+    let one = one_ran code cells cells' input h.t i node nodes now ran run run' end (instance_ends.Ended e) did h.represents same here is in
     subst (λ (x : Log). PartRan store before (serial_trace store whole before) i log (record { nodes = nodes; end = Some e }) x)
     (sym finished)
     (part_ended store whole before i log nodes ran e

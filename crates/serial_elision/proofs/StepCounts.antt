@@ -108,7 +108,7 @@ pub record StepsLeft (code : FlatCode) (cells : ℕ) (input : List ℤ) (store :
     (old : List ℤ)
     (run : RunState) (now : Log) (steps : List ℤ) : Type 0 where
   pub d : Interaction ColumnEnd
-  pub stands : RepresentsTree code cells input run d
+  pub represents : RepresentsTree code cells input run d
   pub counted : (before : List Access) → IsStateAfter store before log.cells
       → Counted store (natural code.limits.steps) whole before old d now steps
 
@@ -117,9 +117,9 @@ pub steps_begun : (code : FlatCode) (cells : ℕ) (input : List ℤ) (store : In
     (old : List ℤ) (run : RunState) (now : Log)
     → RepresentsTree code cells input run whole → now ≡ record log { events = log.events ++ events.Begin i ∷ [] }
     → StepsLeft code cells input store whole log old run now old
-steps_begun code cells input store whole i log old run now stands begun = record {
+steps_begun code cells input store whole i log old run now represents begun = record {
   d = whole;
-  stands = stands;
+  represents = represents;
   counted = λ before state. record {
     made = [];
     cells = subst (λ (x : Log). IsStateAfter store (before ++ []) x.cells) (sym begun)
@@ -134,10 +134,10 @@ one_tree_ran : (code : FlatCode) (cells cells' : ℕ) (input : List ℤ) (d : In
     (run run' : RunState) (end end' : InstanceEnd)
     → ((d : Interaction ColumnEnd) → RepresentsTree code cells' input run d → RanTreeFrom code cells' input d node now ran run' end)
     → RepresentsTree code cells input run d → cells' ≡ cells → end ≡ end' → RanTreeFrom code cells input d node now ran run' end'
-one_tree_ran code cells cells' input d node now ran run run' end end' h stands same is =
+one_tree_ran code cells cells' input d node now ran run run' end end' h represents same is =
     subst (λ c. RanTreeFrom code c input d node now ran run' end') same
     (subst (λ x. RanTreeFrom code cells' input d node now ran run' x) is
-    (h d (subst (λ c. RepresentsTree code c input run d) (sym same) stands)))
+    (h d (subst (λ c. RepresentsTree code c input run d) (sym same) represents)))
 
 -- the steps of one instance are counted
 one_counted : (steps grown old : List ℤ) (all rest counts : List ℕ) (budget left n : ℕ) (z : ℤ)
@@ -162,12 +162,12 @@ pub steps_entered : (code : FlatCode) (cells cells' : ℕ) (input : List ℤ) (s
     → StepsLeft code cells input store whole log old run' now' grown
 steps_entered code cells cells' input store whole i log old run run' node now ran now' steps grown z end kind n h did same is budget took
     push entered =
-    let one = one_tree_ran code cells cells' input h.d node now ran run run' end (instance_ends.Next kind n) did h.stands same is in
+    let one = one_tree_ran code cells cells' input h.d node now ran run run' end (instance_ends.Next kind n) did h.represents same is in
     let b = natural code.limits.steps in
     let next = one.ends.0 in
     record {
       d = next;
-      stands = one.ends.2;
+      represents = one.ends.2;
       counted = λ before state. let c = h.counted before state in
           let base = before ++ c.made in
           let longer = append_assoc before c.made one.accesses in
@@ -196,7 +196,7 @@ pub steps_ended : (code : FlatCode) (cells cells' : ℕ) (input : List ℤ) (sto
     → grown ≡ old ++ map pos (step_counts store before budget budget whole)
 steps_ended code cells cells' input store whole log old run run' node now ran steps grown z end e before budget h did same is whole_budget
     took push limit state =
-    let one = one_tree_ran code cells cells' input h.d node now ran run run' end (instance_ends.Ended e) did h.stands same is in
+    let one = one_tree_ran code cells cells' input h.d node now ran run run' end (instance_ends.Ended e) did h.represents same is in
     let b = natural code.limits.steps in
     let c = h.counted before state in
     let base = before ++ c.made in

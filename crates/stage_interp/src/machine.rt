@@ -91,7 +91,8 @@ impl Machine {
     /// memory that serves the cells of the program.
     pub fn reset(&mut self, part: Part, iteration: u32)
         ensures made { (code : FlatCode) → IsMadeFor code self.old → IsMadeFor code self.new }
-        ensures stands { (tree : SyntaxTree) (code : FlatCode) (cells : ℕ) (input : List ℤ) → IsCodeOf tree code → IsMadeFor code self.old
+        ensures represents { (tree : SyntaxTree) (code : FlatCode) (cells : ℕ) (input : List ℤ)
+            → IsCodeOf tree code → IsMadeFor code self.old
             → cell_total tree.cells + 2 ≤ cells → Represents code cells input self.new.run (behaviour_in tree input part iteration) }
         ensures tree { (tree : SyntaxTree) (code : FlatCode) (cells : ℕ) (input : List ℤ) → IsCodeOf tree code → IsMadeFor code self.old
             → cell_total tree.cells + 2 ≤ cells → RepresentsTree code cells input self.new.run (interaction_in tree input part iteration) }

@@ -113,7 +113,7 @@ abbrev pub symbols_in : List ℕ → List Token → List Symbol
 symbols_in source tokens = map (symbol_in source) tokens
 
 -- a token is inside its source, and its text there is the text of its symbol
-pub record StandsIn (source : List ℕ) (token : Token) : Type 0 where
+pub record IsInSource (source : List ℕ) (token : Token) : Type 0 where
   pub symbol : symbol_of (text_in source token) ≡ Some (symbol_in source token)
   pub within : token.place + token.length ≤ length source
 

@@ -5,7 +5,7 @@
 use Rattle.std.specs.Prelude.{ℕ, zero, suc, List, [], ◌∷◌, ◌+◌, Option, Some, None, ◌*◌}
 use Rattle.pipe_model.specs.declared.node.Node.{Node}
 use Rattle.pipe_model.specs.declared.node.NodeId.{NodeId}
-use Rattle.pipe_model.specs.Orders.OrderList.{list_of_log, place, StandsBefore}
+use Rattle.pipe_model.specs.Orders.OrderList.{list_of_log, place, IsBeforeIn}
 use Rattle.pipe_model.specs.Orders.LeftParent.{left_parent}
 use Rattle.pipe_model.specs.Orders.Starts.{start_number}
 
@@ -62,8 +62,8 @@ right_element columns starts x = right_first_taken columns (start_number starts)
 
 -- x is before y in both lists
 pub record IsBeforeInBoth (columns : List (List Node)) (starts : List NodeId) (x y : NodeId) : Type 0 where
-  pub down : StandsBefore (list_of_log (down_first_log starts)) (down_element starts x) (down_element starts y)
-  pub right : StandsBefore (list_of_log (right_first_log columns starts)) (right_element columns starts x) (right_element columns starts y)
+  pub down : IsBeforeIn (list_of_log (down_first_log starts)) (down_element starts x) (down_element starts y)
+  pub right : IsBeforeIn (list_of_log (right_first_log columns starts)) (right_element columns starts x) (right_element columns starts y)
 
 -- the index of an instance in the down-first list
 abbrev pub down_place : List NodeId → NodeId → ℕ

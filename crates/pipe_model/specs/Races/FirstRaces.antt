@@ -27,7 +27,7 @@ pub record ReportsFirstRace (columns : List (List Node)) (accesses : List NotedA
   pub earlier : ℕ
   pub later : ℕ
   pub first : IsFirstRacingPair columns accesses earlier later
-  pub told : r ≡ report_of columns r.cell.0 (access_at accesses earlier) (access_at accesses later)
+  pub report_is : r ≡ report_of columns r.cell.0 (access_at accesses earlier) (access_at accesses later)
 
 -- the report names the first race of its cell
 abbrev pub ReportsFirstRaceOfCell : List (List Node) → List NodeAccess → Report → Type 0

@@ -3,7 +3,7 @@ use Rattle.std.proofs.Common.{List, ℕ, length, ◌≡◌, ◌+◌, [], ◌∷�
 use Rattle.std.proofs.Common.{◌≢◌, sym, ◌<◌, subst, ◌↔◌}
 use mathlib.Core.Logic.{dite}
 use native.Mathlib.Decide.{ℕ_discrete}
-use Rattle.pipe_model.specs.Orders.OrderList.{inserted, insert_after, has, IsLog, list_of_log, StandsBefore, place}
+use Rattle.pipe_model.specs.Orders.OrderList.{inserted, insert_after, has, IsLog, list_of_log, IsBeforeIn, place}
 use Rattle.run_laws.specs.OrderLaws.{EntriesInsertElements}
 
 -- the list after one more entry
@@ -94,7 +94,7 @@ IsLog-push e (y ∷ log) x ok l = (ok.0, IsLog-push (e + 1) log x ok.1 (omega ar
 
 -- an insertion keeps the order of the elements that were there
 pub order_kept : (xs : List ℕ) (z e x y : ℕ) → e ≢ x → e ≢ y
-    → StandsBefore (insert_after z e xs) x y ↔ StandsBefore xs x y
+    → IsBeforeIn (insert_after z e xs) x y ↔ IsBeforeIn xs x y
 order_kept [] z e x y n m = ((λ l. l), (λ l. l))
 order_kept (w ∷ ws) z e x y n m = dite (ℕ_discrete w z)
     (λ i. rw (eq-eqb w z i, ne_eqb e x n, ne_eqb e y m) (after_head (eqb w x) (eqb w y)))
@@ -108,7 +108,7 @@ order_kept (w ∷ ws) z e x y n m = dite (ℕ_discrete w z)
     after_head false true = ((λ l. absurd (omega arith)), (λ l. absurd (omega arith)))
     after_head false false = ((λ l. omega arith), (λ l. omega arith))
 
-    later : (b c : Bool) → StandsBefore (insert_after z e ws) x y ↔ StandsBefore ws x y
+    later : (b c : Bool) → IsBeforeIn (insert_after z e ws) x y ↔ IsBeforeIn ws x y
         → (cond b 0 (place x (insert_after z e ws) + 1) < cond c 0 (place y (insert_after z e ws) + 1))
         ↔ (cond b 0 (place x ws + 1) < cond c 0 (place y ws + 1))
     later true true t = ((λ l. l), (λ l. l))

@@ -1,6 +1,6 @@
 -- A longer log keeps the order of the elements that were there; the logs of a run are logs.
 use Rattle.std.proofs.Common.{ℕ, List, true, ◌≡◌, ◌↔◌, [], ◌∷◌, ◌+◌, arith, length, ◌++◌, ap, suc, ◌∙◌, subst, sym, ◌*◌, ◌<◌}
-use Rattle.pipe_model.specs.Orders.OrderList.{IsLog, has, StandsBefore, inserted, insert_after, list_of_log}
+use Rattle.pipe_model.specs.Orders.OrderList.{IsLog, has, IsBeforeIn, inserted, insert_after, list_of_log}
 use Rattle.pipe_model.specs.Orders.Starts.{start_at, AreStarts, start_number, starts_of}
 use Rattle.pipe_model.specs.Runs.State.{own_columns}
 use Rattle.pipe_model.specs.Orders.TwoOrders.{log_entries, down_first_taken, right_first_taken}
@@ -11,12 +11,12 @@ use Rattle.run_laws.proofs.ListOrders.StartNumbers.{counted_down, counted_right}
 use Rattle.run_laws.proofs.ListOrders.StartPlaces.{IsCounted}
 use Rattle.run_laws.proofs.ListOrders.SoundStarts.{of_each_run}
 use Rattle.run_laws.proofs.ListOrders.StartsOfRuns.{are_columns}
-use Rattle.run_laws.specs.OrderLaws.{LongerLogsKeepTheOrder, LogsNameWhatStands}
+use Rattle.run_laws.specs.OrderLaws.{LongerLogsKeepTheOrder, LogsNameEarlierElements}
 
 module _ (x y : ℕ) where
   -- further entries keep the order of two elements
   inserted_keeps_order : (xs : List ℕ) (e : ℕ) (log : List ℕ) → IsLog e log → HasBelow e xs → has x xs ≡ true
-      → has y xs ≡ true → StandsBefore (inserted xs e log) x y ↔ StandsBefore xs x y
+      → has y xs ≡ true → IsBeforeIn (inserted xs e log) x y ↔ IsBeforeIn xs x y
   inserted_keeps_order xs e [] ok h a b = ((λ p. p), (λ p. p))
   inserted_keeps_order xs e (z ∷ log) ok h a b =
       let there = h.each z ok.0 in
@@ -48,7 +48,7 @@ longer_logs_keep_the_order log more x y ok a b =
     let below = list_has_below log parts.0 in
     let q : length log + 1 ≡ 1 + length log = omega arith in
     let below' : HasBelow (1 + length log) (list_of_log log) = subst (λ k. HasBelow k (list_of_log log)) q below in
-    subst (λ l. StandsBefore l x y ↔ StandsBefore (list_of_log log) x y) (sym (inserted-append (0 ∷ []) 1 log more))
+    subst (λ l. IsBeforeIn l x y ↔ IsBeforeIn (list_of_log log) x y) (sym (inserted-append (0 ∷ []) 1 log more))
     (inserted_keeps_order x y (list_of_log log) (1 + length log) more parts.1 below' a b)
 
 -- the entries of starts are a log
@@ -79,8 +79,8 @@ counted_is_log columns starts taken ord c = log_entries_are_log taken 0 starts (
     omega (arith, once, b))
 
 -- the logs of a run
-pub logs_name_what_stands : LogsNameWhatStands
-logs_name_what_stands = of_each_run (λ limit events s r. let h = r.sound in (
+pub logs_name_earlier_elements : LogsNameEarlierElements
+logs_name_earlier_elements = of_each_run (λ limit events s r. let h = r.sound in (
   counted_is_log (own_columns s) (starts_of events) (down_first_taken (start_number (starts_of events))) h.ordered
       (counted_down (own_columns s) (starts_of events) (are_columns s.frames (starts_of events) h) h.ordered),
   counted_is_log (own_columns s) (starts_of events)

@@ -26,7 +26,7 @@ use Rattle.run_laws.proofs.RunStates.Frames.{frame_at_updated, frame_at_other, f
 use Rattle.pipe_model.proofs.Members.{among_either, among_left, only_one, among_right, none_among}
 
 -- an access is in the trace of a frame
-pub record StandsInFrame (fs : List Frame) (x : NodeAccess) : Type 0 where
+pub record IsInSomeFrame (fs : List Frame) (x : NodeAccess) : Type 0 where
   pub place : ℕ
   pub frame : Frame
   pub is : frame_at fs place ≡ Some frame
@@ -34,23 +34,23 @@ pub record StandsInFrame (fs : List Frame) (x : NodeAccess) : Type 0 where
 
 -- the state has the accesses of its frames
 pub record HasLocatedAccesses (s : State) : Type 0 where
-  pub spread : (x : NodeAccess) → Among x s.accesses → StandsInFrame s.frames x
-  pub gathered : (x : NodeAccess) → StandsInFrame s.frames x → Among x s.accesses
+  pub spread : (x : NodeAccess) → Among x s.accesses → IsInSomeFrame s.frames x
+  pub gathered : (x : NodeAccess) → IsInSomeFrame s.frames x → Among x s.accesses
 
 -- an access after an update: in the updated frame, or as before
-stands_moved : (fs : List Frame) (i : ℕ) (f : Frame) (u : Frame → Frame) (x : NodeAccess) → frame_at fs i ≡ Some f
-    → StandsInFrame (update_frame fs i u) x → (Among x (located i 0 (u f).trace)) ⊎ (StandsInFrame fs x)
-stands_moved fs i f u x e st = elim (frame_at_moved fs i st.place f u st.frame e st.is) [
+moved_frame : (fs : List Frame) (i : ℕ) (f : Frame) (u : Frame → Frame) (x : NodeAccess) → frame_at fs i ≡ Some f
+    → IsInSomeFrame (update_frame fs i u) x → (Among x (located i 0 (u f).trace)) ⊎ (IsInSomeFrame fs x)
+moved_frame fs i f u x e st = elim (frame_at_moved fs i st.place f u st.frame e st.is) [
   | inl here ↦ inl (subst (λ (h : Frame). Among x (located i 0 h.trace)) here.1
       (subst (λ n. Among x (located n 0 st.frame.trace)) here.0 st.made))
   | inr there ↦ inr (record { place = st.place; frame = st.frame; is = there.1; made = st.made })
 ]
 
 -- an access is kept by an update that keeps its frame's accesses
-stays_standing : (fs : List Frame) (i : ℕ) (f : Frame) (u : Frame → Frame) (x : NodeAccess) → frame_at fs i ≡ Some f
-    → (Among x (located i 0 f.trace) → Among x (located i 0 (u f).trace)) → StandsInFrame fs x
-    → StandsInFrame (update_frame fs i u) x
-stays_standing fs i f u x e keep st = elim (cases_eq st.place i) [
+stays_in_frame : (fs : List Frame) (i : ℕ) (f : Frame) (u : Frame → Frame) (x : NodeAccess) → frame_at fs i ≡ Some f
+    → (Among x (located i 0 f.trace) → Among x (located i 0 (u f).trace)) → IsInSomeFrame fs x
+    → IsInSomeFrame (update_frame fs i u) x
+stays_in_frame fs i f u x e keep st = elim (cases_eq st.place i) [
   | inl same ↦ (
       let is : frame_at fs i ≡ Some st.frame = subst (λ n. frame_at fs n ≡ Some st.frame) same st.is in
       let equal : st.frame ≡ f = cc in
@@ -74,8 +74,8 @@ quiet_located : (s : State) (i : ℕ) (f : Frame) (u : Frame → Frame) → fram
     → located i 0 (u f).trace ≡ located i 0 f.trace → HasLocatedAccesses s
     → HasLocatedAccesses (record s { frames = update_frame s.frames i u })
 quiet_located s i f u e q k = record {
-  spread = λ x m. stays_standing s.frames i f u x e (λ h. rw q h) (k.spread x m);
-  gathered = λ x st. elim (stands_moved s.frames i f u x e st) [
+  spread = λ x m. stays_in_frame s.frames i f u x e (λ h. rw q h) (k.spread x m);
+  gathered = λ x st. elim (moved_frame s.frames i f u x e st) [
     | inl here ↦ k.gathered x (record { place = i; frame = f; is = e; made = rw q at here })
     | inr there ↦ k.gathered x there
   ];
@@ -97,7 +97,7 @@ access_located p s i a all r k =
     rw index (located-accessed i 0 f.trace a) in
     record {
       spread = λ y m. elim (among_either y s.accesses (x ∷ []) m) [
-        | inl old ↦ stays_standing s.frames i f (with_action (Accessed a) Running) y r.is
+        | inl old ↦ stays_in_frame s.frames i f (with_action (Accessed a) Running) y r.is
             (λ h. rw same (among_left y (located i 0 f.trace) (x ∷ []) h)) (k.spread y old)
         | inr new ↦ record {
           place = i;
@@ -106,7 +106,7 @@ access_located p s i a all r k =
           made = rw (same, only_one y x new) (among_right x (located i 0 f.trace) (x ∷ []) Here);
         }
       ];
-      gathered = λ y st. elim (stands_moved s.frames i f (with_action (Accessed a) Running) y r.is st) [
+      gathered = λ y st. elim (moved_frame s.frames i f (with_action (Accessed a) Running) y r.is st) [
         | inl here ↦ elim (among_either y (located i 0 f.trace) (x ∷ []) (subst (λ l. Among y l) same here)) [
           | inl old ↦ among_left y s.accesses (x ∷ [])
               (k.gathered y (record { place = i; frame = f; is = r.is; made = old }))

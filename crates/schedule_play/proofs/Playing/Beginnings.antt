@@ -17,6 +17,7 @@ use Rattle.frame_book.specs.NewBooks.{new_book}
 use Rattle.book_laws.proofs.PlannedPrograms.{accepted_programs_are_planned}
 use Rattle.stage_code.specs.FlatCode.{FlatCode}
 use Rattle.stage_code.specs.LimitRanges.{HasRangesOfLimits}
+use Rattle.stage_interp.specs.CellNumbers.{most_cell_ids}
 use Rattle.serial_elision.proofs.PartRuns.{natural_most}
 use Rattle.schedule_play.specs.OneAccess.{HasAllCells}
 use Rattle.schedule_play.specs.Openings.{no_lists}
@@ -41,7 +42,7 @@ short_runs tree input limit accepted ranges events s run going =
 pub new_play : (code : FlatCode) (tree : SyntaxTree) (input : List ℤ) (limit : ℕ) (program : Program) (cells : ShardState)
     (schedule : ScheduleState)
     → BreaksNoRule tree → HasRangesOfLimits tree.limits → tree_of program ≡ tree
-    → IsStateAfter (store_of tree) (init_accesses (whole_of tree input)) cells → HasAllCells cells → cells.shard.cells ≤ 4294967296
+    → IsStateAfter (store_of tree) (init_accesses (whole_of tree input)) cells → HasAllCells cells → cells.shard.cells ≤ most_cell_ids
     → IsScheduleOf initial_state schedule → schedule.limit ≡ limit
     → IsPlay code cells.shard.cells (record {
       book = new_book program input limit no_lists;

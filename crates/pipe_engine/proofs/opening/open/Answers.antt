@@ -3,8 +3,10 @@ use Rattle.cell_store.proofs.DeclaredCells.{values_length}
 use Rattle.frame_book.specs.BookStates.{BookState}
 use Rattle.pipe_engine.proofs.Openings.{can_drive, map_both}
 use Rattle.pipe_hall.specs.SeatViews.{constants_of}
+use Rattle.pipe_model.specs.declared.bounds.TheConstants.{MOST_CELLS}
 use Rattle.pipe_model.specs.Language.CheckingRules.{cell_total}
 use Rattle.pipe_worker.specs.Machines.{cells_of}
+use Rattle.stage_interp.specs.CellNumbers.{most_cell_ids}
 use Rattle.book_laws.proofs.PlannedPrograms.{accepted_programs_are_planned}
 use Rattle.frame_book.specs.NewBooks.{IsPlannedProgram}
 use Rattle.pipe_hall.specs.ShardParts.{HaveIdentities}
@@ -34,7 +36,7 @@ returns-clause-hall g c =
       before_is = before;
     })
 
-few_cells : (tree : SyntaxTree) → cell_total tree.cells + 2 ≤ 65538 → cells_of tree ≤ 4294967296
+few_cells : (tree : SyntaxTree) → cell_total tree.cells + 2 ≤ MOST_CELLS + 2 → cells_of tree ≤ most_cell_ids
 few_cells tree bounded = let declared = values_length tree.cells in omega (arith, declared, bounded)
 
 pub returns-clause-drives : goal.returns-clause-drives
@@ -43,9 +45,9 @@ returns-clause-drives g c =
     let made = c.in_ok-book.ensures in
     let tree = tree_of c.args.prepared.now.checked.now in
     let tree_is = made.tree ∙ ap (λ (p : Program). tree_of p) c.program-program.ensures.program in
-    let bounded : cells_of tree ≤ 4294967296 =
-    few_cells tree (subst (λ n. n ≤ 65538) c.cell_count-count.ensures.count c.cell_count-count.ensures.bounded) in
+    let bounded : cells_of tree ≤ most_cell_ids =
+    few_cells tree (subst (λ n. n ≤ MOST_CELLS + 2) c.cell_count-count.ensures.count c.cell_count-count.ensures.bounded) in
     map_both c.hall_after.result c.hall_after.ensures.constants c.hall_after.ensures.constants (λ opened constants same.
     can_drive g.B.RunCode.code opened.0.hall (constants_of book) c.args.prepared.now.code.now c.args.prepared.now.input.now constants
     c.requires.code
-    (sym (ap (λ (b : BookState). b.input) made.book)) (subst (λ (t : SyntaxTree). cells_of t ≤ 4294967296) (sym tree_is) bounded))
+    (sym (ap (λ (b : BookState). b.input) made.book)) (subst (λ (t : SyntaxTree). cells_of t ≤ most_cell_ids) (sym tree_is) bounded))

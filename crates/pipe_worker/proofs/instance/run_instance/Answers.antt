@@ -37,7 +37,7 @@ returns-clause-advances g c =
     let before = subst (λ (x : List ℤ). Represents c.args.code.now (cells_of tree) x fresh.run (after_instances d given))
     (sym c.requires.drives.input_is)
     (subst (λ (x : FlatCode). Represents x (cells_of tree) input fresh.run (after_instances d given))
-    (sym c.requires.drives.code_is) at.stands) in
+    (sym c.requires.drives.code_is) at.represents) in
     let ran = c.run_stage_by-end.ensures.ran (after_instances d given) before in
     let ran_here = subst (λ (x : List ℤ). RanInstance code (cells_of tree) x (after_instances d given) first.made last.made machine.run
     end) c.requires.drives.input_is
@@ -67,8 +67,8 @@ returns-clause-advances g c =
           (subst (λ (n : ℕ). IsAtInstance code tree input machine n (given ++ replies_of trace ∷ [])) (sym held.iteration_is)
           (record {
             can = can;
-            stands = subst (Represents code (cells_of tree) input machine.run) (sym (after_instances-push d given (replies_of trace)))
-                (ended.stands names);
+            represents = subst (Represents code (cells_of tree) input machine.run) (sym (after_instances-push d given (replies_of trace)))
+                (ended.represents names);
           }))));
       stopped = λ is. c.finish-lent.ensures.stopped (stops_only end last.stopped is c.run_stage_by-end.ensures.stops);
     }

@@ -1,4 +1,4 @@
-use Rattle.std.proofs.Common.{◌≡◌, ◌∙◌, ◌≤◌, ◌++◌, ap, sym, subst, All, length, true, false}
+use Rattle.std.proofs.Common.{◌≡◌, ◌∙◌, ◌≤◌, ◌^◌, ◌++◌, ap, sym, subst, All, length, true, false}
 use Rattle.std.specs.Prelude.{◌&&◌, ◌<◌, is_some, not}
 use Rattle.pipe_model.specs.declared.column.Column.{Column}
 use Rattle.pipe_model.specs.Language.ProgramsOfTrees.{whole_of}
@@ -19,7 +19,7 @@ pub least_trap-trap-requires-clause-count : goal.least_trap-trap-requires-clause
 least_trap-trap-requires-clause-count c =
     let accepted = c.requires.accepted in
     let run = c.requires.run in
-    subst (λ l. length l ≤ 4294967296) (sym (c.as_slice.ensures ∙ c.requires.columns))
+    subst (λ l. length l ≤ 2 ^ 32) (sym (c.as_slice.ensures ∙ c.requires.columns))
     (columns_are_small (tree_of c.args.prepared.now.checked.now) c.args.prepared.now.input.now run.0 c.args.run_log.now.events accepted
     run.1).count
 
@@ -35,7 +35,7 @@ pub least_trap-trap-requires-clause-bounded : goal.least_trap-trap-requires-clau
 least_trap-trap-requires-clause-bounded c =
     let accepted = c.requires.accepted in
     let run = c.requires.run in
-    subst (λ l. All (λ (column : Column). length column.nodes ≤ 4294967296) l) (sym (c.as_slice.ensures ∙ c.requires.columns))
+    subst (λ l. All (λ (column : Column). length column.nodes ≤ 2 ^ 32) l) (sym (c.as_slice.ensures ∙ c.requires.columns))
     (columns_are_small (tree_of c.args.prepared.now.checked.now) c.args.prepared.now.input.now run.0 c.args.run_log.now.events accepted
     run.1).bounded
 

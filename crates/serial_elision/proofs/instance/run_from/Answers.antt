@@ -10,7 +10,7 @@ use Rattle.stage_interp.specs.TreeRuns.{RanTree, RepresentsTree}
 use Rattle.serial_elision.proofs.instance.run_from.Goals as goal
 
 pub returns-in-Some-clause-ran : goal.returns-in-Some-clause-ran
-returns-in-Some-clause-ran g c = λ t stands.
+returns-in-Some-clause-ran g c = λ t represents.
     let log = g.B.Beginning.log in
     let code = c.args.prepared.now.code.now in
     let input = c.args.prepared.now.input.now in
@@ -21,7 +21,7 @@ returns-in-Some-clause-ran g c = λ t stands.
     ap (λ (r : Recording). made_since log r.log) begun ∙ ap (made_since log) c.requires.log ∙ made_none log in
     let ran = c.run_stage-end.ensures.ran t (subst (λ (r : Recording). Represents code r.log.cells.shard.cells input c.args.machine.now.run
     t)
-    (sym begun) stands) in
+    (sym begun) represents) in
     let adds = c.into_log.ensures.adds (sym c.is_full.ensures ∙ c.if-is_full.false) in
     let own = subst (λ (x : NodeId). Adds x log (made_since log now) now) (sym c.requires.node) adds in
     let since = subst (λ (l : Log). Adds c.args.node l (made_since log now) now) (sym c.requires.log) own in
@@ -32,7 +32,7 @@ returns-in-Some-clause-ran g c = λ t stands.
     (sym c.instance_end.ensures ∙ c.in-Some.is)
 
 pub returns-in-Some-clause-tree : goal.returns-in-Some-clause-tree
-returns-in-Some-clause-tree g c = λ d stands.
+returns-in-Some-clause-tree g c = λ d represents.
     let log = g.B.Beginning.log in
     let code = c.args.prepared.now.code.now in
     let input = c.args.prepared.now.input.now in
@@ -43,7 +43,7 @@ returns-in-Some-clause-tree g c = λ d stands.
     ap (λ (r : Recording). made_since log r.log) begun ∙ ap (made_since log) c.requires.log ∙ made_none log in
     let ran = c.run_stage-end.ensures.tree d (subst (λ (r : Recording). RepresentsTree code r.log.cells.shard.cells input
     c.args.machine.now.run d)
-    (sym begun) stands) in
+    (sym begun) represents) in
     let adds = c.into_log.ensures.adds (sym c.is_full.ensures ∙ c.if-is_full.false) in
     let own = subst (λ (x : NodeId). Adds x log (made_since log now) now) (sym c.requires.node) adds in
     let since = subst (λ (l : Log). Adds c.args.node l (made_since log now) now) (sym c.requires.log) own in

@@ -21,14 +21,14 @@ loop-nodes-init c =
     let input = c.args.prepared.now.input.now in
     let cells = c.args.log.cells.shard.cells in
     let served : cell_total tree.cells + 2 ≤ cells = omega (arith, c.requires.serves.count) in
-    let stands = c.reset.ensures.stands tree code cells input c.requires.code c.requires.made served in
+    let represents = c.reset.ensures.represents tree code cells input c.requires.code c.requires.made served in
     let represents_tree = c.reset.ensures.tree tree code cells input c.requires.code c.requires.made served in
     let begun = c.in_ok-log.ensures in
     let one = ap length c.in_ok-nodes.ensures in
     record {
       left = left_begun code cells input (store_of tree) (behaviour_in tree input c.args.part c.args.iteration) c.args.iteration c.args.log
           c.reset.new.self.run c.in_ok-nodes.nodes c.in_ok-log.log
-          stands c.in_ok-nodes.ensures begun;
+          represents c.in_ok-nodes.ensures begun;
       counted = steps_begun code cells input (store_of tree) (interaction_in tree input c.args.part c.args.iteration) c.args.iteration
           c.args.log
           c.args.steps.now c.reset.new.self.run c.in_ok-log.log represents_tree begun;

@@ -14,5 +14,5 @@ returns-in-Some-clause-ready g c = λ tree input whole.
     let can = subst (CanRun code tree) (sym c.get_mut.ensures.value) (subst (λ m. HasMachine m (CanRun code tree)) c.in-Some.is whole) in
     record {
       can = record { code_of = can.code_of; made = c.reset.ensures.made code can.made };
-      stands = c.reset.ensures.stands tree code (cells_of tree) input can.code_of can.made (all_cells tree);
+      represents = c.reset.ensures.represents tree code (cells_of tree) input can.code_of can.made (all_cells tree);
     }

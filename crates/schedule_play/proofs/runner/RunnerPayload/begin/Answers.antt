@@ -5,5 +5,5 @@ returns-clause-ready g c = λ tree input whole.
     let code = g.B.PlayedCode.code in
     record {
       whole = record { code_of = whole.code_of; made = c.reset.ensures.made code whole.made; served = whole.served };
-      stands = c.reset.ensures.stands tree code g.B.PlayedCode.cells input whole.code_of whole.made whole.served;
+      represents = c.reset.ensures.represents tree code g.B.PlayedCode.cells input whole.code_of whole.made whole.served;
     }

@@ -50,6 +50,6 @@ name_next-requires-clause-ready g c = λ names.
     (sym c.from_vec.ensures)
     (record {
       whole = instance.whole;
-      stands = subst (Represents code cells book.input machine.run) (sym (after_instances-push d replies (replies_of trace)))
-          (ends.stands names);
+      represents = subst (Represents code cells book.input machine.run) (sym (after_instances-push d replies (replies_of trace)))
+          (ends.represents names);
     })

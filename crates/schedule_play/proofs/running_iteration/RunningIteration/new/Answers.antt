@@ -14,10 +14,10 @@ returns-clause-instance g c = λ tree replies at.
     let t = after_instances ((pipeline_of tree input).behaviour c.args.token.iteration) replies in
     let running = c.new-running.result in
     let run = c.new-running.new.machine.run in
-    let stands = subst (λ (x : FlatCode). Represents x c.args.cells.now.shard.cells input c.args.token.payload.machine.run t)
+    let represents = subst (λ (x : FlatCode). Represents x c.args.cells.now.shard.cells input c.args.token.payload.machine.run t)
     (sym c.requires.code)
-    (subst (λ (n : ℕ). Represents code n input c.args.token.payload.machine.run t) (sym c.requires.cells) at.stands) in
-    let begun = c.new-running.ensures.begun t stands in
+    (subst (λ (n : ℕ). Represents code n input c.args.token.payload.machine.run t) (sym c.requires.cells) at.represents) in
+    let begun = c.new-running.ensures.begun t represents in
     let first = subst (λ (x : FlatCode). IsUnderWay x c.args.cells.now.shard.cells input t run [] running.next) c.requires.code begun in
     let here = subst (λ (n : ℕ). IsUnderWay code n input t run [] running.next) c.requires.cells first in
     record {

@@ -4,8 +4,8 @@ use Rattle.stage_interp.specs.MachineState.{IsAtStart, MachineState, iteration_i
 use Rattle.stage_interp.proofs.Starts.{represents_in, represents_tree_in}
 use Rattle.stage_interp.proofs.machine.Machine.reset.Goals as goal
 
-pub returns-clause-stands : goal.returns-clause-stands
-returns-clause-stands c = λ tree code cells input of made served.
+pub returns-clause-represents : goal.returns-clause-represents
+returns-clause-represents c = λ tree code cells input of made served.
     let machine = c.args.self.now in
     let run = run_of c.reset.new.self in
     let is : c.self.inside.execution ≡ Some c.in-Some.taken = (let a = c.in-Some.is in let b = c.take.ensures.value in cc (a, b)) in
