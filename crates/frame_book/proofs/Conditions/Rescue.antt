@@ -66,7 +66,10 @@ all_completed (x ∷ fs) a (suc i) f e = all_completed fs (omega (arith, a)) i f
 
 pub none_alive : (fs : List Frame) → ((i : ℕ) (f : Frame) → frame_at fs i ≡ Some f → is_completed f.status ≡ true) → alive_in fs ≡ 0
 none_alive [] h = refl
-none_alive (x ∷ fs) h = let a = completed_not_alive x.status (h 0 x refl) in let r = none_alive fs (λ i f e. h (suc i) f e) in omega (arith, a, r)
+none_alive (x ∷ fs) h =
+    let a = completed_not_alive x.status (h 0 x refl) in
+    let r = none_alive fs (λ i f e. h (suc i) f e) in
+    omega (arith, a, r)
 
 -- closed, and none alive: finished
 pub finished_by : (s : State) → s.stopped ≡ false → IsClosed s.frames → alive s ≡ 0 → IsFinished s
