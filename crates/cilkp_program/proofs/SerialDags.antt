@@ -1,6 +1,6 @@
 -- The serial elision of an accepted program as a run, and the dag and the races of its columns and accesses.
 use Rattle.pipe_model.specs.Language.CheckingRules.{BreaksNoRule}
-use Rattle.std.proofs.Common.{◌≡◌, ◌∙◌, ◌<◌, ◌≤◌, ℕ, ℤ, zero, suc, All, List, [], ◌∷◌, Option, length, map, refl, sym, ap, subst, arith}
+use Rattle.std.proofs.Common.{◌≡◌, ◌∙◌, ◌≤◌, ℕ, ℤ, All, List, [], ◌∷◌, Option, map, refl, sym, ap, subst, arith}
 use Rattle.pipe_model.specs.declared.access.NodeAccess.{NodeAccess}
 use Rattle.pipe_model.specs.declared.column.Column.{Column}
 use Rattle.pipe_model.specs.declared.event.Event.{Event}
@@ -12,7 +12,6 @@ use Rattle.pipe_model.specs.Language.SyntaxTree.{SyntaxTree}
 use Rattle.pipe_model.specs.Pipelines.Behaviour.{Action, column_of}
 use Rattle.pipe_model.specs.Pipelines.ElisionResults.{ended_column}
 use Rattle.pipe_model.specs.Pipelines.WholePrograms.{WholeProgram, loop_after_init, loop_traces, program_columns, program_log}
-use Rattle.pipe_model.specs.Races.Columns.{nodes_at}
 use Rattle.pipe_model.specs.Races.FirstRaces.{AreFirstRaces}
 use Rattle.pipe_model.specs.Runs.Run.{EmptyRun}
 use Rattle.pipe_model.specs.Runs.RunLogs.{accesses_after, column_of_frame, columns_after, state_after}
@@ -26,6 +25,7 @@ use Rattle.run_laws.proofs.RunStates.IterationCounts.{runs_keep_rules}
 use Rattle.run_laws.specs.RunLaws.{KeepsRules}
 use Rattle.program_laws.proofs.ProgramElisions.{program_elision_is_a_run}
 use Rattle.program_laws.specs.ProgramRunLaws.{HasElisionLog}
+use Rattle.schedule_play.proofs.PlayedRuns.{column_inside}
 use Rattle.cilkp_program.specs.SerialResults.{ElisionResult, Races, Finishes, Traps, elision_accesses, elision_columns, elision_log}
 use Rattle.cilkp_program.specs.SerialResults.{elision_output, elision_trap}
 use Rattle.cilkp_program.specs.RunTexts.{IsPrintedAs, WithRaces, ToItsEnd, WithTrap}
@@ -81,12 +81,6 @@ pub given_columns_rise : (tree : SyntaxTree) (input : List ℤ) (columns : List 
 given_columns_rise tree input columns form e =
     let h = serial_log tree input 1 form (omega arith) in
     subst AreRising (h.columns ∙ sym (given_columns tree input columns e)) (record { each = h.rules.rising })
-
--- the number of a column with an instance is below the number of columns
-column_inside : (columns : List (List Node)) (i k : ℕ) → k < length (nodes_at columns i) → i < length columns
-column_inside [] i k w = absurd (omega (arith, w))
-column_inside (c ∷ cs) zero k w = omega arith
-column_inside (c ∷ cs) (suc i) k w = let h = column_inside cs i k w in omega (arith, h)
 
 -- the accesses of the loop are made by instances of its columns
 pub accesses_inside : (tree : SyntaxTree) (input : List ℤ) → BreaksNoRule tree

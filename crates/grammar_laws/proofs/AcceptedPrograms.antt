@@ -22,7 +22,7 @@ record IsWholeProgram (ts : List Symbol) : Type 0 where
   derived : DerivesProgram pieces tree
   split : ts ≡ flat pieces
 
-both : (a b : Bool) → (a && b) ≡ true → (a ≡ true) × (b ≡ true)
+pub both : (a b : Bool) → (a && b) ≡ true → (a ≡ true) × (b ≡ true)
 both true b h = (refl, h)
 both false b h = absurd (cc (h))
 

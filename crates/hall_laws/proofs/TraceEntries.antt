@@ -1,13 +1,14 @@
 -- Which entries of a shard belong to an instance, and which entries of a trace belong to a shard.
 use Rattle.std.proofs.Common.{◌≡◌, ◌∙◌, refl, sym, ap, ap₂, subst, ℕ, suc, ◌%◌, List, [], ◌∷◌, map, Bool, true, false, ◌==◌, ◌&&◌, cond}
 use Rattle.std.proofs.Common.{filter, All, arith, inl, inr}
-use Rattle.std.proofs.lemmas.Bool.{eq-eqb, eqb-true, false≢true}
+use Rattle.std.proofs.lemmas.Bool.{eq-eqb, eqb-true}
 use Rattle.pipe_model.specs.declared.node.NodeId.{NodeId}
 use Rattle.pipe_model.specs.declared.ticket.Entry.{Entry}
 use Rattle.pipe_model.specs.declared.ticket.ShardEntry.{ShardEntry}
 use Rattle.pipe_model.specs.Races.DeterminacyRaces.{Among, Here, Later}
 use Rattle.pipe_model.proofs.Members.{among_either, none_among, only_one}
 use Rattle.run_record.proofs.RisingLists.{among_map}
+use Rattle.schedule_laws.proofs.AllowedEvents.{both_true}
 use Rattle.hall_laws.specs.ClosedHalls.{entries_of_instance, entries_of_shard, entry_in_trace, is_same_node}
 
 -- ---- elements of lists
@@ -48,10 +49,6 @@ all_among P x (y ∷ xs) h m = elim (among_either x (y ∷ []) xs m) [
 ]
 
 -- ---- names of instances
-
-both_true : (a b : Bool) → (a && b) ≡ true → (a ≡ true) × (b ≡ true)
-both_true true b e = (refl, e)
-both_true false b e = absurd (false≢true e)
 
 same_node_is : (x y : NodeId) → is_same_node x y ≡ true → x ≡ y
 same_node_is x y e =

@@ -1,5 +1,5 @@
 -- A call on the book keeps what is known of the book, of the seats and of the shards.
-use Rattle.std.proofs.Common.{◌≡◌, ◌≢◌, ℕ, zero, suc, ◌+◌, ◌*◌, ◌≤◌, List, [], ◌∷◌, ◌++◌, map, length, get_or, refl, sym, ap, ◌∙◌, ◌==◌}
+use Rattle.std.proofs.Common.{◌≡◌, ◌≢◌, ℕ, ◌+◌, ◌*◌, ◌≤◌, List, [], ◌++◌, map, length, get_or, refl, sym, ap, ◌∙◌, ◌==◌}
 use Rattle.std.proofs.Common.{subst, arith, cond, Option, Some, None, IfSome}
 use Rattle.std.proofs.lemmas.List.{length-append}
 use mathlib.Core.Logic.{dite}
@@ -24,6 +24,7 @@ use Rattle.access_history.specs.declared.history.MarkedNode.{MarkedNode}
 use Rattle.access_history.specs.KeptInstances.{AgreeOn, AllKept}
 use Rattle.access_history.specs.KnownOrder.{AgreeOnKnown}
 use Rattle.frame_book.specs.BookStates.{BookState, IsOut, item_or, timed_access}
+use Rattle.schedule_laws.proofs.BookOrder.{ticket_stays}
 use Rattle.pipe_hall.specs.SeatViews.{HallConstants, InstanceData, ShardValue}
 use Rattle.pipe_hall.specs.Logs.{trace_by, of_shard, with_at}
 use Rattle.pipe_hall.specs.BookParts.{HasSeats, IsTimelyToken, KnowsInstance, IsTimelyTrace, StartedBy, joined_in, marks_in}
@@ -32,11 +33,6 @@ use Rattle.pipe_hall.specs.BookCalls.{IsIterationAfter, IsBookCall}
 use Rattle.pipe_hall.proofs.Boards.{with_here, with_else}
 
 -- ---- tickets of a longer log
-
-pub ticket_stays : (xs ys : List ℕ) (n t : ℕ) → ticket_at xs n ≡ Some t → ticket_at (xs ++ ys) n ≡ Some t
-ticket_stays [] ys n t e = absurd (let z : None ≡ Some t = e in cc)
-ticket_stays (x ∷ xs) ys zero t e = e
-ticket_stays (x ∷ xs) ys (suc n) t e = ticket_stays xs ys n t e
 
 pub start_stays : (log added : List BookEntry) (i k t : ℕ) → start_ticket_of log i k ≡ Some t → start_ticket_of (log ++ added) i k ≡ Some t
 start_stays log added i k t e = subst (λ l. ticket_at l k ≡ Some t) (sym (start_tickets-append i log added))

@@ -31,7 +31,6 @@ use Rattle.pipe_model.specs.Language.ProgramsOfTrees.{pipeline_after_init, whole
 use Rattle.pipe_model.specs.Language.SyntaxTree as syntax
 use Rattle.pipe_model.specs.Language.SyntaxTree.{And, Assign, AssignElement, Binary, Element, Emit, Empty, Expression, If, Iter, Let, More}
 use Rattle.pipe_model.specs.Language.SyntaxTree.{Name, NextStage, Number, Or, Statement, Statements, SyntaxTree, Take, Then, Unary, While}
-use Rattle.pipe_model.specs.Language.SyntaxTree.{kind_of_stage}
 use Rattle.pipe_model.specs.Pipelines.Behaviour.{Accessed, Action, Behaviour, Ended, Ending, Offers, Reading, Staged, Staging}
 use Rattle.pipe_model.specs.Pipelines.Behaviour.{Writing, accesses_in, behaviour_after, behaviour_after_all, read_access, write_access}
 use Rattle.pipe_model.specs.Pipelines.Pipeline.{Pipeline}
@@ -40,7 +39,8 @@ use Rattle.pipe_model.specs.Pipelines.Store.{InitialStore, value_after}
 use Rattle.pipe_model.specs.Runs.Allowed.{ProgramAllows}
 use Rattle.pipe_model.specs.Runs.Run.{EmptyRun, RunThen}
 use Rattle.pipe_model.specs.Runs.State.{State, frame_at, trace_in}
-use Rattle.program_laws.proofs.OneInstance.{AreUnbroken, rest_is_none, unbroken, unbroken_left}
+use Rattle.program_laws.proofs.UnbrokenMarks.{unbroken, unbroken_left, AreUnbroken}
+use Rattle.program_laws.proofs.OneInstance.{rest_is_none}
 use Rattle.program_laws.specs.DeclaredCells.{AccessesBelow, ActionsAccessBelow, InitAccessesItsCells, IsBelow, IsInside}
 use Rattle.program_laws.specs.DeclaredCells.{ProgramRunsAccessTheirCells, ProgramsAccessTheirCells, RunsAccessBelow, cell_count}
 

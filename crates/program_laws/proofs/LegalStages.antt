@@ -15,7 +15,7 @@ use Rattle.pipe_model.specs.Language.Evaluation.{emit, go_to_stage, go_to_next_s
 use Rattle.pipe_model.specs.Language.Interaction.{Interaction, Return, Raise, Step, Get, Set, Stage, bind, with_budget}
 use Rattle.pipe_model.specs.Pipelines.Pipeline.{HasLegalStages}
 use Rattle.pipe_model.specs.Language.SyntaxTree as syntax
-use Rattle.pipe_model.specs.Language.SyntaxTree.{Expression, Statement, Let, Assign, AssignElement, Emit, If, While, NextStage, Statements}
+use Rattle.pipe_model.specs.Language.SyntaxTree.{Statement, Let, Assign, AssignElement, Emit, If, While, NextStage, Statements}
 use Rattle.pipe_model.specs.Language.SyntaxTree.{Empty, Then, kind_of_stage}
 use Rattle.program_laws.proofs.Straight.{IsStraight, Returns, Raises, Steps, Gets, Sets, Anything, straight-evaluate, straight-element_of}
 use Rattle.program_laws.proofs.Straight.{straight-fitting}
@@ -98,7 +98,7 @@ rises-assign env (Some old) range x v first n at = RisesReturn at
 rises-assign env None (Some range) x v first n at = RisesSet _ _ (RisesReturn at)
 rises-assign env None None x v first n at = RisesRaise _
 
-straight-emit : (limit : ℕ) (v : ℤ) → IsStraight Anything (emit limit v)
+pub straight-emit : (limit : ℕ) (v : ℤ) → IsStraight Anything (emit limit v)
 straight-emit limit v = Gets 1 (λ count. straight_either Anything (int_eq count (pos limit)) _ _ (Raises _) (Sets 1 v (Returns tt)))
 
 -- the turns of a loop whose body rises

@@ -1,3 +1,4 @@
+pub mod UnbrokenMarks
 pub mod BoundedWork
 pub mod DeclaredCells
 pub mod FinishedSchedules

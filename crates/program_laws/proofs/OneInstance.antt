@@ -1,51 +1,29 @@
 -- `init` and `final` of an accepted program name no stage, so each is one instance.
-use Rattle.std.proofs.Common.{◌≡◌, ◌∙◌, ap, refl, ℕ, zero, suc, ℤ, pos, false, List, [], ◌∷◌, ◌++◌, Option, Some, None, ◌+◌}
-use Rattle.std.specs.Ordering.{int_eq}
+use Rattle.std.proofs.Common.{◌≡◌, ◌∙◌, ap, refl, ℕ, zero, suc, ℤ, false, List, [], ◌++◌, Option, Some, None, ◌+◌}
 use Rattle.pipe_model.specs.declared.region.Region.TheVariants as regions
-use Rattle.pipe_model.specs.Language.CheckingRules.{Fault, CheckingRule, PipeOutside, broken_at, fault_or, first_fault, has_stages}
+use Rattle.pipe_model.specs.Language.CheckingRules.{Fault, PipeOutside, broken_at, first_fault, has_stages}
 use Rattle.pipe_model.specs.Language.CheckingRules.{limit_fault_or, first_limit_out}
-use Rattle.pipe_model.specs.Language.Evaluation.{CellRange, Setting, Environment, evaluate, execute, execute_all, assign, emit}
+use Rattle.pipe_model.specs.Language.Evaluation.{CellRange, Setting, Environment, evaluate, execute, execute_all, assign}
 use Rattle.pipe_model.specs.Language.Evaluation.{first_environment, leave_block, local_value, loop_turns}
 use Rattle.pipe_model.specs.Language.Interaction.{Interaction, with_budget}
 use Rattle.pipe_model.specs.declared.column.ColumnEnd.{ColumnEnd}
-use Rattle.pipe_model.specs.Language.Marks.{Mark, Scope, StageWord, after_block, after_statement, after_statements, marks_of}
+use Rattle.pipe_model.specs.Language.Marks.{Scope, StageWord, after_block, after_statement, after_statements, marks_of}
 use Rattle.pipe_model.specs.Language.Marks.{marks_of_cells, marks_of_expression, marks_of_statement, marks_of_statements, opening}
 use Rattle.pipe_model.specs.Language.Marks as marks
 use Rattle.pipe_model.specs.Language.Programs.{natural, setting_of}
 use Rattle.pipe_model.specs.Language.SyntaxTree as syntax
-use Rattle.pipe_model.specs.Language.SyntaxTree.{SyntaxTree, Expression, Statement, Let, Assign, AssignElement, Emit, If, While, NextStage}
+use Rattle.pipe_model.specs.Language.SyntaxTree.{SyntaxTree, Statement, Let, Assign, AssignElement, Emit, If, While, NextStage}
 use Rattle.pipe_model.specs.Language.SyntaxTree.{Statements, Empty, Then}
+use Rattle.program_laws.proofs.UnbrokenMarks.{unbroken, unbroken_left, unbroken_right, AreUnbroken}
+use Rattle.program_laws.proofs.LegalStages.{straight-emit}
 use Rattle.program_laws.proofs.Straight.{IsStraight, Returns, Raises, Steps, Gets, Sets, Anything, straight-bind, straight-evaluate}
-use Rattle.program_laws.proofs.Straight.{straight-element_of, either, either_by_zero}
+use Rattle.program_laws.proofs.Straight.{straight-element_of, either_by_zero}
 use Rattle.pipe_model.specs.Pipelines.WholePrograms.{IsOneInstance}
 use Rattle.pipe_model.specs.Language.ProgramsOfTrees.{part_of}
 use Rattle.program_laws.specs.ProgramRunLaws.{PartsAreOneInstance}
 
--- no mark breaks a rule
-abbrev pub AreUnbroken : List Mark → Type 0
-AreUnbroken [] = Unit {0}
-AreUnbroken (m ∷ ms) = (broken_at m ≡ None) × AreUnbroken ms
-
-none_or_none : (o : Option CheckingRule) (n : ℕ) (rest : Option Fault) → fault_or o n rest ≡ None → (o ≡ None) × (rest ≡ None)
-none_or_none None n rest h = (refl, h)
-none_or_none (Some rule) n rest h = absurd (cc)
-
-pub unbroken : (n : ℕ) (ms : List Mark) → first_fault n ms ≡ None → AreUnbroken ms
-unbroken n [] h = tt
-unbroken n (m ∷ ms) h =
-    let both = none_or_none (broken_at m) n (first_fault (n + 1) ms) h in
-    (both.0, unbroken (n + 1) ms both.1)
-
-pub unbroken_left : (xs ys : List Mark) → AreUnbroken (xs ++ ys) → AreUnbroken xs
-unbroken_left [] ys u = tt
-unbroken_left (x ∷ xs) ys u = (u.0, unbroken_left xs ys u.1)
-
-unbroken_right : (xs ys : List Mark) → AreUnbroken (xs ++ ys) → AreUnbroken ys
-unbroken_right [] ys u = u
-unbroken_right (x ∷ xs) ys u = unbroken_right xs ys u.1
-
 -- a stage statement breaks a rule in `init` and `final`
-stage_is_broken : (scope : Scope) → has_stages scope.region ≡ false → broken_at (marks.mark_at scope StageWord) ≡ None → ⊥
+pub stage_is_broken : (scope : Scope) → has_stages scope.region ≡ false → broken_at (marks.mark_at scope StageWord) ≡ None → ⊥
 stage_is_broken scope outside h =
     let broken : broken_at (marks.mark_at scope StageWord) ≡ Some PipeOutside = rw outside in
     cc
@@ -119,9 +97,6 @@ straight-assign : (env : Environment) (o : Option ℤ) (range : Option CellRange
 straight-assign env (Some old) range x v = Returns tt
 straight-assign env None (Some range) x v = Sets _ _ (Returns tt)
 straight-assign env None None x v = Raises _
-
-straight-emit : (limit : ℕ) (v : ℤ) → IsStraight Anything (emit limit v)
-straight-emit limit v = Gets 1 (λ count. either Anything (int_eq count (pos limit)) _ _ (Raises _) (Sets 1 v (Returns tt)))
 
 straight-turns : (turns : ℕ) (test : Environment → Interaction ℤ) (body : Environment → Interaction Environment) (env : Environment)
     → ((now : Environment) → IsStraight Anything (test now)) → ((now : Environment) → IsStraight Anything (body now))

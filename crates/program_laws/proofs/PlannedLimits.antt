@@ -9,7 +9,7 @@ use Rattle.pipe_model.specs.Language.CheckingRules.{Fault, fault_of, first_limit
 use Rattle.pipe_model.specs.Language.Programs.{natural}
 use Rattle.pipe_model.specs.Language.SyntaxTree.{SyntaxTree}
 
-passed : {A : Type 0} (ok : Bool) (v : A) (rest : Option A) → (if not ok then Some v else rest) ≡ None → (ok ≡ true) × (rest ≡ None)
+pub passed : {A : Type 0} (ok : Bool) (v : A) (rest : Option A) → (if not ok then Some v else rest) ≡ None → (ok ≡ true) × (rest ≡ None)
 passed true v rest h = (refl, h)
 passed false v rest h = absurd (cc)
 
@@ -17,7 +17,7 @@ avoided : {A : Type 0} (bad : Bool) (v : A) (rest : Option A) → (if bad then S
 avoided true v rest h = absurd (cc)
 avoided false v rest h = (refl, h)
 
-no_limit_out : (o : Option ℕ) (rest : Option Fault) → limit_fault_or o rest ≡ None → o ≡ None
+pub no_limit_out : (o : Option ℕ) (rest : Option Fault) → limit_fault_or o rest ≡ None → o ≡ None
 no_limit_out None rest h = refl
 no_limit_out (Some which) rest h = absurd (cc)
 

@@ -107,7 +107,7 @@ no_trap_or_none : (b : Bool) → part_trap Last (trace_end (unless b (Ended ends
 no_trap_or_none true = refl
 no_trap_or_none false = refl
 
-first_alone : (o : Option TrapAt) → first_of_both o None ≡ o
+pub first_alone : (o : Option TrapAt) → first_of_both o None ≡ o
 first_alone None = refl
 first_alone (Some t) = refl
 

@@ -12,16 +12,16 @@ use Rattle.pipe_model.specs.declared.trap.Trap.{Trap}
 use Rattle.pipe_model.specs.declared.trap.Trap.TheVariants as traps
 use Rattle.pipe_model.specs.Pipelines.Behaviour.{Reading, Writing, Staging}
 use Rattle.pipe_model.specs.Language.Evaluation.{CellRange, Local, Setting, StagePosition, Environment, evaluate, execute, execute_all}
-use Rattle.pipe_model.specs.Language.Evaluation.{assign, emit, go_to_stage, if_zero, leave_block, loop_turns, local_value, run_iteration}
+use Rattle.pipe_model.specs.Language.Evaluation.{assign, go_to_stage, if_zero, leave_block, loop_turns, local_value, run_iteration}
 use Rattle.pipe_model.specs.Language.Evaluation.{first_environment}
 use Rattle.pipe_model.specs.Language.Interaction.{Interaction, Return, Raise, Step, Get, Set, Stage, bind, with_budget}
 use Rattle.pipe_model.specs.Language.SyntaxTree as syntax
 use Rattle.pipe_model.specs.Language.SyntaxTree.{Expression, Number, Name, Element, And, Or, Binary, Unary, More, Take, Iter, Statement}
 use Rattle.pipe_model.specs.Language.SyntaxTree.{Let, Assign, AssignElement, Emit, If, While, NextStage, Statements, Empty, Then}
 use Rattle.pipe_model.specs.Language.SyntaxTree.{kind_of_stage}
+use Rattle.program_laws.proofs.LegalStages.{straight-emit}
 use Rattle.program_laws.proofs.Straight.{IsStraight, Returns, Raises, Steps, Gets, Sets, Anything, straight-evaluate, straight-element_of}
 use Rattle.program_laws.proofs.Straight.{straight-fitting}
-use Rattle.program_laws.proofs.Straight.{either as straight_either}
 use Rattle.pipe_model.specs.Language.Programs.{natural, setting_of}
 use Rattle.program_laws.specs.LoopTurns.{with_turns}
 use Rattle.pipe_model.specs.Language.ProgramsOfTrees.{execute_part}
@@ -154,9 +154,6 @@ straight-assign : (env : Environment) (o : Option ℤ) (range : Option CellRange
 straight-assign env (Some old) range x v = Returns refl
 straight-assign env None (Some range) x v = Sets _ _ (Returns refl)
 straight-assign env None None x v = Raises _
-
-straight-emit : (limit : ℕ) (v : ℤ) → IsStraight Anything (emit limit v)
-straight-emit limit v = Gets 1 (λ count. straight_either Anything (int_eq count (pos limit)) _ _ (Raises _) (Sets 1 v (Returns tt)))
 
 -- a tree without stages does the same as itself
 same_straight : {A : Type 0} {P : A → Type 0} {Q : ℕ → ℕ → A → Type 0} (budget left room : ℕ) {d : Interaction A} → IsStraight P d

@@ -6,11 +6,12 @@ use Rattle.pipe_model.specs.declared.column.ColumnEnd.{ColumnEnd}
 use Rattle.pipe_model.specs.declared.trap.Trap.TheVariants as traps
 use Rattle.pipe_model.specs.Pipelines.Behaviour.{closes_at_once}
 use Rattle.pipe_model.specs.Language.Evaluation.{Setting, first_environment, run_iteration}
-use Rattle.pipe_model.specs.Language.CheckingRules.{BreaksNoRule, Fault, fault_of, is_between, limit_fault_or, first_limit_out}
+use Rattle.pipe_model.specs.Language.CheckingRules.{BreaksNoRule, fault_of, is_between, first_limit_out}
 use Rattle.pipe_model.specs.Language.Interaction.{Interaction, with_budget}
 use Rattle.pipe_model.specs.Pipelines.Pipeline.{AlwaysClosesLoop, IsWellFormed}
 use Rattle.pipe_model.specs.Language.Programs.{natural, pipeline_of, setting_of}
 use Rattle.pipe_model.specs.Language.SyntaxTree.{Expression, Statements, SyntaxTree}
+use Rattle.program_laws.proofs.PlannedLimits.{no_limit_out}
 use Rattle.program_laws.proofs.LegalStages.{Rises, RisesReturn, RisesRaise, RisesStep, EndsRightly, either_by_zero, legal-with_budget}
 use Rattle.program_laws.proofs.LegalStages.{rises-bind, rises-execute_all, straight-then}
 use Rattle.program_laws.proofs.Straight.{IsStraight, Returns, Raises, Steps, Gets, Sets, straight-bind, straight-evaluate}
@@ -61,11 +62,6 @@ natural_is (negsuc n) h = cc (h)
 first_in_range : (ok : Bool) (rest : Option ℕ) → (if not ok then Some 1 else rest) ≡ None → ok ≡ true
 first_in_range true rest h = refl
 first_in_range false rest h = cc (h)
-
--- a program without a fault has no limit that is out of its range
-no_limit_out : (o : Option ℕ) (rest : Option Fault) → limit_fault_or o rest ≡ None → o ≡ None
-no_limit_out None rest h = refl
-no_limit_out (Some which) rest h = cc (h)
 
 -- the iteration limit of a program without a fault is in its range
 iterations_in_range : (tree : SyntaxTree) → fault_of tree ≡ None → is_between (pos 1) (pos 65536) tree.limits.iterations ≡ true

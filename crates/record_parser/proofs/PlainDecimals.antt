@@ -8,6 +8,7 @@ use Rattle.std.proofs.lemmas.Fmt.{decimal_nonempty, digits_decimal, digits_value
 use Rattle.std.proofs.lemmas.Fmt.{decimal_digit}
 use Rattle.std.proofs.lemmas.Str.Parse.{IsNumeralModel, IsDigitsTest, FoldsDigits, numerals_by_fold}
 use Rattle.pipe_model.specs.Language.Lexis.{is_digit, number_of}
+use Rattle.grammar_laws.proofs.AcceptedPrograms.{both}
 use Rattle.record_parser.specs.PlainDecimals.{is_plain_decimal}
 
 abbrev read_on : ℕ → List ℕ → ℕ
@@ -22,10 +23,6 @@ folds = search rules
 pub own : IsNumeralModel (λ ds. list_all is_digit ds ≡ true) number_of
 own = numerals_by_fold _ digits_test read_on folds
 
-and_parts : (a b : Bool) → (a && b) ≡ true → (a ≡ true) × (b ≡ true)
-and_parts true b e = (refl, e)
-and_parts false b e = absurd (cc)
-
 and_made : (a b : Bool) → a ≡ true → b ≡ true → (a && b) ≡ true
 and_made a b e f = rw (e, f) refl
 
@@ -39,7 +36,7 @@ lead b bs e zero_first =
 pub plain_is_written : (ds : List ℕ) → is_plain_decimal ds ≡ true → number_of ds < 2 ^ 64 → ds ≡ decimal (number_of ds)
 plain_is_written [] e small = absurd (cc)
 plain_is_written (b ∷ bs) e small =
-    let parts = and_parts (list_all is_digit (b ∷ bs)) (not (b == 48) || (length bs == 0)) e in
+    let parts = both (list_all is_digit (b ∷ bs)) (not (b == 48) || (length bs == 0)) e in
     sym (decimal-digits_value own (b ∷ bs) parts.0 (omega arith) (λ z. (let l = lead b bs parts.1 z in omega (arith, l))) small)
 
 first_is : (n b : ℕ) (bs : List ℕ) → n < 2 ^ 64 → decimal n ≡ b ∷ bs → (not (b == 48) || (length bs == 0)) ≡ true

@@ -8,9 +8,10 @@ use Rattle.pipe_model.specs.declared.node.Node.{Node}
 use Rattle.pipe_model.specs.declared.status.Status.{Status}
 use Rattle.pipe_model.specs.declared.status.Status.TheVariants.{Running, Pending, Completed}
 use Rattle.pipe_model.specs.Pipelines.Behaviour.{Action, Staged, Ended, node_of}
-use Rattle.pipe_model.specs.Runs.ControlParts.{control_after, control_from, next_control, outline_of, outlines_of}
+use Rattle.pipe_model.specs.Runs.ControlParts.{control_after, next_control, outline_of, outlines_of}
 use Rattle.pipe_model.specs.Runs.RunLogs.{column_of_frame}
 use Rattle.pipe_model.specs.Runs.State.{Frame, State, enter_pending, fresh_frame, initial_state, update_frame, with_action}
+use Rattle.schedule_laws.proofs.ControlOutlines.{control_from-push}
 use Rattle.run_record.specs.declared.own_columns.Iteration.{Iteration}
 use Rattle.run_record.specs.OwnColumns.{frame_of, frames_of, next_outlines}
 
@@ -53,10 +54,6 @@ next_same c (Advance i k n) = action_same c.frames i (Staged k n) (Pending k n)
 next_same c (Enter i) = entered_same c.frames i
 next_same c (Finish i e) = action_same c.frames i (Ended e) (Completed e)
 next_same c Stop = sym (outlines_twice c.frames)
-
-control_from-push : (c : State) (es : List Event) (e : Event) → control_from c (es ++ e ∷ []) ≡ next_control (control_from c es) e
-control_from-push c [] e = refl
-control_from-push c (x ∷ es) e = control_from-push (next_control c x) es e
 
 pub outlines-push : (es : List Event) (e : Event) → outlines_of (control_after (es ++ e ∷ [])).frames
     ≡ next_outlines (outlines_of (control_after es).frames) e

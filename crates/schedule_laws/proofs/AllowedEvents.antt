@@ -4,12 +4,12 @@ use Rattle.std.proofs.Common.{◌<ℤ◌, ◌-◌, length, nat_lt, Option, Some,
 use Rattle.std.specs.Prelude.{int_lt}
 use Rattle.std.proofs.lemmas.Bool.{cases_Bool, lt-ltb, ltb-true}
 use Rattle.std.proofs.lemmas.Int.{ints}
-use Rattle.pipe_model.specs.Runs.Allowed.{Allowed, HasPassed, ContinuesLoop, MayBegin, IsRunning, LeftHasPassed, OffersAt}
-use Rattle.pipe_model.specs.Pipelines.Behaviour.{Behaviour, Reading, Writing, Staging, Ending, Action, Accessed, Staged, Ended, Offers}
+use Rattle.pipe_model.specs.Runs.Allowed.{Allowed, HasPassed, ContinuesLoop, MayBegin, IsRunning, LeftHasPassed}
+use Rattle.pipe_model.specs.Pipelines.Behaviour.{Behaviour, Reading, Writing, Staging, Ending, Accessed, Staged, Ended, Offers}
 use Rattle.pipe_model.specs.Pipelines.Behaviour.{behaviour_after_all, read_access, write_access, closes_at_once}
 use Rattle.pipe_model.specs.Races.Columns.{node_at}
 use Rattle.pipe_model.specs.Pipelines.Pipeline.{Pipeline, HasLegalStages}
-use Rattle.pipe_model.specs.Runs.State.{Frame, State, frame_at, alive, accesses_of, trace_in}
+use Rattle.pipe_model.specs.Runs.State.{Frame, State, frame_at, alive, accesses_of}
 use Rattle.pipe_model.specs.declared.status.Status.{Status}
 use Rattle.pipe_model.specs.declared.status.Status.TheVariants.{Running, Pending, Completed}
 use Rattle.pipe_model.specs.Pipelines.Store.{value_after, HasReply}
@@ -21,7 +21,7 @@ use Rattle.pipe_model.specs.declared.node.Kind.TheVariants.{Zero, Wait, Continue
 use Rattle.pipe_model.specs.declared.node.Node.{Node}
 use Rattle.run_laws.proofs.RunStates.FrameMoves.{last_node}
 use Rattle.run_laws.proofs.RunStates.FrameTraces.{action_offered}
-use Rattle.run_laws.proofs.RunStates.Progress.{LegalNow, AllLegal, run_legal}
+use Rattle.run_laws.proofs.RunStates.Progress.{LegalNow, AllLegal, run_legal, offered_by}
 use Rattle.pipe_model.specs.Runs.NextEvents.{has_passed, frame_has_passed, left_has_passed, may_enter, continues_loop, frame_continues_loop}
 use Rattle.pipe_model.specs.Runs.NextEvents.{event_of_behaviour, event_if, event_of_status, event_of_frame, next_event, next_begin}
 use Rattle.schedule_laws.specs.ScheduleLaws.{AllowedEventsAreNext, IsNext}
@@ -179,13 +179,6 @@ allowed_is_next p limit s Stop apart h = absurd (apart refl)
 
 -- ---- from next to allowed
 
--- the program part offers the next action of the behaviour
-offered_at : (p : Pipeline) (s : State) (i : ℕ) (r : IsRunning s i) (x : Action) (d : Behaviour)
-    → behaviour_after_all (p.behaviour i) r.frame.trace ≡ d → Offers d x → OffersAt p s i x
-offered_at p s i r x d e o =
-    subst (λ (h : List Action). Offers (behaviour_after_all (p.behaviour i) h) x) (sym (ap trace_in r.is))
-    (subst (λ c. Offers c x) (sym e) o)
-
 -- the next action of a running instance is allowed
 pub offered_is_allowed : (p : Pipeline) (limit : ℕ) (s : State) (i : ℕ) (d : Behaviour) → s.stopped ≡ false
     → (r : IsRunning s i) → behaviour_after_all (p.behaviour i) r.frame.trace ≡ d → (first : Bool)
@@ -193,13 +186,13 @@ pub offered_is_allowed : (p : Pipeline) (limit : ℕ) (s : State) (i : ℕ) (d :
     → Allowed p limit s (event_of_behaviour p (p.preamble ++ accesses_of s.accesses) i d)
 offered_is_allowed p limit s i (Reading c go) going r e first one l =
     let v = value_after p.store (p.preamble ++ accesses_of s.accesses) c in
-    record { going = going; control = r; program = (offered_at p s i r (Accessed (read_access c v)) (Reading c go) e (v, refl), λ q. refl) }
+    record { going = going; control = r; program = (offered_by p s i r (Accessed (read_access c v)) (Reading c go) e (v, refl), λ q. refl) }
 offered_is_allowed p limit s i (Writing c v d) going r e first one l =
     record {
       going = going;
       control = r;
       program = (
-        offered_at p s i r (Accessed (write_access c v))
+        offered_by p s i r (Accessed (write_access c v))
             (Writing c v d) e refl,
         λ q. absurd (cc),
       );
@@ -209,14 +202,14 @@ offered_is_allowed p limit s i (Staging k n d) going r e first one l =
       going = going;
       control = record { running = r; kind = l.0; above = l.1.0 };
       program =
-          offered_at p s i r (Staged k n) (Staging k n d) e refl;
+          offered_by p s i r (Staged k n) (Staging k n d) e refl;
     }
 offered_is_allowed p limit s i (Ending f) going r e first one l =
     record {
       going = going;
       control = record { running = r; first = λ q. one (l q) };
       program =
-          offered_at p s i r (Ended f) (Ending f) e refl;
+          offered_by p s i r (Ended f) (Ending f) e refl;
     }
 
 pub event_is_allowed : (p : Pipeline) (limit : ℕ) (s : State) (i : ℕ) (f : Frame) (e : Event) → s.stopped ≡ false → AllLegal p s.frames

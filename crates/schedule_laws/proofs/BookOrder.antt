@@ -76,7 +76,7 @@ rise_last (y ∷ xs) b h x (Later w m) = rise_last xs b h.1 x m
 
 -- ---- one entry more
 
-ticket_stays : (xs ys : List ℕ) (n t : ℕ) → ticket_at xs n ≡ Some t → ticket_at (xs ++ ys) n ≡ Some t
+pub ticket_stays : (xs ys : List ℕ) (n t : ℕ) → ticket_at xs n ≡ Some t → ticket_at (xs ++ ys) n ≡ Some t
 ticket_stays [] ys n t e = absurd (cc)
 ticket_stays (x ∷ xs) ys zero t e = e
 ticket_stays (x ∷ xs) ys (suc n) t e = ticket_stays xs ys n t e

@@ -81,7 +81,7 @@ control_skips_accesses c (e ∷ es) = by_test (is_access e) refl (control_skips_
     by_test true t skip keep = rw t skip
     by_test false t skip keep = rw t keep
 
-control_from-push : (c : State) (es : List Event) (e : Event) → control_from c (es ++ e ∷ []) ≡ next_control (control_from c es) e
+pub control_from-push : (c : State) (es : List Event) (e : Event) → control_from c (es ++ e ∷ []) ≡ next_control (control_from c es) e
 control_from-push c [] e = refl
 control_from-push c (x ∷ es) e = control_from-push (next_control c x) es e
 

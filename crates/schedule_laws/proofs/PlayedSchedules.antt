@@ -5,27 +5,17 @@ use Rattle.std.proofs.lemmas.Bool.{cases_lt, false≢true}
 use Rattle.pipe_model.proofs.Members.{among_at}
 use Rattle.pipe_model.specs.declared.event.Event.{Event}
 use Rattle.pipe_model.specs.declared.event.Event.TheVariants.{Begin, Access, Advance, Enter, Finish, Stop}
-use Rattle.pipe_model.specs.declared.node.Node.{Node}
-use Rattle.pipe_model.specs.Runs.Allowed.{Allowed, ClosesLoop, ContinuesLoop, IsRunning}
+use Rattle.pipe_model.specs.Runs.Allowed.{Allowed, IsRunning}
 use Rattle.pipe_model.specs.Pipelines.Pipeline.{Pipeline, IsWellFormed}
 use Rattle.pipe_model.specs.Races.DeterminacyRaces.{Among, Here}
 use Rattle.pipe_model.specs.Runs.Run.{Run, IsFinished, state_from}
 use Rattle.pipe_model.specs.Runs.State.{State, initial_state, is_completed, next_state}
-use Rattle.pipe_model.specs.declared.status.Status.{Status}
-use Rattle.pipe_model.specs.declared.status.Status.TheVariants.{Running, Pending, Completed}
 use Rattle.run_laws.proofs.RunStates.Frames.{frame_at_within}
 use Rattle.run_laws.proofs.RunStates.RunInvariant.{run_consistent}
 use Rattle.pipe_model.specs.Runs.Schedules.{candidates, chosen, choice_at, after_choice, played_from, PlayedRun, NoTurn, OneTurn}
+use Rattle.run_laws.proofs.Elision.FinishedRuns.{closed_or_goes_on}
 use Rattle.schedule_laws.specs.ScheduleLaws.{FinishedRunsHaveNoCandidate, SchedulesPlayRuns}
 use Rattle.schedule_laws.proofs.Candidates.{candidate_is_good, played_runs_are_runs, runs_have_candidates}
-
--- a frame does not both close and continue the loop
-closed_or_goes_on : (w : Status) (nodes : List Node) → ClosesLoop w nodes → ContinuesLoop w nodes → ⊥
-closed_or_goes_on Running nodes s g = s
-closed_or_goes_on (Pending k n) nodes s g = s
-closed_or_goes_on (Completed e) nodes s g =
-    let wide = g s.0 in
-    let one = s.1 in omega (arith, wide, one)
 
 -- after the end only a stop is allowed
 finished_allows_none : (p : Pipeline) (limit : ℕ) (events : List Event) (s : State) (e : Event) → Run p limit events s → IsFinished s

@@ -50,7 +50,7 @@ nodes_of_frames [] = refl
 nodes_of_frames (f ∷ frames) = ap (λ ns. f.nodes ∷ ns) (nodes_of_frames frames)
 
 -- a column with an instance is there
-column_inside : (columns : List (List Node)) (i k : ℕ) → k < length (nodes_at columns i) → i < length columns
+pub column_inside : (columns : List (List Node)) (i k : ℕ) → k < length (nodes_at columns i) → i < length columns
 column_inside [] i k w = absurd (omega (arith, w))
 column_inside (c ∷ cs) zero k w = omega arith
 column_inside (c ∷ cs) (suc i) k w = let h = column_inside cs i k w in omega (arith, h)

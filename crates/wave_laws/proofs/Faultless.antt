@@ -1,5 +1,5 @@
 -- A program without a fault is a wave loop.
-use Rattle.std.proofs.Common.{◌≡◌, sym, ap, refl, ℕ, ℤ, pos, Bool, true, false, not, ◌&&◌, [], ◌++◌, Option, Some, None, if◌then◌else◌}
+use Rattle.std.proofs.Common.{◌≡◌, sym, ap, refl, ℕ, ℤ, pos, Bool, true, false, ◌&&◌, [], ◌++◌, Option, Some, None}
 use Rattle.std.specs.Str.{bytes_eq}
 use Rattle.std.proofs.lemmas.Bool.{false≢true}
 use Rattle.std.specs.Cmp.Lexicographic.{bytes_decides}
@@ -9,7 +9,8 @@ use Rattle.pipe_model.specs.Language.Marks.{Scope, marks_of, marks_of_cells, mar
 use Rattle.pipe_model.specs.Language.Marks.{after_block, after_statement, opening}
 use Rattle.pipe_model.specs.Language.SyntaxTree as syntax
 use Rattle.pipe_model.specs.Language.SyntaxTree.{Expression, Number, Statement, Let, Assign, AssignElement, Emit, If, While, NextStage}
-use Rattle.pipe_model.specs.Language.SyntaxTree.{Statements, Empty, Then, SyntaxTree}
+use Rattle.pipe_model.specs.Language.SyntaxTree.{Statements, Empty, Then}
+use Rattle.program_laws.proofs.PlannedLimits.{passed}
 use Rattle.wave_laws.proofs.Flags.{AreFalse, false_left, false_right, none_true}
 use Rattle.wave_laws.proofs.StageWords.{NoneIsStage, none_is_stage, stage_left, stage_right}
 use Rattle.wave_laws.specs.WaveLaws.{FaultlessProgramsAreWaves}
@@ -108,10 +109,6 @@ body_is Empty h = absurd (false≢true h)
 body_is (Then s ss) h = ap (λ t. Then t ss) (row_declaration_is s h)
 
 -- ---- the whole
-
-passed : {A : Type 0} (ok : Bool) (v : A) (rest : Option A) → (if not ok then Some v else rest) ≡ None → (ok ≡ true) × (rest ≡ None)
-passed true v rest h = (refl, h)
-passed false v rest h = absurd (cc)
 
 no_stage : (o : Option ℕ) (rest : Option WaveRefusal) → stage_fault_or o rest ≡ None → (o ≡ None) × (rest ≡ None)
 no_stage None rest h = (refl, h)

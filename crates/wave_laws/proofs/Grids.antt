@@ -7,7 +7,7 @@ use Rattle.std.proofs.lemmas.Bool.{false≢true, lt-ltb, le-ltb, ltb-false, not-
 use Rattle.pipe_model.specs.declared.access.Access.{Access}
 use Rattle.pipe_model.specs.declared.access.NodeAccess.{NodeAccess}
 use Rattle.pipe_model.specs.declared.trap.TrapAt.{TrapAt}
-use Rattle.pipe_model.specs.Language.CheckingRules.{Fault, fault_of, is_between, limit_fault_or, first_limit_out, first_fault}
+use Rattle.pipe_model.specs.Language.CheckingRules.{fault_of, is_between, first_limit_out, first_fault}
 use Rattle.pipe_model.specs.Language.Evaluation.{run_iteration}
 use Rattle.pipe_model.specs.Language.Interaction.{with_budget}
 use Rattle.pipe_model.specs.Language.Marks.{marks_of}
@@ -27,6 +27,7 @@ use Rattle.pipe_model.specs.Pipelines.Pipeline.{Pipeline}
 use Rattle.pipe_model.specs.Pipelines.SerialElision.{serial_trace, serial_traces_from, located_from, unless}
 use Rattle.pipe_model.specs.Pipelines.WholePrograms.{init_accesses, init_trap, loop_after_init, loop_traces, loop_accesses}
 use Rattle.pipe_model.specs.Runs.State.{accesses_of}
+use Rattle.program_laws.proofs.PlannedLimits.{no_limit_out}
 use Rattle.wave_laws.specs.WaveLaws.{IsTheGrid, LoweredWavesAreGrids}
 use Rattle.wave_laws.specs.Waves.Grid.{closing_trace, column_points, columns_from, ends_grid, grid, points_accesses}
 use Rattle.wave_laws.specs.Waves.GridResults.{column_of_points, columns_trap, grid_accesses, located_columns, located_points, points_trap}
@@ -44,10 +45,6 @@ pub record AreWaveLimits (tree : SyntaxTree) (k : ℕ) : Type 0 where
   pub stages : tree.limits.stages ≡ pos (suc k)
   pub bounded : k < 4096
   pub steps : 1 ≤ natural tree.limits.steps
-
-no_limit_out : (o : Option ℕ) (rest : Option Fault) → limit_fault_or o rest ≡ None → o ≡ None
-no_limit_out None rest h = refl
-no_limit_out (Some which) rest h = absurd (cc)
 
 all_in_range : (a b c d e : Bool)
     → if◌then◌else◌ {A = Option ℕ} (not a) (Some 1)

@@ -5,7 +5,6 @@ pub mod Columns
 pub mod Grids
 pub mod GridRaces
 pub mod Precedence
-pub mod UnbrokenMarks
 pub mod LoweredMarks
 pub mod LoweredSizes
 pub mod SmallPrograms

@@ -1,15 +1,15 @@
 -- The statements of a point keep the row and the stage.
 use Rattle.std.proofs.Common.{◌≡◌, ◌∙◌, ap, refl, ℕ, zero, suc, ℤ, pos, false, List, [], ◌∷◌, ◌++◌, take, length, Option, Some, None}
 use Rattle.std.specs.Str.{bytes_eq}
-use Rattle.std.specs.Ordering.{int_eq}
-use Rattle.pipe_model.specs.Language.Evaluation.{CellRange, Local, Setting, Environment, evaluate, execute, execute_all, assign, emit}
+use Rattle.pipe_model.specs.Language.Evaluation.{CellRange, Local, Setting, Environment, evaluate, execute, execute_all, assign}
 use Rattle.pipe_model.specs.Language.Evaluation.{leave_block, loop_turns, updated_locals}
 use Rattle.pipe_model.specs.Language.Interaction.{Interaction}
 use Rattle.pipe_model.specs.Language.SyntaxTree as syntax
-use Rattle.pipe_model.specs.Language.SyntaxTree.{Expression, Statement, Let, Assign, AssignElement, Emit, If, While, NextStage, Statements}
+use Rattle.pipe_model.specs.Language.SyntaxTree.{Statement, Let, Assign, AssignElement, Emit, If, While, NextStage, Statements}
 use Rattle.pipe_model.specs.Language.SyntaxTree.{Empty, Then}
-use Rattle.program_laws.proofs.Straight.{IsStraight, Returns, Raises, Steps, Gets, Sets, Anything, straight-bind, straight-evaluate}
-use Rattle.program_laws.proofs.Straight.{straight-element_of, either, either_by_zero}
+use Rattle.program_laws.proofs.Straight.{IsStraight, Returns, Raises, Steps, Sets, Anything, straight-bind, straight-evaluate}
+use Rattle.program_laws.proofs.Straight.{straight-element_of, either_by_zero}
+use Rattle.program_laws.proofs.LegalStages.{straight-emit}
 use Rattle.wave_laws.specs.Waves.Points.{at_row}
 use Rattle.wave_laws.specs.Waves.WaveLoops.{AllHaveNoStage, AllKeepRow, HasNoStage, KeepsRow, row}
 
@@ -48,9 +48,6 @@ straight-assign : (r : ℕ) (env : Environment) (o : Option ℤ) (range : Option
 straight-assign r env (Some old) range x v f h = Returns (record { locals = begins_updated r env.locals x v f h.locals; stage = h.stage })
 straight-assign r env None (Some range) x v f h = Sets _ _ (Returns h)
 straight-assign r env None None x v f h = Raises _
-
-straight-emit : (limit : ℕ) (v : ℤ) → IsStraight Anything (emit limit v)
-straight-emit limit v = Gets 1 (λ count. either Anything (int_eq count (pos limit)) _ _ (Raises _) (Sets 1 v (Returns tt)))
 
 straight-turns : (r n : ℕ) (test : Environment → Interaction ℤ) (body : Environment → Interaction Environment)
     → ((env : Environment) → IsStraight Anything (test env)) → ((env : Environment) → IsInRow r env → IsStraight (IsInRow r) (body env))

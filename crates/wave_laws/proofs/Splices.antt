@@ -7,18 +7,18 @@ use Rattle.pipe_model.specs.declared.column.ColumnEnd.{ColumnEnd}
 use Rattle.pipe_model.specs.declared.column.ColumnEnd.TheVariants as ends
 use Rattle.pipe_model.specs.declared.node.Kind.{Kind}
 use Rattle.pipe_model.specs.declared.node.Kind.TheVariants.{Zero, Wait}
-use Rattle.pipe_model.specs.declared.trap.TrapAt.{TrapAt}
 use Rattle.pipe_model.specs.declared.trap.TrapPlace.{TrapPlace}
 use Rattle.pipe_model.specs.declared.trap.TrapPlace.TheVariants.{At}
 use Rattle.pipe_model.specs.Language.Interaction.{Interaction, Return, Step, Get, Set, Stage, bind, with_budget}
 use Rattle.pipe_model.specs.Pipelines.Behaviour.{Action, Accessed, Staged, Ended, read_access, write_access, accesses_in, nodes_in, node_of}
 use Rattle.pipe_model.specs.Pipelines.Behaviour.{column_of, trace_end, closes_loop}
-use Rattle.pipe_model.specs.Pipelines.ElisionResults.{trap_at_end, first_of_both}
+use Rattle.pipe_model.specs.Pipelines.ElisionResults.{trap_at_end}
 use Rattle.pipe_model.specs.Pipelines.SerialElision.{serial_trace, located}
 use Rattle.pipe_model.specs.Pipelines.Store.{InitialStore, value_after}
 use Rattle.pipe_model.specs.Pipelines.WholePrograms.{part_trap}
 use Rattle.pipe_model.specs.Races.Columns.{at, node_at}
 use Rattle.program_laws.proofs.Straight.{IsStraight, Returns, Raises, Steps, Gets, Sets}
+use Rattle.program_laws.proofs.ProgramElisions.{first_alone}
 use Rattle.wave_laws.specs.Waves.Grid.{points_accesses}
 use Rattle.wave_laws.specs.Waves.GridResults.{kind_in_row, located_points, point_nodes, points_end, points_trap}
 use Rattle.wave_laws.specs.Waves.Points.{is_trap, steps}
@@ -241,10 +241,6 @@ joined_closes r t (u ∷ us) o h = splice_closes t _ h.0 h.1 ∙ sym h.1
 
 -- ---- the trap of a joined trace
 
-first_or_none : (o : Option TrapAt) → first_of_both o None ≡ o
-first_or_none None = refl
-first_or_none (Some t) = refl
-
 no_trap : (place : TrapPlace) (e : Option ColumnEnd) → is_trap e ≡ false → part_trap place e ≡ None
 no_trap place None h = refl
 no_trap place (Some ends.End) h = refl
@@ -273,7 +269,7 @@ last_trap : (c r : ℕ) (t : List Action) (ts : List (List Action)) → AreAColu
     → points_trap c r (t ∷ ts) ≡ part_trap (At (at c (r + length ts)) (pos (r + length ts))) (points_end (t ∷ ts))
 last_trap c r t [] h =
     let e : r ≡ r + 0 = omega arith in
-    first_or_none _ ∙ ap (λ n. part_trap (At (at c n) (pos n)) (trace_end t)) e
+    first_alone _ ∙ ap (λ n. part_trap (At (at c n) (pos n)) (trace_end t)) e
 last_trap c r t (u ∷ us) h =
     let e : r + 1 + length us ≡ r + suc (length us) = omega arith in
     rw (no_trap (At (at c r) (pos r)) (trace_end t) h.1)

@@ -1,28 +1,23 @@
 -- A wave loop that breaks no rule has no fault as a wave loop.
-use Rattle.std.proofs.Common.{◌≡◌, ◌∙◌, sym, ap, refl, subst, pos, true, false, List, [], ◌∷◌, ◌++◌, Some, None}
+use Rattle.std.proofs.Common.{◌≡◌, ◌∙◌, sym, ap, refl, subst, pos, true, false, List, [], ◌∷◌, ◌++◌, None}
 use Rattle.pipe_model.specs.declared.region.Region.TheVariants as regions
 use Rattle.pipe_model.specs.declared.tree.Declaration.{Declaration}
-use Rattle.pipe_model.specs.Language.CheckingRules.{PipeOutside, broken_at, first_fault, first_limit_out, has_stages}
-use Rattle.pipe_model.specs.Language.Marks as marks
-use Rattle.pipe_model.specs.Language.Marks.{Mark, Scope, StageWord, marks_of, marks_of_cells, marks_of_expression, marks_of_statement}
+use Rattle.pipe_model.specs.Language.CheckingRules.{first_fault, first_limit_out, has_stages}
+use Rattle.pipe_model.specs.Language.Marks.{Scope, marks_of, marks_of_cells, marks_of_expression, marks_of_statement}
 use Rattle.pipe_model.specs.Language.Marks.{marks_of_statements, after_block, after_statement, after_statements, opening}
 use Rattle.pipe_model.specs.Language.SyntaxTree as syntax
 use Rattle.pipe_model.specs.Language.SyntaxTree.{Expression, Number, Statement, Let, Assign, AssignElement, Emit, If, While, NextStage}
-use Rattle.pipe_model.specs.Language.SyntaxTree.{Statements, Empty, Then, SyntaxTree}
+use Rattle.pipe_model.specs.Language.SyntaxTree.{Statements, Empty, Then}
+use Rattle.program_laws.proofs.OneInstance.{stage_is_broken}
 use Rattle.wave_laws.proofs.Flags.{AreFalse, both_false, falses, none_flagged}
 use Rattle.wave_laws.proofs.StageWords.{NoneIsStage, false_for_stages, stage_both}
-use Rattle.wave_laws.proofs.UnbrokenMarks.{AreUnbroken, limits_and_marks, unbroken, unbroken_left, unbroken_right}
+use Rattle.program_laws.proofs.UnbrokenMarks.{AreUnbroken, limits_and_marks, unbroken, unbroken_left, unbroken_right}
 use Rattle.wave_laws.specs.WaveLaws.{WavesHaveNoFault}
 use Rattle.wave_laws.specs.Waves.MarkFlags.{flags_of_statement, flags_of_statements, no_flags}
 use Rattle.wave_laws.specs.Waves.WaveFaults.{begins_with_row, first_row_set, first_stage, is_number, marks_before_body}
 use Rattle.wave_laws.specs.Waves.WaveLoops.{AllHaveNoStage, AllKeepRow, HasNoStage, KeepsRow, rest_of, row_declaration}
 
 -- ---- marks without a fault
-
-stage_is_broken : (scope : Scope) → has_stages scope.region ≡ false → broken_at (marks.mark_at scope StageWord) ≡ None → ⊥
-stage_is_broken scope outside h =
-    let broken : broken_at (marks.mark_at scope StageWord) ≡ Some PipeOutside = rw outside in
-    cc
 
 mutual
   region_after : (scope : Scope) (s : Statement) → (after_statement scope s).region ≡ scope.region

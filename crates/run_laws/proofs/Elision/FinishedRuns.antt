@@ -136,7 +136,7 @@ last_closes p i f e s =
     ]
 
 -- a frame that closes the loop has none after it
-closed_or_goes_on : (w : Status) (nodes : List Node) → ClosesLoop w nodes → ContinuesLoop w nodes → ⊥
+pub closed_or_goes_on : (w : Status) (nodes : List Node) → ClosesLoop w nodes → ContinuesLoop w nodes → ⊥
 closed_or_goes_on Running nodes s g = s
 closed_or_goes_on (Pending k n) nodes s g = s
 closed_or_goes_on (Completed e) nodes s g =

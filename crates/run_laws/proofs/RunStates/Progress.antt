@@ -160,7 +160,7 @@ abbrev GoesOn : Pipeline → ℕ → State → Type 0
 GoesOn p limit s = (e : Event) × (e ≢ Stop) × Allowed p limit s e
 
 -- the program offers what the behaviour offers
-offered_by : (p : Pipeline) (s : State) (i : ℕ) (r : IsRunning s i) (x : Action) (d : Behaviour)
+pub offered_by : (p : Pipeline) (s : State) (i : ℕ) (r : IsRunning s i) (x : Action) (d : Behaviour)
     → behaviour_after_all (p.behaviour i) r.frame.trace ≡ d → Offers d x → OffersAt p s i x
 offered_by p s i r x d e o =
     subst (λ (h : List Action). Offers (behaviour_after_all (p.behaviour i) h) x) (sym (ap trace_in r.is))

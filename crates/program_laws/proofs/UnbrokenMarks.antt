@@ -7,7 +7,7 @@ abbrev pub AreUnbroken : List Mark → Type 0
 AreUnbroken [] = Unit {0}
 AreUnbroken (m ∷ ms) = (broken_at m ≡ None) × AreUnbroken ms
 
-none_or_none : (o : Option CheckingRule) (n : ℕ) (rest : Option Fault) → fault_or o n rest ≡ None → (o ≡ None) × (rest ≡ None)
+pub none_or_none : (o : Option CheckingRule) (n : ℕ) (rest : Option Fault) → fault_or o n rest ≡ None → (o ≡ None) × (rest ≡ None)
 none_or_none None n rest h = (refl, h)
 none_or_none (Some rule) n rest h = absurd (cc)
 
