@@ -5,7 +5,8 @@ use Rattle.pipe_model.specs.Language.CheckingRules.{first_fault, first_limit_out
 use Rattle.pipe_model.specs.Language.Marks.{Scope, Plain, StageWord, mark_at, after_let, marks_of, marks_of_cells, marks_of_expression}
 use Rattle.pipe_model.specs.Language.Marks.{marks_of_statements, opening}
 use Rattle.pipe_model.specs.Language.SyntaxTree.{Then, SyntaxTree}
-use Rattle.program_laws.proofs.UnbrokenMarks.{AreUnbroken, faultless, limits_and_marks, unbroken, unbroken_both, unbroken_left, unbroken_right}
+use Rattle.program_laws.proofs.UnbrokenMarks.{AreUnbroken, faultless, limits_and_marks, unbroken, unbroken_both}
+use Rattle.program_laws.proofs.UnbrokenMarks.{unbroken_left, unbroken_right}
 use Rattle.wave_laws.specs.WaveLaws.{LoweredWavesBreakNoRule}
 use Rattle.wave_laws.specs.Waves.LoweredLoops.{lowered, lowered_body, lowered_test}
 use Rattle.wave_laws.specs.Waves.WaveLoops.{rest_of, row, row_declaration}
