@@ -14,13 +14,17 @@ use Rattle.pipe_model.specs.Races.Columns.{nodes_at}
 use Rattle.pipe_model.specs.Runs.RunLogs.{state_after}
 use Rattle.pipe_model.specs.Runs.State.{State, Frame, with_action, next_state, own_columns}
 use Rattle.pipe_model.specs.declared.status.Status.TheVariants.{Pending}
+use Rattle.pipe_model.specs.Language.SyntaxTree.{SyntaxTree}
 use Rattle.pipe_frame.specs.LeftCounters.{must_read_left}
+use Rattle.pipe_frame.specs.Ties.{Tie}
 use Rattle.pipe_frame.specs.TokenFields.{TokenFields}
 use Rattle.run_laws.proofs.RunStates.Frames.{frame_at_updated}
 use Rattle.run_laws.proofs.RunStates.GrowingColumns.{nodes_at_moved}
 use Rattle.frame_book.specs.BookStates.{BookState, TokenState, Out, Kept, Spent, events_of, state_of, last_ticket, with_events, item_or}
 use Rattle.frame_book.specs.CallEffects.{with_named, with_entered, kept_now, kept_folded, reads_left}
 use Rattle.frame_book.specs.GivenTokens.{IsOutOf}
+use Rattle.frame_book.specs.Invariant.{IsBook}
+use Rattle.frame_book.specs.Tables.{Tables}
 use Rattle.frame_book.proofs.Conditions.KeptCounters.{passed_beside, two_events}
 use Rattle.frame_book.proofs.BookLogs.LogEntries.{events_of_with, state_after-push}
 
@@ -35,12 +39,36 @@ pub count_small : (b : Bool) → cond b 1 0 ≤ 1
 count_small true = omega arith
 count_small false = omega arith
 
+-- a book that has read more counters
+pub more_reads : {M : Type 0} {Whole : SyntaxTree → M → Type 0} {ReadyAt : SyntaxTree → List ℤ → M → ℕ → List (List ℤ) → Type 0}
+    {tie : M → Tie} {b : Tables M} → IsBook Whole ReadyAt tie b → (reads : ℕ) → reads ≤ length b.ledger.log
+    → IsBook Whole ReadyAt tie (record b { reads = reads })
+more_reads h reads few = record {
+  sized = h.sized;
+  logged = h.logged;
+  rows = h.rows;
+  actions = h.actions;
+  counted = h.counted;
+  tokens = h.tokens;
+  down = h.down;
+  right = h.right;
+  stopped = h.stopped;
+  closed = h.closed;
+  alive = h.alive;
+  size = h.size;
+  some = h.some;
+  last = h.last;
+  reads = few;
+  reserve = h.reserve;
+  rise = h.rise;
+}
+
 -- if nothing was stopped, whether the counter is read depends on the kept one alone
 pub reads_is : (v : BookState) (t : TokenFields) (end : StageEnd) → (state_of v).stopped ≡ false
     → reads_left v t end ≡ must_read_left t.iteration t.folded end
 reads_is v t end going = ap (λ s. not s && must_read_left t.iteration t.folded end) going
 
-module _ (v : BookState) (t : TokenFields) (kind : Kind) (n : ℤ) (trace : List Entry) (folded : Option Counter)
+module _ {v : BookState} {t : TokenFields} (kind : Kind) (n : ℤ) (trace : List Entry) (folded : Option Counter)
     (going : (state_of v).stopped ≡ false) (out : IsOutOf v t) where
   abbrev pub t1 : TokenFields
   t1 = record t { folded = folded }

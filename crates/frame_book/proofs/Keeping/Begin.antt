@@ -149,10 +149,17 @@ joined_head : (columns : List (List Node)) (n : ℕ) → 0 ≡ left_joined colum
 joined_head columns zero = refl
 joined_head columns (suc n) = refl
 
-module _ {M : Type 0} (Whole : SyntaxTree → M → Type 0) (ReadyAt : SyntaxTree → List ℤ → M → ℕ → List (List ℤ) → Type 0) (tie : M → Tie)
-    (b : Tables M) (h : IsBook Whole ReadyAt tie b) (going : b.stopped ≡ false) (unclosed : b.closed ≡ false)
-    (ended : LastEndedFirstInstance (state_after (events_of b.ledger.log)).frames)
-    (home : List M) (m : M) (taken : b.pool.home ≡ home ++ m ∷ []) where
+-- a run that goes on, an iteration that may begin, and its payload
+pub record Begins {M : Type 0} (b : Tables M) (home : List M) (m : M) : Type 0 where
+  pub going : b.stopped ≡ false
+  pub unclosed : b.closed ≡ false
+  pub ended : LastEndedFirstInstance (state_after (events_of b.ledger.log)).frames
+  pub taken : b.pool.home ≡ home ++ m ∷ []
+
+module _ {M : Type 0} {Whole : SyntaxTree → M → Type 0} {ReadyAt : SyntaxTree → List ℤ → M → ℕ → List (List ℤ) → Type 0} {tie : M → Tie}
+    {b : Tables M} (h : IsBook Whole ReadyAt tie b) {home : List M} {m : M} (begins : Begins b home m) where
+  open begins use {going, unclosed, ended, taken}
+
   abbrev pub c : State
   c = state_after (events_of b.ledger.log)
 
@@ -300,13 +307,13 @@ pub nil_of_length : {X : Type 0} → (xs : List X) → length xs ≡ 0 → xs �
 nil_of_length [] e = refl
 nil_of_length (x ∷ xs) e = absurd (omega (arith, e))
 
-module _ {M : Type 0} (Whole : SyntaxTree → M → Type 0) (ReadyAt : SyntaxTree → List ℤ → M → ℕ → List (List ℤ) → Type 0) (tie : M → Tie)
-    (b : Tables M) (h : IsBook Whole ReadyAt tie b) (going : b.stopped ≡ false) (unclosed : b.closed ≡ false)
-    (ended : LastEndedFirstInstance (state_after (events_of b.ledger.log)).frames)
-    (home : List M) (m : M) (taken : b.pool.home ≡ home ++ m ∷ []) (spare : List (IterationRow M)) (r : IterationRow M)
-    (popped : b.spare ≡ spare ++ r ∷ []) where
+module _ {M : Type 0} {Whole : SyntaxTree → M → Type 0} {ReadyAt : SyntaxTree → List ℤ → M → ℕ → List (List ℤ) → Type 0} {tie : M → Tie}
+    {b : Tables M} (h : IsBook Whole ReadyAt tie b) {home : List M} {m : M} (begins : Begins b home m)
+    (spare : List (IterationRow M)) (r : IterationRow M) (popped : b.spare ≡ spare ++ r ∷ []) where
+  open begins use {going, unclosed, ended, taken}
+
   abbrev pub q_marks : Marks
-  q_marks = marks Whole ReadyAt tie b h going unclosed ended home m taken
+  q_marks = marks h begins
 
   abbrev pub y : IterationRow M
   y = with_instance (pos 0) q_marks r
@@ -335,7 +342,7 @@ module _ {M : Type 0} (Whole : SyntaxTree → M → Type 0) (ReadyAt : SyntaxTre
     rows = b.rows ++ y ∷ [];
     spare = spare;
     pool = record { home = home; size = b.pool.size };
-    orders = orders Whole ReadyAt tie b h going unclosed ended home m taken;
+    orders = orders h begins;
     ledger = record { log = log; room = b.ledger.room };
   }
 
@@ -386,7 +393,7 @@ module _ {M : Type 0} (Whole : SyntaxTree → M → Type 0) (ReadyAt : SyntaxTre
       ∙ ap (λ o. map token_state_of b.rows ++ Rattle.frame_book.specs.Tables.token_state_by o Running ∷ []) token_none
 
   grown : Grew s.frames fs (starts_of (events_of b.ledger.log)) (at (length b.rows) 0)
-  grown = grew Whole ReadyAt tie b h going unclosed ended home m taken
+  grown = grew h begins
 
   at_new : get_or (map (λ (z : IterationRow M). z.marks) (b.rows ++ y ∷ [])) (length b.rows) [] ≡ q_marks ∷ []
   at_new = ap (λ l. get_or l (length b.rows) []) (map-append (λ (z : IterationRow M). z.marks) b.rows (y ∷ []))
@@ -402,7 +409,7 @@ module _ {M : Type 0} (Whole : SyntaxTree → M → Type 0) (ReadyAt : SyntaxTre
       in
       let z : k ≡ 0 = omega (arith, l, w) in
       ap (λ ms. get_or ms k no_marks) at_new ∙ (ap (λ i. get_or (q_marks ∷ []) i no_marks) z
-      ∙ (marks_are Whole ReadyAt tie b h going unclosed ended home m taken
+      ∙ (marks_are h begins
       ∙ ap (instance_marks (columns_of_frames fs) news (length b.rows)) (sym z)))
 
   marks_of_old : (j k : ℕ) → j ≢ length b.rows → k < length (nodes_at (columns_of_frames fs) j)
@@ -476,7 +483,7 @@ module _ {M : Type 0} (Whole : SyntaxTree → M → Type 0) (ReadyAt : SyntaxTre
   unfolding p
   begin_keeps =
       let long = length_with b.ledger.log 0 e in
-      let may' = may Whole ReadyAt tie b h going unclosed ended home m taken in
+      let may' = may h begins in
       let running' : s.stopped ≡ false = sym h.stopped ∙ going in
       after_event Whole ReadyAt tie with_begin b.ledger.log 0 e news refl refl record {
         sized = sized_pop b.rows spare r y refl p b.orders.down.capacity b.orders.right.capacity b.ledger.room
@@ -513,12 +520,12 @@ module _ {M : Type 0} (Whole : SyntaxTree → M → Type 0) (ReadyAt : SyntaxTre
           tokens = λ go j f t is q. subst (λ ts. IsKeptToken (ReadyAt (tree_of b.program) b.input) tie
               (identities_of_orders b.orders) ts news (next_state s e) j f t) (sym traces_are) (tokens_keep j f t is q);
           nows = λ j t q. (let a = h.tokens.nows j t (sym (token_at_push b.rows y j token_none) ∙ q) in omega (arith, a, long));
-          at_home = stay_home Whole ReadyAt tie b h going unclosed ended home m taken;
+          at_home = stay_home h begins;
         };
         down = down_grows s.frames fs (starts_of (events_of b.ledger.log)) (at (length b.rows) 0) h.logged.sound grown b.orders.down.log _
-            h.down (down_is Whole ReadyAt tie b h going unclosed ended home m taken);
+            h.down (down_is h begins);
         right = right_grows s.frames fs (starts_of (events_of b.ledger.log)) (at (length b.rows) 0) h.logged.sound grown b.orders.right.log
-            _ h.right (right_is Whole ReadyAt tie b h going unclosed ended home m taken);
+            _ h.right (right_is h begins);
         stopped = h.stopped;
         closed = (let q = closed_push s.frames in ((λ x. q.0 (h.closed.0 x)), (λ x. h.closed.1 (q.1 x))));
         alive = (let a = alive_push s.frames in let z = h.alive in let w = ap length taken ∙ length_push home m in omega (arith, a, z, w));
@@ -562,14 +569,12 @@ module _ {M : Type 0} (Whole : SyntaxTree → M → Type 0) (ReadyAt : SyntaxTre
       } in
       let long = length_with b.ledger.log 0 e in
       let last = h.last in
-      let at_place = placed Whole ReadyAt tie b h going unclosed ended home m taken in
-      let ld = length-append b.orders.down.log (down_at Whole ReadyAt tie b h going unclosed ended home m
-      taken ∷ (1 + length b.orders.down.log) ∷ []) in
-      let lr = length-append b.orders.right.log (right_at Whole ReadyAt tie b h going unclosed ended home m
-      taken ∷ (1 + length b.orders.right.log) ∷ []) in
-      let dl = down_length Whole ReadyAt tie b h going unclosed ended home m taken in
-      let rl = right_length Whole ReadyAt tie b h going unclosed ended home m taken in
-      let was = was_home Whole ReadyAt tie b h going unclosed ended home m taken in
+      let at_place = placed h begins in
+      let ld = length-append b.orders.down.log (down_at h begins ∷ (1 + length b.orders.down.log) ∷ []) in
+      let lr = length-append b.orders.right.log (right_at h begins ∷ (1 + length b.orders.right.log) ∷ []) in
+      let dl = down_length h begins in
+      let rl = right_length h begins in
+      let was = was_home h begins in
       record {
         out = record {
           out = ap (λ ps. get_or ps (length b.rows) Rattle.frame_book.specs.BookStates.Spent) places_are
@@ -585,7 +590,7 @@ module _ {M : Type 0} (Whole : SyntaxTree → M → Type 0) (ReadyAt : SyntaxTre
                       refl;
                 };
                 index = refl;
-                marks = marks_are Whole ReadyAt tie b h going unclosed ended home m taken;
+                marks = marks_are h begins;
                 joined = joined_head (columns_of_frames fs) (length b.rows);
                 folded = λ k x. absurd x;
               };
@@ -600,8 +605,7 @@ module _ {M : Type 0} (Whole : SyntaxTree → M → Type 0) (ReadyAt : SyntaxTre
         };
         knows = subst (λ z. KnowsMarks z q_marks) (sym tied)
             (knows_new (tie m).lists with_begin.orders (length b.orders.down.log)
-            (down_at Whole ReadyAt tie b h going unclosed ended home m taken)
-            (right_at Whole ReadyAt tie b h going unclosed ended home m taken) (omega (arith, ld))
+            (down_at h begins) (right_at h begins) (omega (arith, ld))
             (omega (arith, lr, dl, rl)) at_place.down at_place.right);
         parts = ap (λ ts. length (map replies_of (get_or ts (length b.rows) []))) traces_are
             ∙ ap (λ ts. length (map replies_of ts)) (get_or_push traces [] [] (length b.rows)

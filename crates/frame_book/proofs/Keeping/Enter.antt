@@ -12,6 +12,7 @@ use Rattle.order_2d.specs.OrderPairs.{with_start, marks_after, down_taken, right
 use Rattle.pipe_model.specs.declared.event.Event.{Event}
 use Rattle.pipe_model.specs.declared.event.Event.TheVariants.{Enter}
 use Rattle.pipe_model.specs.declared.marks.Marks.{Marks}
+use Rattle.pipe_model.specs.declared.node.Kind.{Kind}
 use Rattle.pipe_model.specs.declared.node.Kind.TheVariants.{Wait}
 use Rattle.pipe_model.specs.declared.node.Node.{Node}
 use Rattle.pipe_model.specs.declared.node.NodeId.{NodeId}
@@ -35,11 +36,11 @@ use Rattle.pipe_frame.specs.TokenFields.{fields_of}
 use Rattle.pipe_frame.specs.declared.token.FrameToken.{FrameToken}
 use Rattle.run_laws.proofs.ListOrders.StartsOfRuns.{Grew, grew_enter}
 use Rattle.run_laws.proofs.RunStates.FrameMoves.{IsMove, moves_entered, entered_frame, enter_pending_is, frame_at_moved}
-use Rattle.run_laws.proofs.RunStates.Frames.{frame_at_updated, frame_at_exists, nodes_at_frame}
+use Rattle.run_laws.proofs.RunStates.Frames.{frame_at_updated, frame_at_exists, frame_at_within, nodes_at_frame}
 use Rattle.run_laws.proofs.RunStates.GrowingColumns.{nodes_at_other, nodes_at_moved}
 use Rattle.run_laws.proofs.RunStates.LaterEdges.{columns_of_frames}
 use Rattle.order_2d.proofs.ListsSoFar.{length-log_entries}
-use Rattle.frame_book.specs.BookStates.{BookState, events_of, last_ticket, with_events, replies_at, Out, Spent, Kept}
+use Rattle.frame_book.specs.BookStates.{BookState, events_of, last_ticket, state_of, with_events, Out, Spent, Kept}
 use Rattle.pipe_frame.specs.Replies.{replies_of}
 use Rattle.frame_book.specs.Invariant.{IsBook, HasActions, MatchesFrame, actions_in, pending_nodes}
 use Rattle.frame_book.specs.RowsOfFrames.{IsRowOf, HasTraceCount, TokenFits, token_at, no_marks}
@@ -52,6 +53,7 @@ use Rattle.frame_book.specs.CallEffects.{identities_of_orders, seen_whole, with_
 use Rattle.frame_book.specs.Tables.{Tables, book_state, token_state_of, token_state_by}
 use Rattle.frame_book.specs.GivenTokens.{IsGivenBy}
 use Rattle.frame_book.proofs.BookLogs.AtEvents.{after_event}
+use Rattle.frame_book.proofs.Conditions.MayEnter.{may_as}
 use Rattle.frame_book.proofs.Conditions.EnteredRows.{marks_at_map, marks_row_map, numbers_row_map, names_few, rows_fit_more, total_at}
 use Rattle.frame_book.proofs.Conditions.EnteredRows.{total_set_more, running_more, first_is_zero, named_above, taken_below}
 use Rattle.frame_book.proofs.StartedInstances.LeftParents.{IsLeft, left_found, last_at_is}
@@ -59,17 +61,49 @@ use Rattle.frame_book.proofs.BookLogs.LogEntries.{last_ticket_with, length_with,
 use Rattle.frame_book.proofs.BookLogs.LogEntries.{starts_of-push, state_after-push}
 use Rattle.frame_book.proofs.Keeping.Name.{alive_set, closed_moved, left_passed_moved}
 use Rattle.frame_book.proofs.Keeping.LeaveReady.{sized_set}
-use Rattle.frame_book.proofs.Iterations.FrameRows.{row_of_frame, rows_length, row_at_within, token_of_row}
+use Rattle.frame_book.proofs.Iterations.FrameRows.{row_of_frame, row_at_read, rows_length, row_at_within, token_of_row}
 use Rattle.frame_book.proofs.Iterations.ChangedRows.{rows_set, token_at_set, token_at_other, map_set_same, map_at, traces_of_row}
 use Rattle.frame_book.proofs.StartedInstances.StartMarks.{parent_marks, takes_right_below}
 use Rattle.frame_book.proofs.StartedInstances.GrownMarks.{down_grows, right_grows, marks_grow, marks_same, kept_grows, names_seen}
 use Rattle.frame_book.proofs.StartedInstances.GrownMarks.{knows_new}
 use Rattle.frame_book.proofs.BookLogs.TokensOfStates.{token_at_events}
 
-module _ {M : Type 0} (Whole : SyntaxTree → M → Type 0) (ReadyAt : SyntaxTree → List ℤ → M → ℕ → List (List ℤ) → Type 0) (tie : M → Tie)
-    (b : Tables M) (h : IsBook Whole ReadyAt tie b) (i : ℕ) (going : (state_after (events_of b.ledger.log)).stopped ≡ false)
-    (may : MayEnter (state_after (events_of b.ledger.log)) i)
-    (r : IterationRow M) (at_row : row_at b.rows i ≡ Some r) where
+-- a run that goes on, and the row of an iteration that may enter the stage that it has named
+pub record Enters {M : Type 0} (b : Tables M) (i : ℕ) (r : IterationRow M) : Type 0 where
+  pub going : (state_after (events_of b.ledger.log)).stopped ≡ false
+  pub may : MayEnter (state_after (events_of b.ledger.log)) i
+  pub at_row : row_at b.rows i ≡ Some r
+
+module _ {M : Type 0} {Whole : SyntaxTree → M → Type 0} {ReadyAt : SyntaxTree → List ℤ → M → ℕ → List (List ℤ) → Type 0} {tie : M → Tie}
+    {b : Tables M} (h : IsBook Whole ReadyAt tie b) {v : BookState} (seen : book_state b ≡ v) {i : ℕ} (may : MayEnter (state_of v) i) where
+  may_here : MayEnter (state_after (events_of b.ledger.log)) i
+  may_here = subst (λ w. MayEnter (state_of w) i) (sym seen) may
+
+  pub may_within : i < length b.rows
+  may_within =
+      let s = state_after (events_of b.ledger.log) in
+      let a = frame_at_within s.frames i may_here.frame may_here.is in
+      let e = rows_length (not s.stopped) s.frames b.rows h.rows.each in
+      omega (arith, a, e)
+
+  -- and was read
+  pub enters : (state_of v).stopped ≡ false → {r : IterationRow M} → r ≡ get_or b.rows i r → Enters b i r
+  enters going {r = r} read = record {
+    going = subst (λ w. (state_of w).stopped ≡ false) (sym seen) going;
+    may = may_here;
+    at_row = row_at_read b.rows i r may_within read;
+  }
+
+-- what the search to the left finds
+pub record Finds (i : ℕ) (kind : Kind) (number : ℤ) (numbers : List ℤ) (joined : ℕ) (left : Option ℕ) : Type 0 where
+  pub none : (WaitsAt kind i → ⊥) → left ≡ None
+  pub some : WaitsAt kind i → IfSome left (λ j. (joined < j) × IsLastUpTo numbers j number)
+  pub nothing : WaitsAt kind i → IfNone left ((j : ℕ) → IsLastUpTo numbers j number → j ≤ joined)
+
+module _ {M : Type 0} {Whole : SyntaxTree → M → Type 0} {ReadyAt : SyntaxTree → List ℤ → M → ℕ → List (List ℤ) → Type 0} {tie : M → Tie}
+    {b : Tables M} (h : IsBook Whole ReadyAt tie b) {i : ℕ} {r : IterationRow M} (entry : Enters b i r) where
+  open entry use {going, may, at_row}
+
   abbrev pub c : State
   c = state_after (events_of b.ledger.log)
 
@@ -254,7 +288,7 @@ module _ {M : Type 0} (Whole : SyntaxTree → M → Type 0) (ReadyAt : SyntaxTre
             bounded = omega (arith, wide, fits, room', small);
           })
 
-  module _ (t : FrameToken M) (held : r.token ≡ Some t) where
+  module _ {t : FrameToken M} (held : r.token ≡ Some t) where
     -- the token as it was kept
     pub kept : IsKeptToken (ReadyAt (tree_of b.program) b.input) tie (identities_of_orders b.orders) traces starts c i f t
     kept = h.tokens.tokens going i f t may.is (token_of_row b.rows i r at_row ∙ held)
@@ -282,9 +316,9 @@ module _ {M : Type 0} (Whole : SyntaxTree → M → Type 0) (ReadyAt : SyntaxTre
     node_new = ap (λ ns. node_at ns (suc t.index)) nodes_new ∙ get_or_push f.nodes (node_of may.kind may.number)
         Rattle.pipe_model.specs.Races.Columns.no_node (suc t.index) kept.index
 
-    module _ (left : Option ℕ) (none : (WaitsAt may.kind i → ⊥) → left ≡ None)
-        (some : WaitsAt may.kind i → IfSome left (λ j. (t.joined < j) × IsLastUpTo (left_numbers rows i) j may.number))
-        (nothing : WaitsAt may.kind i → IfNone left ((j : ℕ) → IsLastUpTo (left_numbers rows i) j may.number → j ≤ t.joined)) where
+    module _ {left : Option ℕ} (found : Finds i may.kind may.number (left_numbers rows i) t.joined left) where
+      open found use {none, some, nothing}
+
       -- what the search finds is the left parent
       is_left : IsLeft cols i t.index t.joined left
       is_left =
@@ -652,3 +686,11 @@ module _ {M : Type 0} (Whole : SyntaxTree → M → Type 0) (ReadyAt : SyntaxTre
                 let index = kept.index in
                 omega (arith, same, row, long, counted, index));
           }))
+
+-- with the kind and the number that were read
+abbrev pub named : {M : Type 0} {Whole : SyntaxTree → M → Type 0} {ReadyAt : SyntaxTree → List ℤ → M → ℕ → List (List ℤ) → Type 0}
+    {tie : M → Tie} {b : Tables M} → IsBook Whole ReadyAt tie b → {i : ℕ} {r : IterationRow M} → Enters b i r → {kind : Kind} {number : ℤ}
+    → r.status ≡ Pending kind number → Enters b i r
+named {b = b} h {i = i} entry {kind = kind} {number = number} is = record entry {
+  may = may_as (state_after (events_of b.ledger.log)) i entry.may kind number (entry.may.named ∙ (sym (status_is h entry) ∙ is));
+}

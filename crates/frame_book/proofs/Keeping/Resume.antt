@@ -1,6 +1,6 @@
 -- The token of an iteration that was left ready, taken out again.
-use Rattle.std.proofs.Common.{◌≡◌, ℕ, ℤ, zero, suc, List, [], ◌∷◌, length, map, set, get_or, refl, ap, sym, ◌∙◌, arith, subst, false, not}
-use Rattle.std.proofs.Common.{Option, Some, None, inl, inr, append-nil}
+use Rattle.std.proofs.Common.{◌≡◌, ℕ, ℤ, zero, suc, ◌<◌, List, [], ◌∷◌, length, map, set, get_or, refl, ap, sym, ◌∙◌, arith, subst}
+use Rattle.std.proofs.Common.{false, not, Option, Some, None, inl, inr, append-nil}
 use Rattle.std.proofs.lemmas.Bool.{cases_eq}
 use Rattle.std.proofs.lemmas.List.{map-set, length-set, length-map, get_or-set_same}
 use Rattle.pipe_model.specs.declared.event.Event.TheVariants.{Enter}
@@ -16,6 +16,7 @@ use Rattle.pipe_frame.specs.CallResults.{CanGoOn, resume_events, pending_events}
 use Rattle.pipe_frame.specs.Ties.{Tie}
 use Rattle.pipe_frame.specs.TokenFields.{fields_of}
 use Rattle.pipe_frame.specs.declared.token.FrameToken.{FrameToken}
+use Rattle.run_laws.proofs.RunStates.Frames.{frame_at_within}
 use Rattle.frame_book.specs.BookStates.{BookState, Out, Spent, Kept, events_of, item_or, state_of, with_events}
 use Rattle.pipe_frame.specs.Replies.{replies_of}
 use Rattle.frame_book.specs.Invariant.{IsBook, HasActions}
@@ -26,7 +27,7 @@ use Rattle.frame_book.specs.CallEffects.{with_resumed, with_entered, IsReady, id
 use Rattle.frame_book.specs.Tables.{Tables, book_state, token_state_of, token_state_by}
 use Rattle.frame_book.specs.GivenTokens.{IsGivenBeside, IsGivenBy}
 use Rattle.frame_book.proofs.Keeping.LeaveReady.{sized_set}
-use Rattle.frame_book.proofs.Iterations.FrameRows.{row_of_frame, row_at_within, token_of_row}
+use Rattle.frame_book.proofs.Iterations.FrameRows.{row_of_frame, row_at_read, row_at_within, rows_length, token_of_row}
 use Rattle.frame_book.proofs.Iterations.ChangedRows.{rows_set_same, token_at_set, token_at_other, map_at, map_set_same, total_set_same}
 use Rattle.frame_book.proofs.Iterations.ChangedRows.{traces_of_row}
 
@@ -94,11 +95,53 @@ resumes_by_entering v i f k n e s =
       tokens = set v.tokens i Out;
     }) z
 
-module _ {M : Type 0} (Whole : SyntaxTree → M → Type 0) (ReadyAt : SyntaxTree → List ℤ → M → ℕ → List (List ℤ) → Type 0) (tie : M → Tie)
-    (b : Tables M) (h : IsBook Whole ReadyAt tie b) (i : ℕ) (going : (state_after (events_of b.ledger.log)).stopped ≡ false)
-    (r : IterationRow M) (at_row : row_at b.rows i ≡ Some r) (f : Frame)
-    (is : frame_at (state_after (events_of b.ledger.log)).frames i ≡ Some f) (runs : f.status ≡ Running) (t : FrameToken M)
-    (held : r.token ≡ Some t) where
+-- a run that goes on, an iteration that can go on too, and its row and frame
+pub record Resumes {M : Type 0} (b : Tables M) (i : ℕ) (r : IterationRow M) : Type 0 where
+  pub going : (state_after (events_of b.ledger.log)).stopped ≡ false
+  pub can : CanGoOn (IsReady (book_state b)) (state_after (events_of b.ledger.log)) i
+  pub at_row : row_at b.rows i ≡ Some r
+  pub frame : Frame
+  pub is : frame_at (state_after (events_of b.ledger.log)).frames i ≡ Some frame
+  pub status : r.status ≡ frame.status
+
+module _ {M : Type 0} {Whole : SyntaxTree → M → Type 0} {ReadyAt : SyntaxTree → List ℤ → M → ℕ → List (List ℤ) → Type 0} {tie : M → Tie}
+    {b : Tables M} (h : IsBook Whole ReadyAt tie b) {v : BookState} (seen : book_state b ≡ v) (i : ℕ)
+    (can : CanGoOn (IsReady v) (state_of v) i) where
+  can_here : CanGoOn (IsReady (book_state b)) (state_after (events_of b.ledger.log)) i
+  can_here = subst (λ w. CanGoOn (IsReady w) (state_of w) i) (sym seen) can
+
+  -- it has a row
+  pub can_within : i < length b.rows
+  can_within =
+      let it = can_frame (book_state b) i can_here in
+      let a = frame_at_within (state_after (events_of b.ledger.log)).frames i it.0 it.1 in
+      let e = rows_length _ (state_after (events_of b.ledger.log)).frames b.rows h.rows.each in
+      omega (arith, a, e)
+
+  -- that was read
+  pub resumes : (state_of v).stopped ≡ false → {r : IterationRow M} → r ≡ get_or b.rows i r → Resumes b i r
+  resumes going {r = r} read =
+      let it = can_frame (book_state b) i can_here in
+      let at = row_at_read b.rows i r can_within read in
+      let q = row_of_frame _ (state_after (events_of b.ledger.log)).frames b.rows i it.0 h.rows.each it.1 in
+      let same : q.row ≡ r = (let y : Some q.row ≡ Some r = sym q.is ∙ at in cc) in
+      record {
+        going = subst (λ w. (state_of w).stopped ≡ false) (sym seen) going;
+        can = can_here;
+        at_row = at;
+        frame = it.0;
+        is = it.1;
+        status = sym (ap (λ (z : IterationRow M). z.status) same) ∙ q.matches.status;
+      }
+
+module _ {M : Type 0} {Whole : SyntaxTree → M → Type 0} {ReadyAt : SyntaxTree → List ℤ → M → ℕ → List (List ℤ) → Type 0} {tie : M → Tie}
+    {b : Tables M} (h : IsBook Whole ReadyAt tie b) {i : ℕ} {r : IterationRow M} (x : Resumes b i r) (ran : r.status ≡ Running)
+    {t : FrameToken M} (held : r.token ≡ Some t) where
+  open x use {going, at_row, frame as f, is}
+
+  runs : f.status ≡ Running
+  runs = sym x.status ∙ ran
+
   abbrev pub c : State
   c = state_after (events_of b.ledger.log)
 
