@@ -21,15 +21,15 @@ use Rattle.cilkp_program.proofs.OneCommand.{apart, one_command}
 use Rattle.cilkp_program.proofs.OneContent.{one_input, one_source}
 use Rattle.cilkp_program.specs.CommandFiles.{asks_record}
 use Rattle.cilkp_program.specs.PrintedResults.{InputFault, IsCallResult, OfRow, RecordFault, SourceFault}
+use Rattle.cilkp_program.specs.declared.command_result.CommandResult.{CommandResult}
 use Rattle.cilkp_program.specs.declared.program_run.FinishedRun.{FinishedRun}
 use Rattle.cilkp_program.specs.Headline.{IsToRun}
 use Rattle.cilkp_program.specs.ProgramFiles.{FileContents}
-use Rattle.cilkp_program.specs.RecordedRuns.{HasSeededEvents, IsFinishedLog, IsToPlay, ReturnsRun, recorded, seeded_events}
+use Rattle.cilkp_program.specs.RecordedRuns.{HasSeededEvents, IsFinishedLog, IsToPlay, ReturnsRun, seeded_events}
 use Rattle.cilkp_program.specs.ResultTable.{ResultRow, NoCommand, SourceRefused, Formats, Benches, WaveRefused, InputRefused, Runs}
 use Rattle.cilkp_program.specs.ResultTable.{RunsSerially, ChecksRecord, Weighs, IsLogOf, OfPlay, OfRun, OfWave}
 use Rattle.cilkp_program.specs.RunReports.{run_reports}
-use Rattle.cilkp_program.specs.RunResults.{IsPlayResult, IsSeededPlay}
-use Rattle.cilkp_program.specs.RunTexts.{IsPrintedAs}
+use Rattle.cilkp_program.specs.RunResults.{IsPlayResult, IsPrintedRun, IsSeededPlay}
 
 -- a play with these choices and enough turns
 pub seeded_play : (tree : SyntaxTree) (input : List ℤ) (workers throttle seed : ℕ) (choices : List ℕ) (turns : ℕ) (p : Played)
