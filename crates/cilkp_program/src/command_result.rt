@@ -4,9 +4,9 @@ ghost use Rattle.std.specs.Prelude.{◌≡◌, [], None, IfOk};
 ghost use Rattle.pipe_model.specs.Texts.{fault_read};
 ghost use Rattle.pipe_model.specs.declared.exit_status.TheConstants as statuses;
 
-use pipe_model::exit_status::{READ_FAULT, REFUSED};
 use crate::text::named_line;
 use pipe_model::event::RunLog;
+use pipe_model::exit_status::{READ_FAULT, REFUSED};
 use pipe_model::list::Bytes;
 use pipe_model::memory::NoMemory;
 use pipe_model::report::Reports;

@@ -16,12 +16,12 @@ ghost use Rattle.cilkp_words.specs.declared.ranges.TheConstants as ranges;
 ghost use Rattle.pipe_model.specs.Pipelines.WholePrograms.{program_columns};
 ghost use Rattle.cilkp_program.specs.SerialResults.{elision_accesses, elision_columns, elision_output, elision_trap};
 
-use pipe_model::exit_status::{FINISHED, RACES, TRAPPED};
 use dag_build::dag::Dag;
 use pipe_check::checked::Checked;
 use pipe_engine::run::{EngineRun, run};
 use pipe_model::column::Columns;
 use pipe_model::event::RunLog;
+use pipe_model::exit_status::{FINISHED, RACES, TRAPPED};
 use pipe_model::list::{Bytes, Numbers};
 use pipe_model::memory::NoMemory;
 use pipe_model::report::Reports;

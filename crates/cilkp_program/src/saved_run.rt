@@ -12,12 +12,12 @@ ghost use Rattle.cilkp_program.specs.RecordResults.{IsRecordOf, RecordResult, ki
 use crate::command_result::{CommandResult, read_fault, refused};
 use crate::load::MISSING;
 use crate::refusal::numbered_line;
-use pipe_model::exit_status::{FINISHED, RACES};
 use crate::text::{line, named_line};
 use pipe_check::checked::Checked;
 use pipe_io::files::Files;
 use pipe_io::whole::{Whole, read_whole};
 use pipe_model::event::{Events, RunLog};
+use pipe_model::exit_status::{FINISHED, RACES};
 use pipe_model::list::{Bytes, Numbers};
 use pipe_model::memory::NoMemory;
 use pipe_model::report::Reports;

@@ -9,9 +9,9 @@ ghost use Rattle.pipe_model.specs.declared.exit_status.TheConstants as statuses;
 ghost use Rattle.cilkp_program.specs.SpanResults.{IsSpanText, instance_line, span_text};
 
 use crate::command_result::CommandResult;
-use pipe_model::exit_status::FINISHED;
 use pipe_check::checked::Checked;
 use pipe_model::column::{Column, Columns};
+use pipe_model::exit_status::FINISHED;
 use pipe_model::list::{Bytes, Numbers};
 use pipe_model::memory::NoMemory;
 use pipe_model::node::NodeId;

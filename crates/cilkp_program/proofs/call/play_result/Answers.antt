@@ -7,4 +7,4 @@ pub returns : goal.returns
 returns c =
     map_ok c.finished_result.result c.finished_result.ensures (λ a printed.
     play_returned (tree_of c.args.checked.now) c.args.input.now c.args.workers c.args.throttle c.args.seed c.args.with_log
-        c.in_ok-run.run' a c.requires.accepted c.in_ok-run.ensures printed)
+    c.in_ok-run.run' a c.requires.accepted c.in_ok-run.ensures printed)
