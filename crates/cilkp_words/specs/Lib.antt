@@ -4,3 +4,4 @@ pub mod OptionNumbers
 pub mod CommandRanges
 pub mod CommandWords
 pub mod WordExamples
+pub mod RunWordsData

@@ -6,8 +6,10 @@ ghost use Rattle.clap.specs.Simple.{subcommand_rows_of};
 ghost use Rattle.clap.specs.Walk.{first_of, rows_of};
 ghost use Rattle.cilkp_words.specs.CommandRanges.{IsInRange};
 ghost use Rattle.cilkp_words.specs.Commands.{command_data};
-ghost use Rattle.cilkp_words.specs.CommandWords.{bench_of, check_record_of, command_named, command_of, format_of, play_of, records, run_of};
-ghost use Rattle.cilkp_words.specs.CommandWords.{seed_of, serial_of, span_of, throttle_of, wave_of, words_of, workers_of};
+ghost use Rattle.cilkp_words.specs.CommandWords.{bench_of, check_record_of, command_named, command_of, files_of, format_of, play_of};
+ghost use Rattle.cilkp_words.specs.CommandWords.{records, run_of, run_words_of, seed_of, serial_of, sizes_of, span_of, throttle_of};
+ghost use Rattle.cilkp_words.specs.CommandWords.{wave_of, words_of, workers_of};
+ghost use Rattle.cilkp_words.specs.RunWordsData.{run_words_data};
 ghost use Rattle.cilkp_words.specs.declared.ranges.TheConstants as ranges;
 
 use crate::commands::Command;
@@ -58,55 +60,97 @@ fn records<'a>(matches: &ArgMatches<'a>) -> bool
     word(matches, "record") == Some("true")
 }
 
-fn run<'a>(matches: &ArgMatches<'a>) -> Option<Command<'a>>
-    ensures { option_map command_data result ≡ run_of (rows_of (found_of matches.now)) }
+// The names of the source and the input.
+fn files<'a>(matches: &ArgMatches<'a>) -> Option<(&'a str, &'a str)>
+    ensures { option_map (λ f. (f.0.now, f.1.now)) result ≡ files_of (rows_of (found_of matches.now)) }
 {
     let source = word(matches, "source")?;
     let input = word(matches, "input")?;
+    Some((source, input))
+}
+
+// How many workers run a loop, and how many of its iterations are alive.
+fn sizes<'a>(matches: &ArgMatches<'a>) -> Option<(u32, u32)>
+    ensures { result ≡ sizes_of (rows_of (found_of matches.now)) }
+{
     let workers = workers(matches)?;
     let throttle = throttle(workers, matches)?;
-    let record = records(matches);
-    Some(Command::Run {
+    Some((workers, throttle))
+}
+
+// What `run`, `play` and `wave` have in common.
+#[derive(Clone, Copy)]
+struct RunWords<'a> {
+    source: &'a str,
+    input: &'a str,
+    workers: u32,
+    throttle: u32,
+}
+
+fn run_words<'a>(matches: &ArgMatches<'a>) -> Option<RunWords<'a>>
+    ensures { option_map run_words_data result ≡ run_words_of (rows_of (found_of matches.now)) }
+{
+    let (source, input) = files(matches)?;
+    let (workers, throttle) = sizes(matches)?;
+    Some(RunWords {
         source,
         input,
         workers,
         throttle,
-        record,
+    })
+}
+
+fn run<'a>(matches: &ArgMatches<'a>) -> Option<Command<'a>>
+    ensures { option_map command_data result ≡ run_of (rows_of (found_of matches.now)) }
+{
+    let words = run_words(matches)?;
+    Some(Command::Run {
+        source: words.source,
+        input: words.input,
+        workers: words.workers,
+        throttle: words.throttle,
+        record: records(matches),
     })
 }
 
 fn play<'a>(matches: &ArgMatches<'a>) -> Option<Command<'a>>
     ensures { option_map command_data result ≡ play_of (rows_of (found_of matches.now)) }
 {
-    let source = word(matches, "source")?;
-    let input = word(matches, "input")?;
-    let workers = workers(matches)?;
-    let throttle = throttle(workers, matches)?;
+    let words = run_words(matches)?;
     let seed = seed(matches)?;
-    let record = records(matches);
     Some(Command::Play {
-        source,
-        input,
-        workers,
-        throttle,
+        source: words.source,
+        input: words.input,
+        workers: words.workers,
+        throttle: words.throttle,
         seed,
-        record,
+        record: records(matches),
+    })
+}
+
+fn wave<'a>(matches: &ArgMatches<'a>) -> Option<Command<'a>>
+    ensures { option_map command_data result ≡ wave_of (rows_of (found_of matches.now)) }
+{
+    let words = run_words(matches)?;
+    Some(Command::Wave {
+        source: words.source,
+        input: words.input,
+        workers: words.workers,
+        throttle: words.throttle,
     })
 }
 
 fn serial<'a>(matches: &ArgMatches<'a>) -> Option<Command<'a>>
     ensures { option_map command_data result ≡ serial_of (rows_of (found_of matches.now)) }
 {
-    let source = word(matches, "source")?;
-    let input = word(matches, "input")?;
+    let (source, input) = files(matches)?;
     Some(Command::Serial { source, input })
 }
 
 fn span<'a>(matches: &ArgMatches<'a>) -> Option<Command<'a>>
     ensures { option_map command_data result ≡ span_of (rows_of (found_of matches.now)) }
 {
-    let source = word(matches, "source")?;
-    let input = word(matches, "input")?;
+    let (source, input) = files(matches)?;
     Some(Command::Span { source, input })
 }
 
@@ -128,29 +172,13 @@ fn bench<'a>(matches: &ArgMatches<'a>) -> Option<Command<'a>>
 fn check_record<'a>(matches: &ArgMatches<'a>) -> Option<Command<'a>>
     ensures { option_map command_data result ≡ check_record_of (rows_of (found_of matches.now)) }
 {
-    let source = word(matches, "source")?;
-    let input = word(matches, "input")?;
+    let (source, input) = files(matches)?;
     let record = word(matches, "record")?;
     let throttle = number_or(MOST_THROTTLE, 1, MOST_THROTTLE, word(matches, "throttle"))?;
     Some(Command::CheckRecord {
         source,
         input,
         record,
-        throttle,
-    })
-}
-
-fn wave<'a>(matches: &ArgMatches<'a>) -> Option<Command<'a>>
-    ensures { option_map command_data result ≡ wave_of (rows_of (found_of matches.now)) }
-{
-    let source = word(matches, "source")?;
-    let input = word(matches, "input")?;
-    let workers = workers(matches)?;
-    let throttle = throttle(workers, matches)?;
-    Some(Command::Wave {
-        source,
-        input,
-        workers,
         throttle,
     })
 }
