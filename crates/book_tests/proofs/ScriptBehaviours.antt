@@ -78,7 +78,7 @@ legal_waiting first stages here (suc n) =
     legal_if first (pos here) (nat_lt (suc here) stages) _ _
     ((λ e. cc (e)), (grind (arith, ints), legal_waiting false stages (suc here) n)) (λ e. absurd (cc (e)))
 
--- ---- and are few
+-- ---- how many stages an iteration names
 
 few_if : (m : ℕ) (b : Bool) (x y : Behaviour) → (b ≡ true → NamesAtMost m x) → NamesAtMost m y → NamesAtMost m (if b then x else y)
 few_if m true x y hx hy = hx refl

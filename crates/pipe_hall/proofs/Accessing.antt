@@ -84,13 +84,13 @@ kept_grow old new h g k = all_kept (λ w. AreIn (down_list old) (right_list old)
     (λ w. AreIn (down_list new) (right_list new) w.marks) h
     (λ w a. record { down = g.down.elements w.marks.down_first a.down; right = g.right.elements w.marks.right_first a.right }) k
 
--- the default is of no account within a list
+-- at an index of the list, `get_or` does not use its default
 pub get_any : {A : Type 0} (xs : List A) (i : ℕ) (d e : A) → i < length xs → get_or xs i d ≡ get_or xs i e
 get_any [] i d e l = absurd (omega (arith, l))
 get_any (x ∷ xs) zero d e l = refl
 get_any (x ∷ xs) (suc i) d e l = get_any xs i d e (omega (arith, l))
 
--- a push that is no error is done
+-- what holds after a push if it returns no error
 pub not_err : {A E : Type 0} (P : Type 0) (r : Result A E) → OnOk r P → is_err r ≡ false → P
 not_err P (Ok x) p e = p
 not_err P (Err x) p e = absurd (let z : true ≡ false = e in cc)
@@ -215,7 +215,7 @@ ran_seat z id v (Some x) = by v.it.run
     by None = refl
     by (Some d) = refl
 
--- a token that is out is still out
+-- after an access, made or refused, the token is out of the same hall
 pub seated_after : (h : HallName) (f g : TokenFields) (t u : Tie) (o : Option Entry) → g ≡ record f { now = now_after f.now o }
     → u ≡ tie_after t o → IsSeated h f t → IsSeated h g u
 seated_after h f g t u None fields tie out = subst (λ x. IsSeated h x u) (sym fields) (subst (λ x. IsSeated h f x) (sym tie) out)
@@ -233,7 +233,7 @@ same_seat : (s : InstanceSeat) (o : Option Entry) → SameSeat (Some s) (seat_do
 same_seat s None = (refl, refl, refl, refl)
 same_seat s (Some e) = (refl, refl, refl, refl)
 
--- it is of the same instance
+-- after an access the token is that of the same instance
 pub same_instance : (h : HallName) (f g : TokenFields) (t u : Tie) (o : Option Entry) → g ≡ record f { now = now_after f.now o }
     → u ≡ tie_after t o → IsSeated h f t → IsSameInstance f g t u
 same_instance h f g t u o fields tie out = record {
@@ -272,7 +272,7 @@ seat_again a r z id v o az ai av rz ri rv =
     ∙ ap (λ vs. seat_of a.badge.table_id a.badge.id (badge_view vs).constants (badge_view vs).run) (sym av) in
     new ∙ (ran_seat z id v o ∙ ap (λ s. seat_done s o) old)
 
--- two lists of identities, beside a third
+-- of two equal triples of identities, the second and the third parts are equal
 pub same_identities : (a b c d e f : List ℕ) → ◌≡◌ {A = List (List ℕ)} (a ∷ (b ∷ (c ∷ []))) (d ∷ (e ∷ (f ∷ []))) → (b ≡ e) × (c ≡ f)
 same_identities a b c d e f h = (cc, cc)
 

@@ -23,7 +23,7 @@ abbrev NumeralOrFlaw : List ℕ → ℕ → Type 0
 NumeralOrFlaw bytes before = ((numeral : Numeral) × IsNumeralOf bytes numeral × (before < MOST_NUMBERS)) ⊎
     ((flaw : Flaw) × IsFlaw bytes before flaw)
 
--- a number may end here or not
+-- whether a number may end before these bytes is decided
 ends_or_not : (bytes : List ℕ) → EndsNumber bytes ⊎ (EndsNumber bytes → ⊥)
 ends_or_not [] = inl tt
 ends_or_not (b ∷ bs) = by_test (is_blank b) refl
@@ -32,7 +32,7 @@ ends_or_not (b ∷ bs) = by_test (is_blank b) refl
     by_test true e = inl e
     by_test false e = inr (λ h. false≢true (sym e ∙ h))
 
--- a number is an `i64` or not
+-- whether a number fits an `i64` is decided
 fits_or_not : (is_negative : Bool) (n : ℕ) → FitsI64 (signed is_negative n) ⊎ (FitsI64 (signed is_negative n) → ⊥)
 fits_or_not true n = elim (cases_lt (2 ^ 63) n) [
   | inl wide ↦ inr (λ fits. omega (arith, ints, wide, fits.0))
@@ -43,7 +43,7 @@ fits_or_not false n = elim (cases_lt n (2 ^ 63)) [
   | inr wide ↦ inr (λ fits. omega (arith, ints, wide, fits.1))
 ]
 
--- the byte is a separator or not
+-- whether a byte is a separator is decided
 blank_or_not : (b : ℕ) → (is_blank b ≡ true) ⊎ (is_blank b ≡ false)
 blank_or_not b = by_test (is_blank b) refl
   where
@@ -51,7 +51,7 @@ blank_or_not b = by_test (is_blank b) refl
     by_test true e = inl e
     by_test false e = inr e
 
--- this holds after a `-`, or without one
+-- the digits, after a `-` or without one, begin with a number, or something is wrong there
 signed_or_flaw : (is_negative : Bool) (ds : List ℕ) (before : ℕ) → before ≤ MOST_NUMBERS → (is_negative ≡ false → BeginsPlain ds)
     → NumeralOrFlaw (with_sign is_negative ds) before
 signed_or_flaw is_negative ds before bounded plain = by_count (cases_lt 0 (prefix_len is_digit ds))
@@ -92,7 +92,7 @@ signed_or_flaw is_negative ds before bounded plain = by_count (cases_lt 0 (prefi
           (omega (arith, none)) refl plain,
     )
 
--- this holds whatever the first byte is, if it is no separator
+-- so do all bytes whose first one is no separator
 numeral_or_flaw : (b : ℕ) (following : List ℕ) (before : ℕ) → before ≤ MOST_NUMBERS → is_blank b ≡ false
     → NumeralOrFlaw (b ∷ following) before
 numeral_or_flaw b following before bounded no_blank = by_sign (b == minus) refl

@@ -171,7 +171,7 @@ step_back columns weights rows x y h w e = by_predecessor (entry_to rows y).pred
         let f : Some (at (y.iteration - 1) j) ≡ Some x = subst (λ t. predecessor_of y t ≡ Some x) s e in
         subst (λ n. IsStepBack columns weights rows n y) (some_same f) (step_left_back columns weights rows y j h w s)
 
--- an instance without a predecessor has no predecessor
+-- if the row of an instance names no predecessor, no edge leads to the instance, and its weight is its own
 pub no_step_back : (columns : List (List Node)) (weights : List ℕ) (rows : List (List Entry)) (y : NodeId) → AreRows columns weights rows
     → IsNodeOf columns y → predecessor_of y (entry_to rows y).predecessor ≡ None
     → ((z : NodeId) → Edge columns z y → ⊥) × (weight_to rows y ≡ weight_of columns weights y)

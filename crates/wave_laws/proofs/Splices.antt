@@ -119,7 +119,7 @@ spliced store budget left n k m next f g before (Sets {d} c v s) hf hg =
     ∙ ap (λ l. splice t (Staged k m ∷ serial_trace store (with_budget budget budget next) l))
     (append_assoc before (a ∷ []) (accesses_in t)))
 
--- two trees that end alike do alike
+-- a tree goes on in the same way by two functions that agree on all its results
 pub same_end : {A B : Type 0} {P : A → Type 0} {d : Interaction A} (f g : A → Interaction B) → IsStraight P d
     → ((a : A) → P a → f a ≡ g a) → bind d f ≡ bind d g
 same_end f g (Returns {a} p) h = h a p

@@ -19,7 +19,7 @@ use Rattle.run_laws.proofs.ListOrders.StableLeftParents.{left_wait, left_without
 use Rattle.frame_book.specs.IterationRows.{WaitsAt}
 use Rattle.frame_book.proofs.Iterations.FrameRows.{number_at}
 
--- in numbers and in nodes
+-- the last index up to a stage number is the same in a column's numbers as in its instances
 pub last_at_is : (nodes : List Node) (j : ℕ) (s : ℤ) → IsLastNumber (map (λ n. n.number) nodes) j s → IsLastUpTo nodes j s
 last_at_is nodes j s h = let w = length-map nodes (λ (n : Node). n.number) in record {
   within = (let l = h.within in omega (arith, w, l));
@@ -44,7 +44,7 @@ module _ (columns : List (List Node)) (a k before : ℕ) (kind : Kind) (number :
   next_is : joined_at columns a (suc k) ≡ joined_by kind (joined_at columns a k) (last_up_to (nodes_at columns a) number)
   next_is = ap (λ (m : Node). joined_by m.kind (joined_at columns a k) (last_up_to (nodes_at columns a) m.number)) here
 
-  -- without a search
+  -- an instance whose joined index is that of the one above has no left parent
   left_none : joined_by kind (joined_at columns a k) (last_up_to (nodes_at columns a) number) ≡ joined_at columns a k
       → IsLeft columns (suc a) k before None
   left_none e = record {
@@ -82,7 +82,7 @@ module _ (columns : List (List Node)) (a k before : ℕ) (kind : Kind) (number :
         joins = omega (arith, q', le, joined_is);
       }
 
-  -- of an instance that waits
+  -- what was found for an instance that waits is its left parent
   left_waits : (left : Option ℕ) → kind ≡ Wait → 0 < length (nodes_at columns a) → (node_at (nodes_at columns a) 0).number ≤ℤ number
       → IfSome left (λ j. (before < j) × IsLastNumber (map (λ n. n.number) (nodes_at columns a)) j number)
       → IfNone left ((j : ℕ) → IsLastNumber (map (λ n. n.number) (nodes_at columns a)) j number → j ≤ before)
