@@ -65,7 +65,7 @@ pub fn insert_labelled(links: &mut Links, x: u32, label: u64)
 
 /// Inserts a new element after `x`. If no label is free there, the smallest sparse range of labels
 /// around `x` is labelled anew before.
-pub(crate) fn insert_element(links: &mut Links, x: u32)
+pub fn insert_element(links: &mut Links, x: u32)
     requires labelled { AreLabelled links.old }
     requires there { x < length links.old.label.items }
     requires bounded { length links.old.label.items < MOST_ELEMENTS }

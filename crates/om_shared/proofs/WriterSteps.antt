@@ -14,7 +14,7 @@ use Rattle.om_shared.specs.declared.view.Stage.{Stage}
 use Rattle.om_shared.specs.declared.view.Stage.TheVariants.{Resting, Moving, Settled}
 use Rattle.om_shared.specs.SharedLists.{StartsWith}
 use Rattle.om_shared.specs.Rule.{AreCurrent, AreOfElements, Contents, FitsStage, IsOrdered, Knows, KnowsAs, RiseAlong, label_at, view}
-use Rattle.om_shared.specs.Steps.{SeatState, at_stage, labelling, published, rested, stored, turned_to, with_insertion}
+use Rattle.om_shared.specs.Steps.{SeatState, announced, at_stage, labelling, published, rested, stored, turned_to, with_entry}
 use Rattle.om_shared.proofs.KnownSeats.{known, one_view, rewritten}
 use Rattle.om_shared.proofs.SeenLogs.{prefix_pushed}
 
@@ -33,6 +33,11 @@ abbrev pub MayPublish : (capacity slots id : ℕ) → SeatState → ℕ → ℕ 
 MayPublish capacity slots id m x c =
     Allows (IsOrdered capacity) slots id m 1 (λ n. either (eqb n c) (c + 1) n) (published (step slots 1 c (c + 1) (some x)) m)
 
+-- the writer may announce an insertion after x whose element has no label yet, if there are c so far
+abbrev pub MayAnnounce : (capacity slots id : ℕ) → SeatState → ℕ → ℕ → Type 0
+MayAnnounce capacity slots id m x c =
+    Allows (IsOrdered capacity) slots id m 1 (λ n. either (eqb n c) (c + 1) n) (announced (step slots 1 c (c + 1) (some x)) m)
+
 module _ (capacity : ℕ) where
   -- what the writer knows of a stage that the rule bounds
   fits_stage : (s : State ℕ View) (r : IsOrdered capacity s) (stage : Stage) → stage ≡ r.now.stage
@@ -42,13 +47,13 @@ module _ (capacity : ℕ) where
   -- the writer stores another sequence number, at a stage that fits it
   turns : (slots id : ℕ) (m : SeatState) (from to : Stage) (sequence : ℕ) (labels : List ℕ)
       → m.0.role ≡ Writing from sequence labels
-      → ((count : ℕ) → FitsStage from sequence count → FitsStage to (sequence + 1) count)
+      → (FitsStage from sequence (length m.0.log) → FitsStage to (sequence + 1) (length m.0.log))
       → ((sequence + 1) % 2 ≡ 0 → RiseAlong labels m.0.log)
       → MayTurn to capacity slots id m (sequence + 1)
   turns slots id m from to sequence labels is fits up s r _ have _ =
       let k = known capacity s r id m.0 (Writing from sequence labels) is have in
-      let old : FitsStage from sequence (length r.now.log) =
-      subst (λ (n : ℕ). FitsStage from n (length r.now.log)) (sym k.3) (fits_stage s r from k.2) in
+      let old : FitsStage from sequence (length m.0.log) =
+      subst (λ (x : ℕ × List ℕ). FitsStage from x.0 (length x.1)) (λ i. (sym k.3 i, sym k.1 i)) (fits_stage s r from k.2) in
       let same = k.3 in
       let v : View = view m.0.log m.0.learned (at_stage to (sequence + 1) m.0.role) in
       let now : Contents =
@@ -59,7 +64,8 @@ module _ (capacity : ℕ) where
         keeps,
         tt,
         rewritten capacity s r 0 (sequence + 1) id m.1 v to (sequence + 1) r.now.labels
-            (ap (λ (ws : List ℕ). set ws 0 (sequence + 1)) r.words) r.wide (fits (length r.now.log) old)
+            (ap (λ (ws : List ℕ). set ws 0 (sequence + 1)) r.words) r.wide
+            (subst (λ (l : List ℕ). FitsStage to (sequence + 1) (length l)) k.1 (fits old))
             (λ even. subst (λ (x : List ℕ × List ℕ). RiseAlong x.0 x.1) (λ i. (k.4 i, k.1 i)) (up even))
             k.0 (omega (arith, same)) record { learned = (r.each id m.0 have).learned; role = mine }
             (λ at seen ns le even here _ _ _. absurd (omega (arith, le, here, same))),
@@ -75,7 +81,7 @@ module _ (capacity : ℕ) where
       let even = f.0 in
       let same = k.3 in
       turns slots id m Resting Moving sequence labels is
-      (λ count f. (let a = f.0 in let b = f.1 in (omega (arith, a), omega (arith, b))))
+      (λ f. (let a = f.0 in let b = f.1 in (omega (arith, a), omega (arith, b))))
       (λ e. absurd (omega (arith, e, even, same))) s r l have fits
 
   pub ends_moving : (slots id : ℕ) (m : SeatState) (sequence : ℕ) (labels : List ℕ)
@@ -84,7 +90,15 @@ module _ (capacity : ℕ) where
       → MayTurn Settled capacity slots id m (sequence + 1)
   ends_moving slots id m sequence labels is up =
       turns slots id m Moving Settled sequence labels is
-      (λ count f. (let a = f.0 in let b = f.1 in (omega (arith, a), omega (arith, b)))) (λ _. up)
+      (λ f. (let a = f.0 in let b = f.1 in (omega (arith, a), omega (arith, b)))) (λ _. up)
+
+  -- all elements have their labels, and the sequence number has risen less often than there are insertions
+  pub settles : (slots id : ℕ) (m : SeatState) (sequence : ℕ) (labels : List ℕ)
+      → m.0.role ≡ Writing Moving sequence labels
+      → sequence + 1 ≤ 2 * length m.0.log → RiseAlong labels m.0.log
+      → MayTurn Resting capacity slots id m (sequence + 1)
+  settles slots id m sequence labels is bounded up =
+      turns slots id m Moving Resting sequence labels is (λ f. (let a = f.0 in (omega (arith, a), bounded))) (λ _. up)
 
   -- the writer stores a label, which changes no note that counts
   stores : (slots id : ℕ) (m : SeatState) (x label : ℕ) (stage : Stage) (sequence : ℕ) (labels : List ℕ)
@@ -161,30 +175,34 @@ module _ (capacity : ℕ) where
   even_fits Moving sequence count even f = let a = f.0 in absurd (omega (arith, a, even))
   even_fits Settled sequence count even f = f.1
 
-  -- after this step the new element is in the log
-  pub publishes : (slots id : ℕ) (m : SeatState) (x c sequence : ℕ) (labels : List ℕ) (stage : Stage)
-      → m.0.role ≡ Writing stage sequence labels
-      → c ≡ length m.0.log → sequence % 2 ≡ 0 → x ≤ length m.0.log → length m.0.log + 1 < capacity
-      → RiseAlong labels (m.0.log ++ x ∷ [])
-      → MayPublish capacity slots id m x c
-  publishes slots id m x c sequence labels stage is count even lx small up s r _ have _ =
-      let k = known capacity s r id m.0 (Writing stage sequence labels) is have in
+  -- after this step the new element is in the log, and the writer's role is another
+  enters : (slots id : ℕ) (m : SeatState) (x c sequence : ℕ) (labels : List ℕ) (from to : Stage) (role : Role)
+      → m.0.role ≡ Writing from sequence labels → role ≡ Writing to sequence labels
+      → c ≡ length m.0.log → x ≤ length m.0.log → length m.0.log + 1 < capacity
+      → (FitsStage from sequence (length m.0.log) → FitsStage to sequence (length m.0.log + 1))
+      → (sequence % 2 ≡ 0 → RiseAlong labels (m.0.log ++ x ∷ []))
+      → Allows (IsOrdered capacity) slots id m 1 (λ n. either (eqb n c) (c + 1) n)
+      (λ _ m'. (y : ℕ) → some x ≡ some y → m' ≡ (with_entry y role m.0, m.1))
+  enters slots id m x c sequence labels from to role is becomes_role count lx small fits up s r _ have _ =
+      let k = known capacity s r id m.0 (Writing from sequence labels) is have in
       let long = ap (λ (l : List ℕ). length l) k.1 in
-      let same = k.3 in
       let found : ℕ = get_or s.words 1 0 in
       let there : found ≡ c = ap (λ (ws : List ℕ). get_or ws 1 0) r.words ∙ omega (arith, count, long) in
       let log' : List ℕ = r.now.log ++ x ∷ [] in
       let more = length-append r.now.log (x ∷ []) in
       let becomes : either (eqb found c) (c + 1) found ≡ length log' =
       rw (eq-eqb found c there) (omega (arith, more, count, long)) in
+      let longer : length m.0.log + 1 ≡ length log' = omega (arith, more, long) in
+      let old : FitsStage from sequence (length m.0.log) =
+      subst (λ (x : ℕ × List ℕ). FitsStage from x.0 (length x.1)) (λ i. (sym k.3 i, sym k.1 i)) (fits_stage s r from k.2) in
       let now : Contents =
-      record { writer = r.now.writer; log = log'; stage = Resting; sequence = r.now.sequence; labels = r.now.labels } in
+      record { writer = r.now.writer; log = log'; stage = to; sequence = r.now.sequence; labels = r.now.labels } in
       let log_is : m.0.log ++ x ∷ [] ≡ log' = ap (λ (l : List ℕ). l ++ x ∷ []) k.1 in
-      let role : KnowsAs now id (m.0.log ++ x ∷ []) (rested m.0.role) =
-      subst (λ (o : Role). KnowsAs now id (m.0.log ++ x ∷ []) (rested o)) (sym is) (k.0, log_is, refl, k.3, k.4) in
+      let knows : KnowsAs now id (m.0.log ++ x ∷ []) role =
+      subst (λ (o : Role). KnowsAs now id (m.0.log ++ x ∷ []) o) (sym becomes_role) (k.0, log_is, refl, k.3, k.4) in
       let learned = prefix_pushed r.now.log m.0.learned x (r.each id m.0 have).learned in
-      let mine : Knows now id (with_insertion x m.0) = record { learned = learned; role = role } in (
-        with_insertion x m.0,
+      let mine : Knows now id (with_entry x role m.0) = record { learned = learned; role = knows } in (
+        with_entry x role m.0,
         keeps,
         tt,
         record {
@@ -194,35 +212,52 @@ module _ (capacity : ℕ) where
           wide = r.wide;
           room = omega (arith, more, long, small);
           valid = (entries_insert_elements r.now.log x).names r.valid (omega (arith, lx, long));
-          fits = (
-            omega (arith, even, same),
-            let f = even_fits r.now.stage r.now.sequence (length r.now.log) (omega (arith, even, same)) r.fits in
-                omega (arith, f, more),
-          );
-          rises = λ _. subst (λ (y : List ℕ × List ℕ). RiseAlong y.0 y.1) (λ i. (k.4 i, log_is i)) up;
-          each = one_view (Knows now) s.views id (with_insertion x m.0) mine
+          fits = subst (λ (n : ℕ × ℕ). FitsStage to n.0 n.1) (λ i. (k.3 i, longer i)) (fits old);
+          rises = λ even. subst (λ (y : List ℕ × List ℕ). RiseAlong y.0 y.1) (λ i. (k.4 i, log_is i))
+              (up (ap (λ (n : ℕ). n % 2) k.3 ∙ even));
+          each = one_view (Knows now) s.views id (with_entry x role m.0) mine
               (λ j d other at. others s r x id k.0 j d other (r.each j d at));
         },
-        λ y e. ap (λ (z : ℕ). (with_insertion z m.0, m.1)) (some-injective x y e),
+        λ y e. ap (λ (z : ℕ). (with_entry z role m.0, m.1)) (some-injective x y e),
       )
     where
-      with_entry : {s : State ℕ View} (r : IsOrdered capacity s) (x : ℕ) → Contents
-      with_entry {s} r x =
+      with_log : {s : State ℕ View} (r : IsOrdered capacity s) (x : ℕ) → Contents
+      with_log {s} r x =
           let log = r.now.log ++ x ∷ [] in
-          record { writer = r.now.writer; log = log; stage = Resting; sequence = r.now.sequence; labels = r.now.labels }
+          record { writer = r.now.writer; log = log; stage = to; sequence = r.now.sequence; labels = r.now.labels }
 
       in_role : (s : State ℕ View) (r : IsOrdered capacity s) (x id : ℕ) → id ≡ r.now.writer
           → (j : ℕ) (seen : List ℕ) (o : Role)
-          → j ≢ id → KnowsAs r.now j seen o → KnowsAs (with_entry r x) j seen o
+          → j ≢ id → KnowsAs r.now j seen o → KnowsAs (with_log r x) j seen o
       in_role s r x id own j seen (Writing st sq ls) other k = absurd (other (k.0 ∙ sym own))
       in_role s r x id own j seen Spent other k = tt
       in_role s r x id own j seen (Asking at ns) other k = (prefix_pushed r.now.log seen x k.0, k.1, k.2, k.3)
 
       others : (s : State ℕ View) (r : IsOrdered capacity s) (x id : ℕ) → id ≡ r.now.writer → (j : ℕ) (d : View)
           → j ≢ id
-          → Knows r.now j d → Knows (with_entry r x) j d
+          → Knows r.now j d → Knows (with_log r x) j d
       others s r x id own j d other k =
           record { learned = prefix_pushed r.now.log d.learned x k.learned; role = in_role s r x id own j d.log d.role other k.role }
+
+  -- the element has its label, and the writer rests
+  pub publishes : (slots id : ℕ) (m : SeatState) (x c sequence : ℕ) (labels : List ℕ) (stage : Stage)
+      → m.0.role ≡ Writing stage sequence labels
+      → c ≡ length m.0.log → sequence % 2 ≡ 0 → x ≤ length m.0.log → length m.0.log + 1 < capacity
+      → RiseAlong labels (m.0.log ++ x ∷ [])
+      → MayPublish capacity slots id m x c
+  publishes slots id m x c sequence labels stage is count even lx small up =
+      enters slots id m x c sequence labels stage Resting (rested m.0.role) is (ap rested is) count lx small
+      (λ f. (let a = even_fits stage sequence (length m.0.log) even f in (even, omega (arith, a)))) (λ _. up)
+
+  -- the element has no label yet, and labels move
+  pub announces : (slots id : ℕ) (m : SeatState) (x c sequence : ℕ) (labels : List ℕ)
+      → m.0.role ≡ Writing Moving sequence labels
+      → c ≡ length m.0.log → sequence % 2 ≡ 1 → x ≤ length m.0.log → length m.0.log + 1 < capacity
+      → MayAnnounce capacity slots id m x c
+  announces slots id m x c sequence labels is count odd lx small =
+      enters slots id m x c sequence labels Moving Moving m.0.role is is count lx small
+      (λ f. (let a = f.0 in let b = f.1 in (omega (arith, a), omega (arith, b))))
+      (λ even. absurd (omega (arith, odd, even)))
 
 -- ---- the seat of the writer
 

@@ -40,13 +40,21 @@ rested (Writing stage sequence labels) = Writing Resting sequence labels
 rested (Asking at notes) = Spent
 rested Spent = Spent
 
--- one more insertion is in the log
+-- one more insertion is in the log, and the seat has this role
+abbrev pub with_entry : ℕ → Role → View → View
+with_entry x role v = view (v.log ++ x ∷ []) v.learned role
+
+-- the same, and the writer rests
 abbrev pub with_insertion : ℕ → View → View
-with_insertion x v = view (v.log ++ x ∷ []) v.learned (rested v.role)
+with_insertion x v = with_entry x (rested v.role) v
 
 -- an element was inserted after the one that the step announces
 abbrev pub published : Step ℕ → SeatState → ℕ → SeatState → Type 0
 published step m found m' = (x : ℕ) → step.said ≡ some x → m' ≡ (with_insertion x m.0, m.1)
+
+-- an element is inserted after the one that the step announces, and has no label yet
+abbrev pub announced : Step ℕ → SeatState → ℕ → SeatState → Type 0
+announced step m found m' = (x : ℕ) → step.said ≡ some x → m' ≡ (with_entry x m.0.role m.0, m.1)
 
 -- the log that the writer learned of is a prefix of its own
 abbrev pub checked_learned : Step ℕ → SeatState → ℕ → SeatState → Type 0

@@ -80,6 +80,12 @@ impl TwoPasses {
         Ok(TwoPasses { down, right })
     }
 
+    /// Returns whether both lists had been settled a moment ago. Questions wait until the writer of the
+    /// lists settles them: with this hint a caller settles before it asks.
+    pub fn are_settled(&self) -> bool {
+        self.down.is_settled() && self.right.is_settled()
+    }
+
     // Whether an element of the down-first list is before another.
     fn is_down_before<R: Wait>(&mut self, rt: &R, x: u32, y: u32) -> bool
         requires first { has x (list_of_log self.old.down_log) ≡ true }
@@ -102,6 +108,23 @@ impl TwoPasses {
 }
 
 impl TwoOrders<OmWriter> {
+    /// Lets the insertions from now on get their labels only once the lists are settled.
+    pub fn defer(&mut self)
+        ensures unchanged { self.new ≡ self.old }
+    {
+        self.down.defer();
+        self.right.defer();
+    }
+
+    /// Gives all elements their labels, so that questions need not wait. From now on each insertion
+    /// gives its element a label at once.
+    pub fn settle(&mut self)
+        ensures unchanged { self.new ≡ self.old }
+    {
+        self.down.settle();
+        self.right.settle();
+    }
+
     /// Shows the passes all insertions so far. They must be of these lists.
     pub fn confirm(&mut self, passes: &mut TwoPasses)
         requires { AreOf passes.old self.old }

@@ -1,0 +1,21 @@
+-- The words and the links have the same labels, before and after the insertion.
+use Rattle.std.proofs.Common.{◌∙◌, ap}
+use Rattle.om_shared.specs.SharedLists.{WrittenList}
+use Rattle.om_shared.proofs.PendingEntries.{rests_without}
+use Rattle.om_shared.proofs.WordLabels.{resting_labels_are, words_are_chosen, words_rise}
+use Rattle.om_shared.proofs.writer.OmWriter.insert_labelled.Goals as goal
+
+pub returns-clause-labels : goal.returns-clause-labels
+returns-clause-labels c = words_rise _ _ _ _ _ c.publish_after.ensures.resting
+
+pub returns-clause-label : goal.returns-clause-label
+returns-clause-label c =
+    let i = c.self.inside in
+    let none = c.self.invariant.4 (ap (λ (l : WrittenList). l.late) c.self.view_is ∙ c.requires.plain) in
+    let before = rests_without _ _ _ i.links i.pending.items i.seat.me none c.self.invariant.2 in
+    let freed = c.free_label_after-self-inside in
+    let published = c.publish_after in
+    rw (← c.self.view_is) (words_are_chosen i.links freed.new.links published.new.links i.seat.me freed.new.seat.me
+    published.new.seat.me c.args.x before.kept freed.ensures.ready.kept freed.ensures.log freed.ensures.room
+    published.ensures.middle (resting_labels_are _ _ _ _ _ before)
+    (resting_labels_are _ _ _ _ _ published.ensures.resting))
