@@ -1,5 +1,5 @@
 -- If no joined index is given, nothing is known of any kept instance, so any orders agree with what is known.
-use Rattle.std.proofs.Common.{◌≡◌, ◌<◌, ℕ, Bool, true, false, Option, Some, None, IfSome, arith, refl}
+use Rattle.std.proofs.Common.{ℕ, Option, Some, None, IfSome}
 use Rattle.std.proofs.lemmas.Bool.{false≢true}
 use Rattle.access_history.specs.declared.history.History.{History}
 use Rattle.access_history.specs.declared.history.MarkedNode.{MarkedNode}

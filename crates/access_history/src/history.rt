@@ -3,7 +3,7 @@
 ghost use Rattle.std.specs.Prelude.{◌≡◌, ◌↔◌, ◌++◌, ◌∷◌, [], ℕ, List, IsTrue, IfSome};
 ghost use Rattle.access_history.specs.KeptInstances.{AgreeOn, AgreeOnKept, IsEither, IsHistoryAfter, KeepsAmong, KeptAreIn, earlier_access};
 ghost use Rattle.access_history.specs.KeptInstances.{kept_of, node_of, nothing_kept, report_after};
-ghost use Rattle.access_history.specs.KnownOrder.{AgreeOnKnown, AgreeOnKnownKept, is_known_before};
+ghost use Rattle.access_history.specs.KnownOrder.{AgreeOnKnown, AgreeOnKnownKept, asks_about, is_known_before, is_same, may_ask};
 ghost use Rattle.pipe_model.specs.Orders.AccessHistory.{check_access, is_ordered, later, race_with, updated_history};
 ghost use Rattle.pipe_model.specs.Orders.GrowingLists.{AreIn, KeepsOrder};
 ghost use Rattle.pipe_model.specs.Races.CellRaces.{NotedAccess, noted_access};
@@ -60,6 +60,13 @@ pub struct History {
     pub report: Option<Found>,
 }
 
+// Whether `y` is `x`.
+fn is_same(x: NodeId, y: NodeId) -> bool
+    ensures { result ≡ is_same x y }
+{
+    y.iteration == x.iteration && y.index == x.index
+}
+
 // Whether `y` is known to be before `x` without the lists.
 fn is_known_before(joined: Option<u32>, x: NodeId, y: NodeId) -> bool
     ensures { result ≡ is_known_before joined x y }
@@ -69,6 +76,16 @@ fn is_known_before(joined: Option<u32>, x: NodeId, y: NodeId) -> bool
             (y.iteration == x.iteration && y.index < x.index)
                 || (x.iteration > 0 && y.iteration == x.iteration - 1 && y.index <= joined)
         }
+        None => false,
+    }
+}
+
+// Whether an access of `x` has to ask the lists about a kept instance.
+fn asks_about(joined: Option<u32>, x: NodeId, kept: &Option<MarkedNode>) -> bool
+    ensures { result ≡ asks_about joined x kept.now }
+{
+    match kept {
+        Some(y) => !is_same(x, y.node) && !is_known_before(joined, x, y.node),
         None => false,
     }
 }
@@ -90,7 +107,7 @@ fn is_same_or_before<O: Orders>(
     ensures right { KeepsOrder (O.right_first orders.old) (O.right_first orders.new) }
     ensures unchanged { O.identity orders.new ≡ O.identity orders.old }
 {
-    let same = y.node.iteration == x.node.iteration && y.node.index == x.node.index;
+    let same = is_same(x.node, y.node);
     if same || is_known_before(joined, x.node, y.node) {
         return true;
     }
@@ -202,7 +219,7 @@ fn later_in_down<O: Orders>(
 {
     match kept {
         Some(y) => {
-            if is_known_before(joined, x.node, y.node) {
+            if is_same(x.node, y.node) || is_known_before(joined, x.node, y.node) {
                 return *x;
             }
             if orders.down_before(&y.marks, &x.marks) {
@@ -235,7 +252,7 @@ fn later_in_right<O: Orders>(
 {
     match kept {
         Some(y) => {
-            if is_known_before(joined, x.node, y.node) {
+            if is_same(x.node, y.node) || is_known_before(joined, x.node, y.node) {
                 return *x;
             }
             if orders.right_before(&y.marks, &x.marks) {
@@ -306,10 +323,21 @@ impl History {
         }
     }
 
-    /// Does what `note` does, with fewer questions to the lists: a kept instance above `who` in its
-    /// column, or in the column to the left at an index of at most `joined`, if that is given, counts
-    /// as before `who`. That is right in a run if `joined` is the last index of the left column that
-    /// precedes `who`. The clauses hold for orders in which it is right. Does not allocate.
+    /// Returns whether `note_joined` may ask the lists in an access of `who`: a kept instance is neither
+    /// `who` nor counts as before it.
+    pub fn may_ask(&self, who: NodeId, joined: Option<u32>) -> bool
+        ensures { result ≡ may_ask joined who self.now }
+    {
+        asks_about(joined, who, &self.writer)
+            || asks_about(joined, who, &self.rightmost)
+            || asks_about(joined, who, &self.downmost)
+    }
+
+    /// Does what `note` does, with fewer questions to the lists: none about `who` itself, and a kept
+    /// instance above `who` in its column, or in the column to the left at an index of at most `joined`,
+    /// if that is given, counts as before `who`. That is right in a run if `joined` is the last index of
+    /// the left column that precedes `who`. The clauses hold for orders in which it is right. Does not
+    /// allocate.
     pub fn note_joined<O: Orders>(
         &mut self,
         who: MarkedNode,
