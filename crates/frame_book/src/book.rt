@@ -657,4 +657,11 @@ impl<M: Payload<OmWriter>> Book<M, OmWriter> {
     {
         self.orders.confirm(passes);
     }
+
+    /// Gives the elements of the two order lists their labels, if they were put off.
+    pub fn settle_orders(&mut self)
+        ensures { self.new ≡ self.old }
+    {
+        self.orders.settle();
+    }
 }

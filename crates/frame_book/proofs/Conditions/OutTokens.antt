@@ -1,18 +1,17 @@
 -- If a book was not stopped, each token that is out belongs to a running instance.
-use Rattle.std.proofs.Common.{◌≡◌, ℕ, zero, suc, List, [], ◌∷◌, map, not, refl, ap, sym, ◌∙◌, subst, Bool, true, false, Option, Some, None}
-use Rattle.std.proofs.Common.{get_or}
+use Rattle.std.proofs.Common.{◌≡◌, ℕ, zero, suc, List, [], ◌∷◌, map, not, refl, ap, sym, ◌∙◌, subst, true, false, Option, Some}
 use Rattle.pipe_model.specs.declared.status.Status.{Status}
 use Rattle.pipe_model.specs.declared.status.Status.TheVariants.{Running, Pending, Completed}
 use Rattle.pipe_model.specs.Language.SyntaxTree.{SyntaxTree}
 use Rattle.pipe_model.specs.Runs.Allowed.{IsRunning}
-use Rattle.pipe_model.specs.Runs.State.{Frame, State, frame_at}
+use Rattle.pipe_model.specs.Runs.State.{Frame, frame_at}
 use Rattle.pipe_frame.specs.Ties.{Tie}
 use Rattle.pipe_frame.specs.TokenFields.{fields_of}
 use Rattle.pipe_frame.specs.declared.token.FrameToken.{FrameToken}
-use Rattle.frame_book.specs.BookStates.{IsOut, Kept, Out, Spent, TokenState, item_or, state_of}
+use Rattle.frame_book.specs.BookStates.{IsOut, Kept, Out, Spent, item_or, state_of}
 use Rattle.frame_book.specs.Invariant.{IsBook}
 use Rattle.frame_book.specs.IterationRows.{IterationRow}
-use Rattle.frame_book.specs.RowsOfFrames.{AreRows, IsRowOf, TokenFits}
+use Rattle.frame_book.specs.RowsOfFrames.{AreRows, TokenFits}
 use Rattle.frame_book.specs.Tables.{Tables, book_state, token_state_by, token_state_of}
 use Rattle.std.specs.Prelude.{ℤ}
 

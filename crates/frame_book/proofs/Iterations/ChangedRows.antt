@@ -1,5 +1,4 @@
 -- What stays the same of all rows if one of them is changed.
-use Rattle.pipe_model.specs.declared.ticket.Entry.{Entry}
 use Rattle.std.proofs.Common.{None, ◌≡◌, ◌≢◌, ℕ, zero, suc, ◌+◌, ◌<◌, List, [], ◌∷◌, ◌++◌, length, map, get_or, set, refl, ap, sym, ◌∙◌}
 use Rattle.std.proofs.Common.{arith, subst, Bool, Some}
 use Rattle.pipe_model.specs.Runs.State.{Frame, frame_at, update_frame}
