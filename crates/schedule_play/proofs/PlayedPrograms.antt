@@ -103,8 +103,7 @@ loop_was_played tree input limits choices play r no_trap loop end =
         turns = loop.turns;
       };
       reports = record {
-        found = loop.reports ∙ ap (found_reports (columns_after play.run_log.events) (starts_of play.run_log.events))
-            loop.scheduled.accesses;
+        found = loop.reports;
         right = loop.right;
       };
       results = record {
