@@ -20,12 +20,11 @@ use Rattle.pipe_model.specs.Races.Columns.{at}
 use Rattle.pipe_model.specs.Runs.Allowed.{Allowed, IsRunning}
 use Rattle.pipe_model.specs.Runs.NextEvents.{event_of_behaviour, next_event}
 use Rattle.pipe_model.specs.Runs.State.{Frame, State, accesses_of, current_index, frame_at, next_state, update_frame, with_action}
-use Rattle.frame_book.specs.BookStates.{item_or, left_of, pipeline_in, replies_at, state_of}
+use Rattle.frame_book.specs.BookStates.{item_or, left_of, pipeline_in, replies_at}
 use Rattle.schedule_laws.proofs.AllowedEvents.{allowed_events_are_next, event_at_running}
 use Rattle.schedule_laws.proofs.ControlOutlines.{accesses_change_no_outline}
 use Rattle.order_2d.proofs.EventsSoFar.{without-append}
 use Rattle.run_laws.proofs.Iterations.PerformedActions.{behaviour_after_all-push}
-use Rattle.run_laws.proofs.LogMerge.ControlPart.{same_frame}
 use Rattle.run_laws.proofs.RunStates.FrameMoves.{frame_at_moved}
 use Rattle.run_laws.proofs.RunStates.Frames.{frame_at_within, length-update_frame}
 use Rattle.stage_code.specs.FlatCode.{FlatCode}
@@ -33,7 +32,7 @@ use Rattle.schedule_play.specs.RunningIterations.{RunningIterationState, IsRunni
 use Rattle.schedule_play.specs.PlayStates.{FitsStatus, IsPlay, IsRunningAt, PlayState, pipeline_played, run_state}
 use Rattle.schedule_play.specs.RunningInstances.{next_of}
 use Rattle.schedule_play.proofs.Playing.Outlines.{schedule_of_control}
-use Rattle.schedule_play.proofs.Playing.Steps.{played_on, same_control}
+use Rattle.schedule_play.proofs.Playing.Steps.{played_on}
 
 module _ (code : FlatCode) (cells : ℕ) (v : PlayState) (h : IsPlay code cells v) (i : ℕ) (f : Frame)
     (is : frame_at (run_state v).frames i ≡ Some f)
