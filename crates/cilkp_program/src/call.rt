@@ -80,7 +80,7 @@ fn finished_result(
 ) -> Result<CommandResult, NoMemory>
     ensures { IfOk result (IsPrintedRun checked.now.cells with_log run) }
 {
-    let (status, text) = printed_run(alloc, checked, &run)?;
+    let (status, text) = printed_run(alloc, checked, &run.output, run.trap, &run.reports)?;
     Ok(CommandResult {
         status,
         text: recorded(alloc, checked, with_log, &run.run_log, text)?,
@@ -140,7 +140,7 @@ fn elision_result(
     ensures log { IfOk result (λ a. a.run_log ≡ None) }
 {
     let run = run_elision(alloc, checked, input)?;
-    let (status, text) = printed_run(alloc, checked, &run)?;
+    let (status, text) = printed_run(alloc, checked, &run.output, run.trap, &run.reports)?;
     Ok(CommandResult {
         status,
         text,

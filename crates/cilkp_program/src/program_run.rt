@@ -52,6 +52,17 @@ pub struct FinishedRun {
     pub reports: Reports,
 }
 
+/// A finished serial elision of a program, which has no run log.
+#[derive(Drop)]
+pub struct FinishedElision {
+    /// The emitted numbers, in order.
+    pub output: Numbers,
+    /// The trap, if the program trapped.
+    pub trap: Option<TrapAt>,
+    /// A race of each cell that has one, rising by cell.
+    pub reports: Reports,
+}
+
 /// Runs the serial elision of a program. Returns an error only if memory runs out.
 pub fn elide(alloc: Global, checked: &Checked, input: &Numbers) -> Result<SerialRun, NoMemory>
     requires { BreaksNoRule (tree_of checked.now) }
@@ -100,7 +111,7 @@ pub fn run_elision(
     alloc: Global,
     checked: &Checked,
     input: &Numbers,
-) -> Result<FinishedRun, NoMemory>
+) -> Result<FinishedElision, NoMemory>
     requires { BreaksNoRule (tree_of checked.now) }
     ensures output { IfOk result (λ r. r.output ≡ elision_output (tree_of checked.now) input.now) }
     ensures trap { IfOk result (λ r. r.trap ≡ elision_trap (tree_of checked.now) input.now) }
@@ -112,13 +123,11 @@ pub fn run_elision(
         trap,
         columns,
         accesses,
-        events,
     } = elide(alloc, checked, input)?;
     let races = Dag::of(alloc, &columns)?.races(alloc, &accesses)?;
-    Ok(FinishedRun {
+    Ok(FinishedElision {
         output,
         trap,
-        run_log: RunLog { columns, events },
         reports: races,
     })
 }
@@ -128,15 +137,17 @@ pub fn run_elision(
 pub fn printed_run(
     alloc: Global,
     checked: &Checked,
-    run: &FinishedRun,
+    output: &Numbers,
+    trap: Option<TrapAt>,
+    reports: &Reports,
 ) -> Result<(u8, Bytes), NoMemory>
-    ensures { IfOk result (λ r. IsPrintedAs checked.now.cells run.now.output run.now.trap run.now.reports r.0 r.1) }
+    ensures { IfOk result (λ r. IsPrintedAs checked.now.cells output.now trap reports.now r.0 r.1) }
 {
-    if !run.reports.is_empty() {
-        return Ok((RACES, text(alloc, &run.reports, checked)?));
+    if !reports.is_empty() {
+        return Ok((RACES, text(alloc, reports, checked)?));
     }
-    let lines = outcome_text(alloc, &run.output, run.trap)?;
-    match run.trap {
+    let lines = outcome_text(alloc, output, trap)?;
+    match trap {
         None => Ok((FINISHED, lines)),
         Some(_) => Ok((TRAPPED, lines)),
     }

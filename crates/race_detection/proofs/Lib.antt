@@ -5,3 +5,5 @@ pub mod NotedCells
 pub mod ReplayedRuns
 pub mod RunReports
 pub mod KnownPaths
+pub mod ControlLogs
+pub mod LoggedAccesses

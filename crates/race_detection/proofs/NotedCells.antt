@@ -1,13 +1,11 @@
 -- The histories of all cells after one more access, and after none.
-use Rattle.std.proofs.Common.{◌≡◌, ◌≢◌, ◌∙◌, ◌<◌, ◌+◌, ◌==◌, ℕ, pos, zero, suc, Bool, true, false, List, [], ◌∷◌, ◌++◌, get_or, take}
+use Rattle.std.proofs.Common.{◌≡◌, ◌≢◌, ◌∙◌, ◌<◌, ◌==◌, ℕ, zero, suc, Bool, true, false, List, [], ◌∷◌, ◌++◌, get_or}
 use Rattle.std.proofs.Common.{length, slice_set, ap, refl, sym, subst, arith, inl, inr, if◌then◌else◌}
 use Rattle.std.proofs.lemmas.Bool.{cases_lt}
 use Rattle.std.proofs.lemmas.Bool.Decides.{nat_tests}
 use Rattle.std.proofs.lemmas.List.{length-append}
-use Rattle.std.proofs.Math.Seq.{take-suc}
 use Rattle.access_history.specs.declared.history.History.{History}
 use Rattle.access_history.specs.KeptInstances.{nothing_kept}
-use Rattle.pipe_model.specs.declared.access.AccessKind.TheVariants.{Read}
 use Rattle.pipe_model.specs.declared.access.NodeAccess.{NodeAccess}
 use Rattle.pipe_model.specs.declared.node.Node.{Node}
 use Rattle.pipe_model.specs.declared.node.NodeId.{NodeId}
@@ -87,35 +85,25 @@ set_count [] c h = refl
 set_count (x ∷ xs) zero h = refl
 set_count (x ∷ xs) (suc c) h = ap suc (set_count xs c h)
 
--- an access, for a place past the end of a list
-abbrev pub no_access : NodeAccess
-no_access = record { node = record { iteration = 0; index = 0 }; access = record { cell = record { 0 = 0 }; kind = Read; value = pos 0 } }
-
-pub one_more_noted : (columns : List (List Node)) (starts : List NodeId) (accesses : List NodeAccess) (hs : List History) (k : ℕ)
+-- the histories, after one has noted one access more
+pub one_more_noted : (columns : List (List Node)) (starts : List NodeId) (before : List NodeAccess) (hs : List History) (a : NodeAccess)
     (h : History)
-    → HaveNoted columns starts (take k accesses) hs → k < length accesses → (get_or accesses k no_access).access.cell.0 < length hs
-    → HasNoted columns starts (accesses_to (get_or accesses k no_access).access.cell.0 (take k accesses)
-    ++ noted_access (get_or accesses k no_access).node (get_or accesses k no_access).access.kind ∷ []) h
-    → HaveNoted columns starts (take (k + 1) accesses) (slice_set hs (get_or accesses k no_access).access.cell.0 h)
-one_more_noted columns starts accesses hs k h before w inside new = record { each = each }
+    → HaveNoted columns starts before hs → a.access.cell.0 < length hs
+    → HasNoted columns starts (accesses_to a.access.cell.0 before ++ noted_access a.node a.access.kind ∷ []) h
+    → HaveNoted columns starts (before ++ a ∷ []) (slice_set hs a.access.cell.0 h)
+one_more_noted columns starts before hs a h noted inside new = record { each = each }
   where
-    a : NodeAccess
-    a = get_or accesses k no_access
-
     cell : ℕ
     cell = a.access.cell.0
 
-    taken : take (k + 1) accesses ≡ take k accesses ++ a ∷ []
-    taken = let here : k + 1 ≡ suc k = omega arith in ap (λ n. take n accesses) here ∙ take-suc accesses k no_access w
-
-    at_cell : (c : ℕ) → c ≡ cell → HasNoted columns starts (accesses_to c (take (k + 1) accesses)) (history_at (slice_set hs cell h) c)
-    at_cell c same = rw (taken, same, set_here hs cell h inside, to_its_cell (take k accesses) a) new
+    at_cell : (c : ℕ) → c ≡ cell → HasNoted columns starts (accesses_to c (before ++ a ∷ [])) (history_at (slice_set hs cell h) c)
+    at_cell c same = rw (same, set_here hs cell h inside, to_its_cell before a) new
 
     elsewhere : (c : ℕ) → c ≢ cell → c < length hs
-        → HasNoted columns starts (accesses_to c (take (k + 1) accesses)) (history_at (slice_set hs cell h) c)
-    elsewhere c differs l = rw (taken, set_elsewhere hs cell c h differs, to_another (take k accesses) a c differs) (before.each c l)
+        → HasNoted columns starts (accesses_to c (before ++ a ∷ [])) (history_at (slice_set hs cell h) c)
+    elsewhere c differs l = rw (set_elsewhere hs cell c h differs, to_another before a c differs) (noted.each c l)
 
-    each : (c : ℕ) → c < length (slice_set hs cell h) → HasNoted columns starts (accesses_to c (take (k + 1) accesses))
+    each : (c : ℕ) → c < length (slice_set hs cell h) → HasNoted columns starts (accesses_to c (before ++ a ∷ []))
         (history_at (slice_set hs cell h) c)
     each c l =
         let within : c < length hs = (let count = set_count hs cell h in omega (arith, l, count)) in

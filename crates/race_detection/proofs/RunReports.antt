@@ -2,7 +2,7 @@
 use Rattle.std.proofs.Common.{◌≡◌, ◌∙◌, ℕ, Bool, true, false, List, [], ◌∷◌, ◌++◌, ap, sym, refl, append-nil, append_assoc, length}
 use Rattle.std.proofs.Common.{if◌then◌else◌}
 use Rattle.order_2d.proofs.EventsSoFar.{without-append}
-use Rattle.order_2d.specs.LogStarts.{IsControlLog, log_columns, log_starts}
+use Rattle.order_2d.specs.LogStarts.{log_starts}
 use Rattle.pipe_model.specs.declared.event.Event.{Event}
 use Rattle.pipe_model.specs.declared.event.Event.TheVariants.{Begin, Access, Advance, Enter, Finish, Stop}
 use Rattle.pipe_model.specs.Orders.Starts.{started_by, starts_from, starts_of}
@@ -13,21 +13,14 @@ use Rattle.pipe_model.specs.Runs.ControlParts.{control_after, without_accesses}
 use Rattle.pipe_model.specs.Runs.ControlRun.{is_access}
 use Rattle.pipe_model.specs.Runs.Run.{Run, EmptyRun, RunThen, state_from}
 use Rattle.pipe_model.specs.Runs.State.{State, initial_state, next_state, own_columns}
-use Rattle.schedule_laws.proofs.ControlOutlines.{control_goes_by_outlines, control_skips_accesses, runs_have_control_runs}
+use Rattle.schedule_laws.proofs.ControlOutlines.{control_skips_accesses}
 use Rattle.run_laws.proofs.ListOrders.StartsOfRuns.{starts_of_then}
 use Rattle.run_laws.proofs.RaceHistories.CellReports.{reports_are_right}
 use Rattle.race_detection.specs.DetectionLaws.{RunsAreDetected}
 use Rattle.race_detection.specs.FoundReports.{cell_bound, found_reports}
 use Rattle.race_detection.proofs.CellBounds.{among_below}
-
--- the log of a run is one of the control part
-control_log : (p : Pipeline) (limit : ℕ) (events : List Event) (s : State) → Run p limit events s → IsControlLog events
-control_log p limit events s r = record { limit = limit; run = (runs_have_control_runs p limit events s r).run }
-
--- the control part has the run's columns
-columns_of_run : (p : Pipeline) (limit : ℕ) (events : List Event) (s : State) → Run p limit events s → log_columns events ≡ own_columns s
-columns_of_run p limit events s r = sym (control_goes_by_outlines limit s (control_after events)
-    (runs_have_control_runs p limit events s r).same).columns
+use Rattle.race_detection.proofs.ControlLogs.{columns_of_run, control_log}
+use Rattle.race_detection.proofs.LoggedAccesses.{accesses_of_run}
 
 -- ---- the starts
 
@@ -94,5 +87,6 @@ runs_are_detected p limit events s r = record {
   control = control_log p limit events s r;
   columns = columns_of_run p limit events s r;
   starts = starts_of_run p limit events s r;
+  accesses = accesses_of_run p limit events s r;
   right = found_are_right p limit events s r;
 }

@@ -8,12 +8,14 @@ use Rattle.pipe_model.specs.Races.Reports.{AreRight}
 use Rattle.pipe_model.specs.Runs.Run.{Run}
 use Rattle.pipe_model.specs.Runs.State.{State, own_columns}
 use Rattle.race_detection.specs.FoundReports.{found_reports}
+use Rattle.race_detection.specs.LogAccesses.{log_accesses}
 
--- the log's control part has the columns and the starts of the run, and its histories report the run's races rightly
+-- the log has the columns, the starts and the accesses of the run by its control part, and its histories report the run's races rightly
 pub record IsDetected (events : List Event) (s : State) : Type 0 where
   pub control : IsControlLog events
   pub columns : log_columns events ≡ own_columns s
   pub starts : log_starts events ≡ starts_of events
+  pub accesses : log_accesses events ≡ s.accesses
   pub right : AreRight (own_columns s) s.accesses (found_reports (own_columns s) (starts_of events) s.accesses)
 
 -- this holds for every run

@@ -1,3 +1,4 @@
 pub mod FoundReports
 pub mod NotedRuns
+pub mod LogAccesses
 pub mod DetectionLaws

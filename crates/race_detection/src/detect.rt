@@ -1,37 +1,24 @@
 //! The races of a logged run.
 
-ghost use Rattle.std.specs.Prelude.{◌≡◌, ◌≤◌, ◌<◌, ◌^◌, ℕ, All, [], IfOk, length, OnOk};
-ghost use Rattle.order_2d.specs.LogStarts.{IsOwnLog, log_columns, log_starts, nodes_of_columns};
+ghost use Rattle.std.specs.Prelude.{◌≡◌, ◌≤◌, ◌<◌, ◌^◌, ◌++◌, ◌∷◌, ℕ, All, List, [], IfOk, length, OnOk};
+ghost use Rattle.order_2d.specs.LogStarts.{IsControlLog, IsOwnLog, log_columns, log_starts, nodes_of_columns};
 ghost use Rattle.order_2d.specs.declared.starts.TheConstants.{MOST_STARTS};
 ghost use Rattle.pipe_model.specs.Races.Columns.{IsNodeOf};
 ghost use Rattle.pipe_model.specs.declared.access.NodeAccess.{NodeAccess as PlainAccess};
-ghost use Rattle.race_detection.specs.FoundReports.{cell_bound, found_reports};
+ghost use Rattle.race_detection.specs.FoundReports.{found_reports};
+ghost use Rattle.race_detection.specs.LogAccesses.{access_by, log_accesses};
 ghost use Rattle.race_detection.specs.NotedRuns.{HaveNoted, IsReplayOf, found_below, nothing_noted};
 
+use crate::logged_accesses::{cell_bound, count_start, last_instance};
 use crate::started_run::{StartedRun, note};
 use access_history::history::{Found, History};
 use order_2d::replay::replay;
-use pipe_model::access::{CellId, NodeAccess, NodeAccesses};
-use pipe_model::event::RunLog;
+use pipe_model::access::{CellId, NodeAccess};
+use pipe_model::event::{Event, RunLog};
 use pipe_model::memory::NoMemory;
 use pipe_model::report::Reports;
 use race_report::gather::gather;
 use std::alloc::Global;
-
-// The least number that is greater than the number of each accessed cell.
-fn cell_bound(accesses: &[NodeAccess]) -> usize
-    ensures bound { result ≡ cell_bound accesses.now }
-    ensures small { result ≤ 2 ^ 32 }
-{
-    let mut bound = 0;
-    for access in accesses {
-        let cell = access.access.cell.0 as usize;
-        if bound <= cell {
-            bound = cell + 1;
-        }
-    }
-    bound
-}
 
 // The histories of `cells` cells that were not accessed.
 fn empty_histories(alloc: Global, cells: usize) -> Result<Vec<History>, NoMemory>
@@ -44,19 +31,76 @@ fn empty_histories(alloc: Global, cells: usize) -> Result<Vec<History>, NoMemory
     Ok(histories)
 }
 
-// Notes each access, in order, in the history of its cell.
-fn note_all(run: &StartedRun<'_>, accesses: &[NodeAccess], histories: &mut Vec<History>)
+// Notes an access in the history of its cell.
+fn note_access(run: &StartedRun<'_>, access: NodeAccess, histories: &mut Vec<History>)
     requires run { IsReplayOf (nodes_of_columns run.now.columns.now) run.now.replayed }
-    requires inside { All (λ (a : PlainAccess). IsNodeOf (nodes_of_columns run.now.columns.now) a.node) accesses.now }
-    requires cells { All (λ (a : PlainAccess). a.access.cell.0 < length histories.old.items) accesses.now }
-    requires empty { HaveNoted (nodes_of_columns run.now.columns.now) run.now.replayed.nodes [] histories.old.items }
-    ensures noted { HaveNoted (nodes_of_columns run.now.columns.now) run.now.replayed.nodes accesses.now histories.new.items }
+    requires inside { IsNodeOf (nodes_of_columns run.now.columns.now) access.node }
+    requires cell { access.access.cell.0 < length histories.old.items }
+    requires noted { (before : List PlainAccess) × HaveNoted (nodes_of_columns run.now.columns.now) run.now.replayed.nodes before
+        histories.old.items }
+    ensures noted { (before : List PlainAccess) → HaveNoted (nodes_of_columns run.now.columns.now) run.now.replayed.nodes before
+        histories.old.items
+        → HaveNoted (nodes_of_columns run.now.columns.now) run.now.replayed.nodes (before ++ access ∷ []) histories.new.items }
     ensures count { length histories.new.items ≡ length histories.old.items }
 {
-    for access in accesses {
-        let history = &mut histories[access.access.cell.0 as usize];
-        note(run, history, *access);
+    let history = &mut histories[access.access.cell.0 as usize];
+    note(run, history, access);
+}
+
+// Notes the access of an event, if it is one; `counts` has the number of instances that each
+// iteration has started before it.
+fn note_event(run: &StartedRun<'_>, event: &Event, counts: &[u32], histories: &mut Vec<History>)
+    requires run { IsReplayOf (nodes_of_columns run.now.columns.now) run.now.replayed }
+    requires inside { All (λ (a : PlainAccess). IsNodeOf (nodes_of_columns run.now.columns.now) a.node) (access_by counts.now event.now) }
+    requires cells { All (λ (a : PlainAccess). a.access.cell.0 < length histories.old.items) (access_by counts.now event.now) }
+    requires noted { (before : List PlainAccess) × HaveNoted (nodes_of_columns run.now.columns.now) run.now.replayed.nodes before
+        histories.old.items }
+    ensures noted { (before : List PlainAccess) → HaveNoted (nodes_of_columns run.now.columns.now) run.now.replayed.nodes before
+        histories.old.items
+        → HaveNoted (nodes_of_columns run.now.columns.now) run.now.replayed.nodes (before ++ access_by counts.now event.now)
+        histories.new.items }
+    ensures count { length histories.new.items ≡ length histories.old.items }
+{
+    match event {
+        Event::Access(iteration, access) => {
+            let made = NodeAccess {
+                node: last_instance(*iteration, counts),
+                access: *access,
+            };
+            note_access(run, made, histories);
+        }
+        Event::Begin(_)
+        | Event::Advance(_, _, _)
+        | Event::Enter(_)
+        | Event::Finish(_, _)
+        | Event::Stop => {}
     }
+}
+
+// Notes each access of the events, in order, in the history of its cell. Returns an error only if
+// memory runs out.
+fn note_all(
+    alloc: Global,
+    run: &StartedRun<'_>,
+    events: &[Event],
+    histories: &mut Vec<History>,
+) -> Result<(), NoMemory>
+    requires run { IsReplayOf (nodes_of_columns run.now.columns.now) run.now.replayed }
+    requires control { IsControlLog events.now }
+    requires bounded { length (log_starts events.now) ≤ MOST_STARTS }
+    requires inside { All (λ (a : PlainAccess). IsNodeOf (nodes_of_columns run.now.columns.now) a.node) (log_accesses events.now) }
+    requires cells { All (λ (a : PlainAccess). a.access.cell.0 < length histories.old.items) (log_accesses events.now) }
+    requires empty { HaveNoted (nodes_of_columns run.now.columns.now) run.now.replayed.nodes [] histories.old.items }
+    ensures noted { OnOk result (HaveNoted (nodes_of_columns run.now.columns.now) run.now.replayed.nodes (log_accesses events.now)
+        histories.new.items) }
+    ensures count { OnOk result (length histories.new.items ≡ length histories.old.items) }
+{
+    let mut counts = Vec::with_capacity(alloc, run.columns.len())?;
+    for event in events {
+        note_event(run, event, &counts, histories);
+        count_start(event, &mut counts)?;
+    }
+    Ok(())
 }
 
 // The races that the histories have found, by cell.
@@ -74,23 +118,24 @@ fn found_races(alloc: Global, histories: &[History]) -> Result<Vec<(CellId, Foun
 }
 
 /// Returns the first race that the access history of each cell finds, rising by cell. The events
-/// other than accesses must be a run of the control part, the columns those that they make, and the
-/// accesses those of their instances. Takes time linear in events and accesses, but for new labels
-/// of the order lists, and memory for the greatest number of an accessed cell. Returns an error only
-/// if memory runs out.
-pub fn detect(alloc: Global, run_log: &RunLog, accesses: &NodeAccesses) -> Result<Reports, NoMemory>
+/// other than accesses must be a run of the control part, the columns those that they make, and each
+/// access one of an iteration that has begun. Takes time linear in the events, but for new labels of
+/// the order lists, and memory for the instances and for the greatest number of an accessed cell.
+/// Returns an error only if memory runs out.
+pub fn detect(alloc: Global, run_log: &RunLog) -> Result<Reports, NoMemory>
     requires own { IsOwnLog run_log.now }
     requires bounded { length (log_starts run_log.now.events) ≤ MOST_STARTS }
-    requires inside { All (λ (a : PlainAccess). IsNodeOf (log_columns run_log.now.events) a.node) accesses.now }
+    requires inside { All (λ (a : PlainAccess). IsNodeOf (log_columns run_log.now.events) a.node) (log_accesses run_log.now.events) }
     ensures { IfOk result (λ reports. reports ≡ found_reports (log_columns run_log.now.events)
-        (log_starts run_log.now.events) accesses.now) }
+        (log_starts run_log.now.events) (log_accesses run_log.now.events)) }
 {
     let run = StartedRun {
         columns: &run_log.columns,
         replayed: replay(alloc, run_log)?,
     };
-    let mut histories = empty_histories(alloc, cell_bound(accesses.as_slice()))?;
-    note_all(&run, accesses.as_slice(), &mut histories);
+    let events = run_log.events.as_slice();
+    let mut histories = empty_histories(alloc, cell_bound(events))?;
+    note_all(alloc, &run, events, &mut histories)?;
     let found = found_races(alloc, histories.as_slice())?;
     gather(alloc, found.as_slice(), run.columns)
 }

@@ -4,4 +4,5 @@
 
 pub mod detect;
 pub mod law;
+mod logged_accesses;
 mod started_run;

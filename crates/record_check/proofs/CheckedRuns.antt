@@ -16,12 +16,12 @@ use Rattle.pipe_model.specs.Runs.State.{State, initial_state, next_state}
 use Rattle.run_laws.proofs.RunStates.FrontAndBack.{state_from-push}
 use Rattle.std.proofs.Common.{ℤ}
 use Rattle.order_2d.specs.LogStarts.{log_columns, log_starts}
-use Rattle.pipe_model.specs.declared.access.NodeAccess.{NodeAccess}
 use Rattle.pipe_model.specs.declared.column.Column.{Column}
 use Rattle.pipe_model.specs.Language.ProgramsOfTrees.{pipeline_after_init}
 use Rattle.pipe_model.specs.Language.CheckingRules.{BreaksNoRule}
 use Rattle.pipe_model.specs.Language.SyntaxTree.{SyntaxTree}
 use Rattle.race_detection.specs.FoundReports.{found_reports}
+use Rattle.race_detection.specs.LogAccesses.{log_accesses}
 use Rattle.run_record.specs.OwnColumns.{made_columns}
 use Rattle.schedule_play.proofs.PlayedRuns.{IsDetectable, detectable, reports_right}
 use Rattle.record_check.specs.declared.answer.RecordAnswer.TheVariants as answers
@@ -47,10 +47,6 @@ pub with_stop_run : (p : Pipeline) (limit : ℕ) (events : List Event) (b : Bool
     → Run p limit (with_stop b events) (state_after (with_stop b events))
 with_stop_run p limit events true r going = stop_run p limit events r going
 with_stop_run p limit events false r going = r
-
-pub with_stop_accesses : (events : List Event) (b : Bool) → accesses_after (with_stop b events) ≡ accesses_after events
-with_stop_accesses events true = ap (λ (s : State). s.accesses) (after_stop events)
-with_stop_accesses events false = refl
 
 pub with_stop_kind : (events : List Event) (b finished : Bool) → (state_after events).stopped ≡ false
     → IsTrue finished ↔ IsFinished (state_after events)
@@ -120,22 +116,20 @@ all_events events n first l b e = elim (cases_lt n (length events)) [
 -- ---- the races of what was followed
 
 pub record_detectable : (tree : SyntaxTree) (input : List ℤ) (limit : ℕ) (es all : List Event) (b : Bool) (columns : List Column)
-    (accesses : List NodeAccess) → BreaksNoRule tree → Run (pipeline_after_init tree input) limit es (state_after es)
-    → (state_after es).stopped ≡ false → all ≡ with_stop b es → columns ≡ made_columns all → accesses ≡ (state_after es).accesses
-    → IsDetectable columns all accesses
-record_detectable tree input limit es all b columns accesses accepted r going are made same =
-    detectable tree input limit all columns accesses accepted
+    → BreaksNoRule tree → Run (pipeline_after_init tree input) limit es (state_after es)
+    → (state_after es).stopped ≡ false → all ≡ with_stop b es → columns ≡ made_columns all → IsDetectable columns all
+record_detectable tree input limit es all b columns accepted r going are made =
+    detectable tree input limit all columns accepted
     (subst (λ l. Run (pipeline_after_init tree input) limit l (state_after l)) (sym are)
     (with_stop_run (pipeline_after_init tree input) limit es b r going))
-    made (same ∙ sym (with_stop_accesses es b) ∙ ap accesses_after (sym are))
+    made
 
-pub checked_run : (p : Pipeline) (limit : ℕ) (es all : List Event) (b finished : Bool) (columns : List Column) (accesses : List NodeAccess)
-    (reports : List Report)
+pub checked_run : (p : Pipeline) (limit : ℕ) (es all : List Event) (b finished : Bool) (columns : List Column) (reports : List Report)
     (kind : RunKind) → Run p limit es (state_after es) → (state_after es).stopped ≡ false → IsTrue finished ↔ IsFinished (state_after es)
-    → all ≡ with_stop b es → accesses ≡ (state_after es).accesses → IsDetectable columns all accesses
-    → reports ≡ found_reports (log_columns all) (log_starts all) accesses → kind ≡ kind_of b finished
+    → all ≡ with_stop b es → IsDetectable columns all
+    → reports ≡ found_reports (log_columns all) (log_starts all) (log_accesses all) → kind ≡ kind_of b finished
     → IsLoopAnswer p limit (with_stop b es) (answers.Run kind (record { columns = columns; events = all }) reports)
-checked_run p limit es all b finished columns accesses reports kind r going ends are same can found is =
+checked_run p limit es all b finished columns reports kind r going ends are can found is =
     subst (λ l. IsLoopAnswer p limit l (answers.Run kind (record { columns = columns; events = all }) reports)) are
     (IsRun kind (record { columns = columns; events = all }) reports (record {
       run = run;
@@ -150,11 +144,8 @@ checked_run p limit es all b finished columns accesses reports kind r going ends
     run : Run p limit all (state_after all)
     run = subst (λ l. Run p limit l (state_after l)) (sym are) (with_stop_run p limit es b r going)
 
-    accessed : accesses ≡ accesses_after all
-    accessed = same ∙ sym (with_stop_accesses es b) ∙ ap accesses_after (sym are)
-
     by_found : reports ≡ found_reports (columns_after all) (starts_of all) (accesses_after all)
-    by_found = found ∙ can.found ∙ ap (found_reports (columns_after all) (starts_of all)) accessed
+    by_found = found ∙ can.found
 
 -- all events before the stop were followed
 pub all_followed : (p : Pipeline) (limit : ℕ) (events : List Event) (n k : ℕ) → IsFirstStop events n → n ≤ k

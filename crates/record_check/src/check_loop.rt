@@ -91,11 +91,11 @@ fn end_record<B: PlayedCode>(
     ensures { IfOk result (IsLoopAnswer (pipeline_played player) player.book.limit (with_stop stopped player.events)) }
 {
     let finished = player.is_finished();
-    let (events, accesses, _) = player.into_run();
+    let (events, _) = player.into_run();
     let events = stopped_events(events, stopped)?;
     let columns = columns_of(alloc, events.as_slice())?;
     let run_log = RunLog { columns, events };
-    let reports = detect(alloc, &run_log, &accesses)?;
+    let reports = detect(alloc, &run_log)?;
     Ok(RecordAnswer::Run(kind_of(stopped, finished), run_log, reports))
 }
 

@@ -14,7 +14,7 @@ use Rattle.pipe_model.specs.Pipelines.SerialElision.{unless}
 use Rattle.pipe_model.specs.Pipelines.WholePrograms.{WholeProgram, init_trap}
 use Rattle.pipe_model.specs.Pipelines.Pipeline.{Pipeline}
 use Rattle.pipe_model.specs.Runs.Run.{EmptyRun, IsFinished, Run, state_from}
-use Rattle.pipe_model.specs.Runs.RunLogs.{columns_after, state_after}
+use Rattle.pipe_model.specs.Runs.RunLogs.{state_after}
 use Rattle.pipe_model.specs.Runs.Schedules.{candidates, played, running_instances}
 use Rattle.pipe_model.specs.Runs.State.{State, initial_state, next_state}
 use Rattle.pipe_model.specs.Runs.WholeProgramRuns.{NoLoop, OfLoop, ProgramIsFinished, WithLoop, WithoutLoop, played_output, played_trap}
@@ -31,7 +31,6 @@ use Rattle.program_laws.proofs.FinishedSchedules.{schedules_finish}
 use Rattle.program_laws.proofs.ProgramRuns.{well_formed_after}
 use Rattle.schedule_laws.specs.ScheduleLaws.{IsPlayed as IsPlayedRun}
 use Rattle.schedule_laws.specs.StartCounts.{most_instances}
-use Rattle.race_detection.specs.FoundReports.{found_reports}
 use Rattle.run_laws.proofs.RunStates.FrontAndBack.{front_is_run}
 use Rattle.run_laws.proofs.RunStates.IterationCounts.{runs_keep_rules}
 use Rattle.schedule_play.specs.declared.loop_play.LoopPlay.{LoopPlay}
@@ -103,8 +102,7 @@ loop_was_played tree input limits choices play r no_trap loop end =
         turns = loop.turns;
       };
       reports = record {
-        found = loop.reports ∙ ap (found_reports (columns_after play.run_log.events) (starts_of play.run_log.events))
-            loop.scheduled.accesses;
+        found = loop.reports;
         right = loop.right;
       };
       results = record {

@@ -39,6 +39,7 @@ use Rattle.schedule_laws.proofs.CountedStarts.{starts_are_counted}
 use Rattle.schedule_laws.proofs.PlayedSchedules.{finished_runs_have_no_candidate, schedules_play_runs}
 use Rattle.race_detection.proofs.RunReports.{runs_are_detected}
 use Rattle.race_detection.specs.FoundReports.{found_reports}
+use Rattle.race_detection.specs.LogAccesses.{log_accesses}
 use Rattle.run_laws.proofs.RunStates.IterationCounts.{runs_keep_rules}
 use Rattle.run_record.proofs.RunColumns.{runs_make_their_columns}
 use Rattle.run_record.specs.OwnColumns.{made_columns}
@@ -56,18 +57,18 @@ column_inside (c ∷ cs) zero k w = omega arith
 column_inside (c ∷ cs) (suc i) k w = let h = column_inside cs i k w in omega (arith, h)
 
 -- what detection needs of a run's log, and what it finds
-pub record IsDetectable (columns : List Column) (events : List Event) (accesses : List NodeAccess) : Type 0 where
+pub record IsDetectable (columns : List Column) (events : List Event) : Type 0 where
   pub ended : columns ≡ ended_columns_after events
   pub own : IsOwnLog (record { columns = columns; events = events })
   pub bounded : length (log_starts events) ≤ MOST_STARTS
-  pub inside : All (λ (a : NodeAccess). IsNodeOf (log_columns events) a.node) accesses
-  pub found : found_reports (log_columns events) (log_starts events) accesses ≡ found_reports (own_columns (state_after events))
-      (starts_of events) accesses
+  pub inside : All (λ (a : NodeAccess). IsNodeOf (log_columns events) a.node) (log_accesses events)
+  pub found : found_reports (log_columns events) (log_starts events) (log_accesses events)
+      ≡ found_reports (columns_after events) (starts_of events) (accesses_after events)
 
-pub detectable : (tree : SyntaxTree) (input : List ℤ) (limit : ℕ) (events : List Event) (columns : List Column) (accesses : List NodeAccess)
+pub detectable : (tree : SyntaxTree) (input : List ℤ) (limit : ℕ) (events : List Event) (columns : List Column)
     → BreaksNoRule tree → Run (pipeline_after_init tree input) limit events (state_after events) → columns ≡ made_columns events
-    → accesses ≡ (state_after events).accesses → IsDetectable columns events accesses
-detectable tree input limit events columns accesses accepted run made are =
+    → IsDetectable columns events
+detectable tree input limit events columns accepted run made =
     let p = pipeline_after_init tree input in
     let s = state_after events in
     let d = runs_are_detected p limit events s run in
@@ -81,11 +82,11 @@ detectable tree input limit events columns accesses accepted run made are =
       ended = ended;
       own = record { control = d.control; columns = ap nodes_of_columns ended ∙ nodes_of_frames s.frames ∙ sym d.columns };
       bounded = omega (arith, counted, small, bounded, starts);
-      inside = subst (λ cs. All (λ (a : NodeAccess). IsNodeOf cs a.node) accesses) (sym d.columns)
-          (subst (All (λ (a : NodeAccess). IsNodeOf (own_columns s) a.node)) (sym are)
+      inside = subst (λ cs. All (λ (a : NodeAccess). IsNodeOf cs a.node) (log_accesses events)) (sym d.columns)
+          (subst (All (λ (a : NodeAccess). IsNodeOf (own_columns s) a.node)) (sym d.accesses)
           (λ k x w. let inside = rules.inside (get_or s.accesses k x) (among_at s.accesses k x w) in
           (column_inside (own_columns s) (get_or s.accesses k x).node.iteration (get_or s.accesses k x).node.index inside, inside)));
-      found = ap₂ (λ cs ss. found_reports cs ss accesses) d.columns d.starts;
+      found = λ i. found_reports (d.columns i) (d.starts i) (d.accesses i);
     }
 
 -- the reports of a run are right
@@ -160,9 +161,9 @@ loop_play tree input limits choices v code cells r h some busy same_tree same_in
     end.events ∙ are ∙ ap₂ (λ q l. played q l limits.workers choices limits.turns) same same_limit in
     let run = schedule_is_run p limits.throttle limits.workers choices limits.turns r.run_log.events
     (subst IsWellFormed same h.proper) some busy events in
-    let accesses : r.accesses ≡ accesses_after r.run_log.events = end.accesses ∙ h.accesses ∙ ap accesses_after (sym end.events) in
-    let reports : r.reports ≡ found_reports (columns_after r.run_log.events) (starts_of r.run_log.events) r.accesses =
-    end.reports ∙ ap₂ (λ es l. found_reports (columns_after es) (starts_of es) l) (sym end.events) (sym end.accesses) in
+    let reports : r.reports
+    ≡ found_reports (columns_after r.run_log.events) (starts_of r.run_log.events) (accesses_after r.run_log.events) =
+    end.reports ∙ ap (λ es. found_reports (columns_after es) (starts_of es) (accesses_after es)) (sym end.events) in
     let finished : IsTrue r.finished ↔ IsFinished (state_after r.run_log.events) =
     subst (λ es. IsTrue r.finished ↔ IsFinished (state_after es)) (sym end.events) end.finished in
     record {
@@ -172,17 +173,16 @@ loop_play tree input limits choices v code cells r h some busy same_tree same_in
         workers = run.at_most_workers;
         throttled = run.throttled;
         columns = end.columns ∙ ap ended_columns_after (sym end.events);
-        accesses = accesses;
       };
       finished = finished;
       turns = λ unfinished. run.all_turns (λ over. unfinished (finished.1 over));
       reports = reports;
-      right = subst (AreRight (columns_after r.run_log.events) (accesses_after r.run_log.events))
-          (sym (reports ∙ ap (found_reports (columns_after r.run_log.events) (starts_of r.run_log.events)) accesses))
+      right = subst (AreRight (columns_after r.run_log.events) (accesses_after r.run_log.events)) (sym reports)
           (reports_right p limits.throttle r.run_log.events run.run);
-      state = subst (λ c. IsStateAfter (store_of tree) (init_accesses (whole_of tree input) ++ accesses_of r.accesses) c) (sym end.cells)
-          (subst (λ l. IsStateAfter (store_of tree) (init_accesses (whole_of tree input) ++ accesses_of l) v.cells)
-          (sym (end.accesses ∙ h.accesses))
+      state = subst (λ c. IsStateAfter (store_of tree) (init_accesses (whole_of tree input)
+          ++ accesses_of (accesses_after r.run_log.events)) c) (sym end.cells)
+          (subst (λ es. IsStateAfter (store_of tree) (init_accesses (whole_of tree input) ++ accesses_of (accesses_after es)) v.cells)
+          (sym end.events)
           (subst (λ (q : Pipeline). IsStateAfter q.store (q.preamble ++ accesses_of (run_state v).accesses) v.cells) same h.state));
       all = subst HasAllCells (sym end.cells) h.all;
     }

@@ -3,7 +3,6 @@ use Rattle.std.specs.Prelude.{◌≡◌, ◌<◌, ◌≤◌, ◌^◌, ◌++◌, 
 use Rattle.cell_store.specs.ShardState.{IsStateAfter, ShardState}
 use Rattle.pipe_frame.specs.Replies.{accessed}
 use Rattle.pipe_frame.specs.Ties.{BelongsTo}
-use Rattle.pipe_model.specs.declared.access.NodeAccess.{NodeAccess}
 use Rattle.pipe_model.specs.declared.event.Event.{Event}
 use Rattle.pipe_model.specs.declared.status.Status.{Status}
 use Rattle.pipe_model.specs.declared.status.Status.TheVariants.{Running, Pending, Completed}
@@ -24,14 +23,13 @@ use Rattle.schedule_play.specs.Runners.{no_tie}
 use Rattle.schedule_play.specs.ScheduleStates.{IsScheduleOf, ScheduleState}
 use Rattle.stage_interp.specs.CellNumbers.{most_cell_ids}
 
--- the book, the schedule, for each iteration its running instance if there is one, the cells, the events so far, and their accesses
+-- the book, the schedule, for each iteration its running instance if there is one, the cells, and the events so far
 pub record PlayState : Type 0 where
   pub book : BookState
   pub schedule : ScheduleState
   pub running : List (Option RunningIterationState)
   pub cells : ShardState
   pub events : List Event
-  pub accesses : List NodeAccess
 
 -- the pipeline that is played
 abbrev pub pipeline_played : PlayState → Pipeline
@@ -88,7 +86,6 @@ pub record IsPlay (code : FlatCode) (cells : ℕ) (v : PlayState) : Type 0 where
   pub all : HasAllCells v.cells
   pub count : v.cells.shard.cells ≡ cells
   pub bounded : cells ≤ most_cell_ids
-  pub accesses : v.accesses ≡ (run_state v).accesses
 
 -- the program, the input and the limit are the same
 pub record KeepsProgram (v v' : PlayState) : Type 0 where

@@ -19,7 +19,6 @@ use crate::player::Player;
 use crate::runner::PlayedCode;
 use cell_store::cells::Cells;
 use pipe_check::checked::Checked;
-use pipe_model::access::NodeAccesses;
 use pipe_model::event::RunLog;
 use pipe_model::list::Numbers;
 use pipe_model::memory::NoMemory;
@@ -46,13 +45,11 @@ pub struct PlayLimits {
 pub struct LoopPlay {
     /// The events in the order in which they were made, and their columns.
     pub run_log: RunLog,
-    /// The accesses of the events, with their instances.
-    pub accesses: NodeAccesses,
     /// A race of each cell for which its access history found one, rising by cell.
     pub reports: Reports,
     /// Whether the run is finished.
     pub finished: bool,
-    /// The cells after the accesses.
+    /// The cells after the events.
     pub cells: Cells,
 }
 
@@ -64,13 +61,12 @@ fn end_play<B: PlayedCode>(alloc: Global, player: Player<B>) -> Result<LoopPlay,
     ensures { IfOk result (IsEndOf player) }
 {
     let finished = player.is_finished();
-    let (events, accesses, cells) = player.into_run();
+    let (events, cells) = player.into_run();
     let columns = columns_of(alloc, events.as_slice())?;
     let run_log = RunLog { columns, events };
-    let reports = detect(alloc, &run_log, &accesses)?;
+    let reports = detect(alloc, &run_log)?;
     Ok(LoopPlay {
         run_log,
-        accesses,
         reports,
         finished,
         cells,

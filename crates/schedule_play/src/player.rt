@@ -34,7 +34,6 @@ use frame_book::book::Book;
 use om_list::om_list::OmList;
 use pipe_check::checked::Checked;
 use pipe_frame::results::Begun;
-use pipe_model::access::{NodeAccess, NodeAccesses};
 use pipe_model::event::{Event, Events};
 use pipe_model::list::Numbers;
 use pipe_model::memory::NoMemory;
@@ -44,7 +43,7 @@ use std::alloc::Global;
 use std::marker::Model;
 
 /// A run of a program. Contracts see the book, the schedule, for each iteration that has begun its
-/// running instance if there is one, the cells, and the events so far with their accesses.
+/// running instance if there is one, the cells, and the events so far.
 #[derive(Drop)]
 pub struct Player<B: PlayedCode> {
     book: Book<Runner<B>, OmList>,
@@ -52,7 +51,6 @@ pub struct Player<B: PlayedCode> {
     running: Vec<Option<RunningIteration<B>>>,
     cells: Cells,
     events: Events,
-    accesses: NodeAccesses,
 }
 
 impl<B: PlayedCode> Model for Player<B> {
@@ -71,7 +69,6 @@ impl<B: PlayedCode> Model for Player<B> {
       running = p.running.items;
       cells = p.cells;
       events = p.events;
-      accesses = p.accesses;
     } };
 }
 
@@ -108,7 +105,6 @@ impl<B: PlayedCode> Player<B> {
             running: Vec::new(alloc),
             cells,
             events: Events::new(alloc),
-            accesses: NodeAccesses::new(alloc),
         })
     }
 
@@ -189,9 +185,7 @@ impl<B: PlayedCode> Player<B> {
             unreachable!()
         };
         let access = running.access(code, input, &mut self.cells, ticket)?;
-        let node = running.node();
         self.running[iteration as usize] = Some(running);
-        self.accesses.push(NodeAccess { node, access })?;
         self.events.push(Event::Access(iteration, access))?;
         Ok(())
     }
@@ -299,13 +293,12 @@ impl<B: PlayedCode> Player<B> {
         self.schedule.choose(1, 0).is_none()
     }
 
-    /// Returns the events so far, their accesses, and the cells.
-    pub fn into_run(self) -> (Events, NodeAccesses, Cells)
+    /// Returns the events so far, and the cells.
+    pub fn into_run(self) -> (Events, Cells)
         ensures events { result.0 ≡ self.events }
-        ensures accesses { result.1 ≡ self.accesses }
-        ensures cells { result.2 ≡ self.cells }
+        ensures cells { result.1 ≡ self.cells }
     {
-        (self.events, self.accesses, self.cells)
+        (self.events, self.cells)
     }
 
     /// Makes the event of a turn. Returns an error only if memory runs out; the player is of no use

@@ -116,7 +116,6 @@ fn end_after_loop(
 {
     let LoopPlay {
         run_log,
-        accesses: _,
         reports,
         finished,
         cells,

@@ -31,7 +31,6 @@ use pipe_frame::token::FrameToken;
 use pipe_model::access::Access;
 use pipe_model::list::Numbers;
 use pipe_model::memory::NoMemory;
-use pipe_model::node::NodeId;
 use pipe_model::stage::StageEnd;
 use pipe_model::ticket::Trace;
 use stage_code::code::Code;
@@ -82,16 +81,6 @@ impl<B: PlayedCode> RunningIteration<B> {
     {
         let running = RunningInstance::new(alloc, &mut token.payload.machine, code, input, cells);
         RunningIteration { token, running }
-    }
-
-    /// Returns the instance.
-    pub fn node(&self) -> NodeId
-        ensures { result ≡ record { iteration = self.now.token.iteration; index = self.now.token.index } }
-    {
-        NodeId {
-            iteration: self.token.iteration,
-            index: self.token.index,
-        }
     }
 
     /// Returns what the instance does next.

@@ -9,7 +9,6 @@ use Rattle.pipe_model.specs.declared.access.NodeAccess.{NodeAccess}
 use Rattle.pipe_model.specs.declared.column.Column.{Column}
 use Rattle.pipe_model.specs.declared.column.ColumnEnd.{ColumnEnd}
 use Rattle.pipe_model.specs.declared.column.ColumnEnd.TheVariants as ends
-use Rattle.pipe_model.specs.declared.event.Event.TheVariants as events
 use Rattle.pipe_model.specs.declared.trap.TrapAt.{TrapAt}
 use Rattle.pipe_model.specs.declared.trap.TrapPlace.TheVariants.{At}
 use Rattle.pipe_model.specs.Language.SyntaxTree.{SyntaxTree}
@@ -17,8 +16,8 @@ use Rattle.pipe_model.specs.Pipelines.Behaviour.{Action, accesses_in, closes_loo
 use Rattle.pipe_model.specs.Pipelines.ElisionResults.{ended_column, first_of_both, first_trap, serial_ended_columns, serial_trap}
 use Rattle.pipe_model.specs.Pipelines.ElisionResults.{trap_at_end}
 use Rattle.pipe_model.specs.Pipelines.Pipeline.{Pipeline}
-use Rattle.pipe_model.specs.Pipelines.SerialElision.{located, located_from, serial_accesses, serial_events, serial_trace, serial_traces}
-use Rattle.pipe_model.specs.Pipelines.SerialElision.{serial_traces_from, trace_events, trace_events_from, unless}
+use Rattle.pipe_model.specs.Pipelines.SerialElision.{located, located_from, serial_accesses, serial_trace, serial_traces}
+use Rattle.pipe_model.specs.Pipelines.SerialElision.{serial_traces_from, unless}
 use Rattle.pipe_model.specs.Pipelines.WholePrograms.{part_trap}
 use Rattle.pipe_model.specs.Races.Columns.{at, node_at}
 use Rattle.pipe_model.specs.Runs.State.{accesses_of}
@@ -34,13 +33,12 @@ pub record Elided (p : Pipeline) (n i : ℕ) (columns : List Column) (trap : Opt
   pub all_columns : columns ++ map ended_column (serial_traces_from p n i (p.preamble ++ accesses_of log.accesses)) ≡ serial_ended_columns p
   pub least_trap : first_of_both trap (first_trap i (serial_traces_from p n i (p.preamble ++ accesses_of log.accesses))) ≡ serial_trap p
   pub all_accesses : log.accesses ++ located_from i (serial_traces_from p n i (p.preamble ++ accesses_of log.accesses)) ≡ serial_accesses p
-  pub all_events : log.events ++ trace_events_from i (serial_traces_from p n i (p.preamble ++ accesses_of log.accesses)) ≡ serial_events p
   pub cells : IsStateAfter p.store (p.preamble ++ accesses_of log.accesses) log.cells
 
 -- before the first iteration
-pub elided_none : (p : Pipeline) (log : Log) → log.accesses ≡ [] → log.events ≡ [] → IsStateAfter p.store p.preamble log.cells
+pub elided_none : (p : Pipeline) (log : Log) → log.accesses ≡ [] → IsStateAfter p.store p.preamble log.cells
     → Elided p (p.last_iteration + 1) 0 [] None log
-elided_none p log no_access no_event state =
+elided_none p log no_access state =
     let same : p.preamble ++ accesses_of log.accesses ≡ p.preamble = ap (λ l. p.preamble ++ accesses_of l) no_access
     ∙ append-nil p.preamble in
     record {
@@ -49,9 +47,6 @@ elided_none p log no_access no_event state =
       all_accesses = ap (λ l. l ++ located_from 0 (serial_traces_from p (p.last_iteration + 1) 0 (p.preamble ++ accesses_of log.accesses)))
           no_access
           ∙ ap (λ l. located_from 0 (serial_traces_from p (p.last_iteration + 1) 0 l)) same;
-      all_events = ap (λ l. l ++ trace_events_from 0 (serial_traces_from p (p.last_iteration + 1) 0
-          (p.preamble ++ accesses_of log.accesses))) no_event
-          ∙ ap (λ l. trace_events_from 0 (serial_traces_from p (p.last_iteration + 1) 0 l)) same;
       cells = subst (λ l. IsStateAfter p.store l log.cells) (sym same) state;
     }
 
@@ -67,7 +62,6 @@ elided_all p i columns steps trap log h = record {
   columns_are = sym (append-nil columns) ∙ h.all_columns;
   trap_is = first_alone trap ∙ h.least_trap;
   accesses_are = sym (append-nil log.accesses) ∙ h.all_accesses;
-  events_are = sym (append-nil log.events) ∙ h.all_events;
   cells = h.cells;
 }
 
@@ -133,9 +127,6 @@ elided_more p n m i columns trap log now column h one closed open' =
       all_accesses =
           ap (λ r. now.accesses ++ located_from (i + 1) r) left ∙ ap (λ l. l ++ located_from (i + 1) rest) one.accesses_are
           ∙ append_assoc log.accesses (located i 0 t) (located_from (i + 1) rest) ∙ h.all_accesses;
-      all_events =
-          ap (λ r. now.events ++ trace_events_from (i + 1) r) left ∙ ap (λ l. l ++ trace_events_from (i + 1) rest) one.events_are
-          ∙ append_assoc log.events (events.Begin i ∷ trace_events i t) (trace_events_from (i + 1) rest) ∙ h.all_events;
       cells = subst (λ l. IsStateAfter p.store l now.cells) (sym grown) one.cells;
     }
 

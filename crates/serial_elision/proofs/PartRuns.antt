@@ -5,7 +5,6 @@ use Rattle.std.proofs.lemmas.Bool.Decides.{nat_tests}
 use Rattle.cell_store.specs.ShardState.{HasOutput, IsStateAfter, ShardState}
 use Rattle.pipe_model.specs.declared.access.Access.{Access}
 use Rattle.pipe_model.specs.declared.column.ColumnEnd.{ColumnEnd}
-use Rattle.pipe_model.specs.declared.event.Event.TheVariants as events
 use Rattle.pipe_model.specs.declared.node.Kind.{Kind}
 use Rattle.pipe_model.specs.declared.node.Node.{Node}
 use Rattle.pipe_model.specs.declared.node.NodeId.{NodeId}
@@ -13,7 +12,7 @@ use Rattle.pipe_model.specs.Language.Programs.{natural}
 use Rattle.pipe_model.specs.Pipelines.Behaviour.{Action, Accessed, Staged, Ended, Behaviour, Reading, Writing, Staging, Ending, HasNoEnd}
 use Rattle.pipe_model.specs.Pipelines.Behaviour.{Performs, accesses_in, behaviour_after_all, closes_at_once, closes_loop, column_of}
 use Rattle.pipe_model.specs.Pipelines.Behaviour.{node_of, nodes_in, read_access, trace_end, write_access}
-use Rattle.pipe_model.specs.Pipelines.SerialElision.{located, serial_trace, trace_events}
+use Rattle.pipe_model.specs.Pipelines.SerialElision.{located, serial_trace}
 use Rattle.pipe_model.specs.Pipelines.Store.{HasReply, InitialStore, value_after}
 use Rattle.pipe_model.specs.Races.Columns.{at, no_node}
 use Rattle.run_laws.proofs.Iterations.LocatedActions.{located-append, located-ended, located-staged}
@@ -23,7 +22,7 @@ use Rattle.serial_elision.specs.declared.instance.InstanceEnd.TheVariants as ins
 use Rattle.serial_elision.specs.declared.log.Log.{Log}
 use Rattle.serial_elision.specs.InstanceRuns.{RanFrom}
 use Rattle.serial_elision.specs.PartRuns.{PartRan, column_closes}
-use Rattle.serial_elision.specs.Recording.{Adds, HaveReplies, IsWhole, access_events, placed}
+use Rattle.serial_elision.specs.Recording.{Adds, HaveReplies, IsWhole, placed}
 use Rattle.stage_code.specs.FlatCode.{FlatCode}
 use Rattle.stage_interp.specs.MachineState.{RunState}
 use Rattle.stage_interp.specs.RemainingBehaviour.{Represents}
@@ -79,16 +78,6 @@ located_is : (i k : ℕ) (xs : List Access) → located i k (map Accessed xs) �
 located_is i k [] = refl
 located_is i k (x ∷ xs) = ap (λ l. record { node = at i k; access = x } ∷ l) (located_is i k xs)
 
-events_are : (i : ℕ) (xs : List Access) → trace_events i (map Accessed xs) ≡ access_events i xs
-events_are i [] = refl
-events_are i (x ∷ xs) = ap (λ l. events.Access i x ∷ l) (events_are i xs)
-
-trace_events-append : (i : ℕ) (xs ys : List Action) → trace_events i (xs ++ ys) ≡ trace_events i xs ++ trace_events i ys
-trace_events-append i [] ys = refl
-trace_events-append i (Accessed a ∷ xs) ys = ap (λ l. events.Access i a ∷ l) (trace_events-append i xs ys)
-trace_events-append i (Staged k n ∷ xs) ys = ap (λ l. events.Advance i k n ∷ (events.Enter i ∷ l)) (trace_events-append i xs ys)
-trace_events-append i (Ended e ∷ xs) ys = ap (λ l. events.Finish i e ∷ l) (trace_events-append i xs ys)
-
 -- ---- a part that is running
 
 -- since iteration i began with the log, these are its instances, and the behaviour is left
@@ -99,19 +88,17 @@ pub record SoFar (store : InitialStore) (whole : Behaviour) (before : List Acces
   pub trace : serial_trace store whole before ≡ done ++ serial_trace store t (before ++ accesses_in done)
   pub nodes_are : nodes ≡ column_of done
   pub accesses_are : now.accesses ≡ log.accesses ++ located i 0 done
-  pub events_are : now.events ≡ log.events ++ (events.Begin i ∷ trace_events i done)
   pub cells : IsStateAfter store (before ++ accesses_in done) now.cells
 
 -- no instance has run
 pub so_far_none : (store : InitialStore) (t : Behaviour) (before : List Access) (i : ℕ) (log : Log) → IsStateAfter store before log.cells
-    → SoFar store t before i log t (no_node ∷ []) (record log { events = log.events ++ events.Begin i ∷ [] })
+    → SoFar store t before i log t (no_node ∷ []) log
 so_far_none store t before i log state = record {
   done = [];
   no_end = tt;
   trace = ap (serial_trace store t) (sym (append-nil before));
   nodes_are = refl;
   accesses_are = sym (append-nil log.accesses);
-  events_are = refl;
   cells = subst (λ l. IsStateAfter store l log.cells) (sym (append-nil before)) state;
 }
 
@@ -137,8 +124,6 @@ so_far_ran store whole before i log t nodes now now' xs h performs adds =
     ap (λ k. located i 0 done ++ placed (at i k) xs) index ∙ ap (λ l. located i 0 done ++ l)
     (sym (located_is i (0 + length (nodes_in done)) xs))
     ∙ sym (located-append i 0 done made) in
-    let seen : trace_events i done ++ access_events i xs ≡ trace_events i (done ++ made) =
-    ap (λ l. trace_events i done ++ l) (sym (events_are i xs)) ∙ sym (trace_events-append i done made) in
     record {
       done = done ++ made;
       no_end = no_end_more done xs h.no_end;
@@ -150,8 +135,6 @@ so_far_ran store whole before i log t nodes now now' xs h performs adds =
           (nodes_in-append done made));
       accesses_are = joined now.accesses log.accesses (located i 0 done) (placed (at i (length nodes - 1)) xs) now'.accesses h.accesses_are
           adds.accesses_are ∙ ap (λ l. log.accesses ++ l) here;
-      events_are = joined now.events log.events (events.Begin i ∷ trace_events i done) (access_events i xs) now'.events h.events_are
-          adds.events_are ∙ ap (λ l. log.events ++ (events.Begin i ∷ l)) seen;
       cells = subst (λ l. IsStateAfter store l now'.cells) grown (adds.cells store base h.cells);
     }
 
@@ -160,8 +143,7 @@ pub so_far_entered : (store : InitialStore) (whole : Behaviour) (before : List A
     (nodes : List Node)
     (now : Log) (kind : Kind) (n : ℤ)
     → SoFar store whole before i log (Staging kind n t) nodes now
-    → SoFar store whole before i log t (nodes ++ node_of kind n ∷ [])
-    (record now { events = now.events ++ events.Advance i kind n ∷ (events.Enter i ∷ []) })
+    → SoFar store whole before i log t (nodes ++ node_of kind n ∷ []) now
 so_far_entered store whole before i log t nodes now kind n h =
     let done = h.done in
     let named = Staged kind n ∷ [] in
@@ -173,9 +155,6 @@ so_far_entered store whole before i log t nodes now kind n h =
           ∙ ap (λ l. (done ++ named) ++ serial_trace store t (before ++ l)) same;
       nodes_are = ap (λ l. l ++ node_of kind n ∷ []) h.nodes_are ∙ ap (λ l. no_node ∷ l) (sym (nodes_in-append done named));
       accesses_are = h.accesses_are ∙ ap (λ l. log.accesses ++ l) (sym (located-staged i 0 done kind n));
-      events_are = joined now.events log.events (events.Begin i ∷ trace_events i done) (events.Advance i kind n ∷ (events.Enter i ∷ [])) _
-          h.events_are refl
-          ∙ ap (λ l. log.events ++ (events.Begin i ∷ l)) (sym (trace_events-append i done named));
       cells = subst (λ l. IsStateAfter store (before ++ l) now.cells) same h.cells;
     }
 
@@ -193,8 +172,7 @@ closes_by (Ended d ∷ done) e h = absurd h
 pub part_ended : (store : InitialStore) (whole : Behaviour) (before : List Access) (i : ℕ) (log : Log) (nodes : List Node) (now : Log)
     (e : ColumnEnd)
     → SoFar store whole before i log (Ending e) nodes now
-    → PartRan store before (serial_trace store whole before) i log (record { nodes = nodes; end = Some e })
-    (record now { events = now.events ++ events.Finish i e ∷ [] })
+    → PartRan store before (serial_trace store whole before) i log (record { nodes = nodes; end = Some e }) now
 part_ended store whole before i log nodes now e h =
     let done = h.done in
     let end = Ended e ∷ [] in
@@ -204,13 +182,10 @@ part_ended store whole before i log nodes now e h =
     let own : nodes ≡ column_of (done ++ end) = h.nodes_are
     ∙ ap (λ l. no_node ∷ l) (sym (nodes_in-append done end ∙ append-nil (nodes_in done))) in
     let last : trace_end (done ++ end) ≡ Some e = trace_end_is (done ++ end) e (ends_with_end done e h.no_end) in
-    let now' : Log = record now { events = now.events ++ events.Finish i e ∷ [] } in
-    subst (λ x. PartRan store before x i log (record { nodes = nodes; end = Some e }) now') trace (record {
+    subst (λ x. PartRan store before x i log (record { nodes = nodes; end = Some e }) now) trace (record {
       column_is = cc (own, last);
       closes = ap (λ l. column_closes (record { nodes = l; end = Some e })) h.nodes_are ∙ closes_by done e h.no_end;
       accesses_are = h.accesses_are ∙ ap (λ l. log.accesses ++ l) (sym (located-ended i 0 done e));
-      events_are = joined now.events log.events (events.Begin i ∷ trace_events i done) (events.Finish i e ∷ []) _ h.events_are refl
-          ∙ ap (λ l. log.events ++ (events.Begin i ∷ l)) (sym (trace_events-append i done end));
       cells = subst (λ l. IsStateAfter store (before ++ l) now.cells) same h.cells;
     })
 
@@ -227,14 +202,12 @@ pub record Left (code : FlatCode) (cells : ℕ) (input : List ℤ) (store : Init
 -- a part begins
 pub left_begun : (code : FlatCode) (cells : ℕ) (input : List ℤ) (store : InitialStore) (whole : Behaviour) (i : ℕ) (log : Log)
     (run : RunState)
-    (nodes : List Node) (now : Log)
-    → Represents code cells input run whole → nodes ≡ no_node ∷ [] → now ≡ record log { events = log.events ++ events.Begin i ∷ [] }
-    → Left code cells input store whole i log run nodes now
-left_begun code cells input store whole i log run nodes now represents first begun = record {
+    (nodes : List Node)
+    → Represents code cells input run whole → nodes ≡ no_node ∷ [] → Left code cells input store whole i log run nodes log
+left_begun code cells input store whole i log run nodes represents first = record {
   t = whole;
   represents = represents;
-  so_far = λ before state. subst (λ x. SoFar store whole before i log whole x now) (sym first)
-      (subst (λ (x : Log). SoFar store whole before i log whole (no_node ∷ []) x) (sym begun) (so_far_none store whole before i log state));
+  so_far = λ before state. subst (λ x. SoFar store whole before i log whole x log) (sym first) (so_far_none store whole before i log state);
 }
 
 -- an instance ran over the cells of the log
@@ -252,42 +225,37 @@ one_ran code cells cells' input t i node nodes now ran run run' end end' h repre
 -- an instance ran, and the next is entered
 pub left_entered : (code : FlatCode) (cells cells' : ℕ) (input : List ℤ) (store : InitialStore) (whole : Behaviour) (i : ℕ) (log : Log)
     (run run' : RunState) (node : NodeId) (nodes nodes' : List Node)
-    (now ran now' : Log) (end : InstanceEnd) (kind : Kind) (n : ℤ) (h : Left code cells input store whole i log run nodes now)
+    (now ran : Log) (end : InstanceEnd) (kind : Kind) (n : ℤ) (h : Left code cells input store whole i log run nodes now)
     → ((d : Behaviour) → Represents code cells' input run d → RanFrom code cells' input d node now ran run' end)
     → cells' ≡ cells → node ≡ at i (length nodes - 1) → end ≡ instance_ends.Next kind n → nodes' ≡ nodes ++ node_of kind n ∷ []
-    → now' ≡ record ran { events = ran.events ++ events.Advance i kind n ∷ (events.Enter i ∷ []) }
-    → Left code cells input store whole i log run' nodes' now'
-left_entered code cells cells' input store whole i log run run' node nodes nodes' now ran now' end kind n h did same here is grown entered =
+    → Left code cells input store whole i log run' nodes' ran
+left_entered code cells cells' input store whole i log run run' node nodes nodes' now ran end kind n h did same here is grown =
     let one = one_ran code cells cells' input h.t i node nodes now ran run run' end
     (instance_ends.Next kind n) did h.represents same here is in
     record {
       t = one.ends.0;
       represents = one.ends.2;
-      so_far = λ before state. subst (λ x. SoFar store whole before i log one.ends.0 x now') (sym grown)
-          (subst (λ (x : Log). SoFar store whole before i log one.ends.0 (nodes ++ node_of kind n ∷ []) x) (sym entered)
+      so_far = λ before state. subst (λ x. SoFar store whole before i log one.ends.0 x ran) (sym grown)
           (so_far_entered store whole before i log one.ends.0 nodes ran kind n
           (subst (λ x. SoFar store whole before i log x nodes ran) one.ends.1
           (so_far_ran store whole before i log h.t nodes now ran one.accesses
-          (h.so_far before state) one.performs one.adds))));
+          (h.so_far before state) one.performs one.adds)));
     }
 
 -- an instance ran, and it is the last
 pub left_ended : (code : FlatCode) (cells cells' : ℕ) (input : List ℤ) (store : InitialStore) (whole : Behaviour) (i : ℕ) (log : Log)
     (run run' : RunState) (node : NodeId) (nodes : List Node)
-    (now ran now' : Log) (end : InstanceEnd) (e : ColumnEnd) (before : List Access)
+    (now ran : Log) (end : InstanceEnd) (e : ColumnEnd) (before : List Access)
     (h : Left code cells input store whole i log run nodes now)
     → ((d : Behaviour) → Represents code cells' input run d → RanFrom code cells' input d node now ran run' end)
-    → cells' ≡ cells → node ≡ at i (length nodes - 1) → end ≡ instance_ends.Ended e → now' ≡ record ran
-    { events = ran.events ++ events.Finish i e ∷ [] }
+    → cells' ≡ cells → node ≡ at i (length nodes - 1) → end ≡ instance_ends.Ended e
     → IsStateAfter store before log.cells
-    → PartRan store before (serial_trace store whole before) i log (record { nodes = nodes; end = Some e }) now'
-left_ended code cells cells' input store whole i log run run' node nodes now ran now' end e before h did same here is finished state =
+    → PartRan store before (serial_trace store whole before) i log (record { nodes = nodes; end = Some e }) ran
+left_ended code cells cells' input store whole i log run run' node nodes now ran end e before h did same here is state =
     let one = one_ran code cells cells' input h.t i node nodes now ran run run' end (instance_ends.Ended e) did h.represents same here is in
-    subst (λ (x : Log). PartRan store before (serial_trace store whole before) i log (record { nodes = nodes; end = Some e }) x)
-    (sym finished)
-    (part_ended store whole before i log nodes ran e
+    part_ended store whole before i log nodes ran e
     (subst (λ x. SoFar store whole before i log x nodes ran) one.ends (so_far_ran store whole before i log h.t nodes now ran one.accesses
-    (h.so_far before state) one.performs one.adds)))
+    (h.so_far before state) one.performs one.adds))
 
 -- a limit is at most its bound
 pub natural_most : (z : ℤ) (n : ℕ) → z ≤ℤ pos n → natural z ≤ n

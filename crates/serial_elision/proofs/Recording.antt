@@ -6,12 +6,11 @@ use Rattle.std.proofs.lemmas.List.{drop-append-le, map-append}
 use Rattle.cell_store.specs.ShardState.{IsStateAfter}
 use Rattle.pipe_model.specs.declared.access.Access.{Access}
 use Rattle.pipe_model.specs.declared.access.NodeAccess.{NodeAccess}
-use Rattle.pipe_model.specs.declared.event.Event.TheVariants as events
 use Rattle.pipe_model.specs.declared.node.NodeId.{NodeId}
 use Rattle.pipe_model.specs.Pipelines.Store.{HasReply, InitialStore}
 use Rattle.pipe_model.specs.Runs.State.{accesses_of}
 use Rattle.serial_elision.specs.declared.log.Log.{Log}
-use Rattle.serial_elision.specs.Recording.{Adds, HaveReplies, access_events, made_since, placed}
+use Rattle.serial_elision.specs.Recording.{Adds, HaveReplies, made_since, placed}
 
 -- replies of two lists of accesses, one after the other
 replies_more : (store : InitialStore) (before xs : List Access) (a : Access) → HaveReplies store before xs → HasReply store (before ++ xs) a
@@ -37,20 +36,16 @@ made_more log now now' node made a h e =
 -- an access was made, and recorded
 pub adds_more : (log now now' : Log) (node : NodeId) (a : Access) → Adds node log (made_since log now) now
     → now'.accesses ≡ now.accesses ++ record { node = node; access = a } ∷ []
-    → now'.events ≡ now.events ++ events.Access node.iteration a ∷ []
     → ((store : InitialStore) (before : List Access) → IsStateAfter store before now.cells
     → IsStateAfter store (before ++ a ∷ []) now'.cells)
     → ((store : InitialStore) (before : List Access) → IsStateAfter store before now.cells → HasReply store before a)
     → Adds node log (made_since log now') now'
-adds_more log now now' node a h accesses recorded state reply =
+adds_more log now now' node a h accesses state reply =
     let made = made_since log now in
     let x : NodeAccess = record { node = node; access = a } in
     subst (λ l. Adds node log l now') (sym (made_more log now now' node made a h accesses)) (record {
       accesses_are = accesses ∙ ap (λ l. l ++ x ∷ []) h.accesses_are ∙ append_assoc log.accesses (placed node made) (x ∷ [])
           ∙ ap (λ l. log.accesses ++ l) (sym (map-append (λ (b : Access). record { node = node; access = b }) made (a ∷ [])));
-      events_are = recorded ∙ ap (λ l. l ++ events.Access node.iteration a ∷ []) h.events_are
-          ∙ append_assoc log.events (access_events node.iteration made) (events.Access node.iteration a ∷ [])
-          ∙ ap (λ l. log.events ++ l) (sym (map-append (λ (b : Access). events.Access node.iteration b) made (a ∷ [])));
       cells = λ store before was. subst (λ l. IsStateAfter store l now'.cells) (append_assoc before made (a ∷ []))
           (state store (before ++ made) (h.cells store before was));
       replies = λ store before was. replies_more store before made a (h.replies store before was)

@@ -5,7 +5,6 @@ use Rattle.std.proofs.lemmas.List.{append_cancel_left}
 use Rattle.cell_store.specs.ShardState.{IsStateAfter}
 use Rattle.pipe_model.specs.declared.access.Access.{Access}
 use Rattle.pipe_model.specs.declared.column.ColumnEnd.{ColumnEnd}
-use Rattle.pipe_model.specs.declared.event.Event.TheVariants as events
 use Rattle.pipe_model.specs.declared.node.Kind.{Kind}
 use Rattle.pipe_model.specs.declared.node.NodeId.{NodeId}
 use Rattle.pipe_model.specs.Language.Interaction.{Interaction, Return, Raise, Step, Get, Set, Stage}
@@ -113,17 +112,15 @@ pub record StepsLeft (code : FlatCode) (cells : ℕ) (input : List ℤ) (store :
       → Counted store (natural code.limits.steps) whole before old d now steps
 
 -- a part begins
-pub steps_begun : (code : FlatCode) (cells : ℕ) (input : List ℤ) (store : InitialStore) (whole : Interaction ColumnEnd) (i : ℕ) (log : Log)
-    (old : List ℤ) (run : RunState) (now : Log)
-    → RepresentsTree code cells input run whole → now ≡ record log { events = log.events ++ events.Begin i ∷ [] }
-    → StepsLeft code cells input store whole log old run now old
-steps_begun code cells input store whole i log old run now represents begun = record {
+pub steps_begun : (code : FlatCode) (cells : ℕ) (input : List ℤ) (store : InitialStore) (whole : Interaction ColumnEnd) (log : Log)
+    (old : List ℤ) (run : RunState)
+    → RepresentsTree code cells input run whole → StepsLeft code cells input store whole log old run log old
+steps_begun code cells input store whole log old run represents = record {
   d = whole;
   represents = represents;
   counted = λ before state. record {
     made = [];
-    cells = subst (λ (x : Log). IsStateAfter store (before ++ []) x.cells) (sym begun)
-        (subst (λ l. IsStateAfter store l log.cells) (sym (append-nil before)) state);
+    cells = subst (λ l. IsStateAfter store l log.cells) (sym (append-nil before)) state;
     counts = ap (λ b. old ++ map pos (step_counts store b (natural code.limits.steps) (natural code.limits.steps) whole))
         (sym (append-nil before));
   };
@@ -150,18 +147,15 @@ one_counted steps grown old all rest counts budget left n z h e is same push =
     ∙ ap (λ x. (steps ++ x ∷ []) ++ map pos rest) (sym one) ∙ ap (λ l. l ++ map pos rest) (sym push)
 
 -- an instance ran, and the next is entered
-pub steps_entered : (code : FlatCode) (cells cells' : ℕ) (input : List ℤ) (store : InitialStore) (whole : Interaction ColumnEnd) (i : ℕ)
-    (log : Log)
-    (old : List ℤ) (run run' : RunState) (node : NodeId) (now ran now' : Log) (steps grown : List ℤ) (z : ℤ) (end : InstanceEnd)
+pub steps_entered : (code : FlatCode) (cells cells' : ℕ) (input : List ℤ) (store : InitialStore) (whole : Interaction ColumnEnd) (log : Log)
+    (old : List ℤ) (run run' : RunState) (node : NodeId) (now ran : Log) (steps grown : List ℤ) (z : ℤ) (end : InstanceEnd)
     (kind : Kind) (n : ℤ)
     → StepsLeft code cells input store whole log old run now steps
     → ((d : Interaction ColumnEnd) → RepresentsTree code cells' input run d → RanTreeFrom code cells' input d node now ran run' end)
     → cells' ≡ cells → end ≡ instance_ends.Next kind n → run'.budget ≡ natural code.limits.steps → z ≡ pos (steps_of run')
     → grown ≡ steps ++ z ∷ []
-    → now' ≡ record ran { events = ran.events ++ events.Advance i kind n ∷ (events.Enter i ∷ []) }
-    → StepsLeft code cells input store whole log old run' now' grown
-steps_entered code cells cells' input store whole i log old run run' node now ran now' steps grown z end kind n h did same is budget took
-    push entered =
+    → StepsLeft code cells input store whole log old run' ran grown
+steps_entered code cells cells' input store whole log old run run' node now ran steps grown z end kind n h did same is budget took push =
     let one = one_tree_ran code cells cells' input h.d node now ran run run' end (instance_ends.Next kind n) did h.represents same is in
     let b = natural code.limits.steps in
     let next = one.ends.0 in
@@ -177,8 +171,7 @@ steps_entered code cells cells' input store whole i log old run run' node now ra
           ∙ ap (λ l. (b - run'.left) ∷ step_counts store l b b next) longer in
           record {
             made = c.made ++ one.accesses;
-            cells = subst (λ (x : Log). IsStateAfter store (before ++ (c.made ++ one.accesses)) x.cells) (sym entered)
-                (subst (λ l. IsStateAfter store l ran.cells) longer (one.adds.cells store base c.cells));
+            cells = subst (λ l. IsStateAfter store l ran.cells) longer (one.adds.cells store base c.cells);
             counts = one_counted steps grown old (step_counts store before b b whole)
                 (step_counts store (before ++ (c.made ++ one.accesses)) b b next) (step_counts store base b b h.d) b run'.left run'.budget z
                 c.counts counts took budget push;

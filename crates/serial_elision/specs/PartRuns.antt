@@ -1,17 +1,16 @@
 -- Runs of a part of a program: `init`, an iteration or `final`.
-use Rattle.std.specs.Prelude.{◌≡◌, ◌≤◌, ◌++◌, ◌∷◌, ◌+◌, ◌&&◌, ◌==◌, ℕ, List, length, Bool, false, Option, Some, None}
+use Rattle.std.specs.Prelude.{◌≡◌, ◌≤◌, ◌++◌, ◌+◌, ◌&&◌, ◌==◌, ℕ, List, length, Bool, false, Option, Some, None}
 use Rattle.cell_store.specs.ShardState.{IsStateAfter, ShardState}
 use Rattle.pipe_model.specs.declared.access.Access.{Access}
 use Rattle.pipe_model.specs.declared.bounds.TheConstants.{MOST_CELLS, MOST_STAGES}
 use Rattle.pipe_model.specs.declared.column.Column.{Column}
 use Rattle.pipe_model.specs.declared.column.ColumnEnd.{ColumnEnd}
-use Rattle.pipe_model.specs.declared.event.Event.TheVariants as events
 use Rattle.pipe_model.specs.Language.CheckingRules.{cell_total}
 use Rattle.pipe_model.specs.Language.Programs.{natural}
 use Rattle.pipe_model.specs.Language.SyntaxTree.{SyntaxTree}
 use Rattle.pipe_model.specs.Pipelines.Behaviour.{Action, accesses_in, closes_at_once, closes_loop}
 use Rattle.pipe_model.specs.Pipelines.ElisionResults.{ended_column}
-use Rattle.pipe_model.specs.Pipelines.SerialElision.{located, trace_events}
+use Rattle.pipe_model.specs.Pipelines.SerialElision.{located}
 use Rattle.pipe_model.specs.Pipelines.Store.{InitialStore}
 use Rattle.serial_elision.specs.declared.log.Log.{Log}
 use Rattle.serial_elision.specs.Recording.{IsWhole}
@@ -41,5 +40,4 @@ pub record PartRan (store : InitialStore) (before : List Access) (trace : List A
   pub column_is : column ≡ ended_column trace
   pub closes : column_closes column ≡ closes_loop trace
   pub accesses_are : now.accesses ≡ log.accesses ++ located i 0 trace
-  pub events_are : now.events ≡ log.events ++ (events.Begin i ∷ trace_events i trace)
   pub cells : IsStateAfter store (before ++ accesses_in trace) now.cells

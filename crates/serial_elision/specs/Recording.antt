@@ -1,10 +1,8 @@
 -- What a run has recorded of a stage instance.
-use Rattle.std.specs.Prelude.{◌≡◌, ◌++◌, ◌∷◌, [], ℕ, List, length, map, drop, Bool, false}
+use Rattle.std.specs.Prelude.{◌≡◌, ◌++◌, ◌∷◌, [], List, length, map, drop, Bool, false}
 use Rattle.cell_store.specs.ShardState.{IsStateAfter, ShardState}
 use Rattle.pipe_model.specs.declared.access.Access.{Access}
 use Rattle.pipe_model.specs.declared.access.NodeAccess.{NodeAccess}
-use Rattle.pipe_model.specs.declared.event.Event.{Event}
-use Rattle.pipe_model.specs.declared.event.Event.TheVariants as events
 use Rattle.pipe_model.specs.declared.node.NodeId.{NodeId}
 use Rattle.pipe_model.specs.Pipelines.Store.{HasReply, InitialStore}
 use Rattle.pipe_model.specs.Runs.State.{accesses_of}
@@ -13,10 +11,6 @@ use Rattle.serial_elision.specs.declared.log.Log.{Log}
 -- accesses of an instance
 abbrev pub placed : NodeId → List Access → List NodeAccess
 placed node accesses = map (λ a. record { node = node; access = a }) accesses
-
--- accesses of an iteration as events
-abbrev pub access_events : ℕ → List Access → List Event
-access_events i accesses = map (λ a. events.Access i a) accesses
 
 -- each read has the value of its cell at the time of the read
 abbrev pub HaveReplies : InitialStore → List Access → List Access → Type 0
@@ -35,7 +29,6 @@ made_since log now = accesses_of (drop (length log.accesses) now.accesses)
 -- an instance made these accesses since then, and each read had the value of its cell
 pub record Adds (node : NodeId) (log : Log) (accesses : List Access) (now : Log) : Type 0 where
   pub accesses_are : now.accesses ≡ log.accesses ++ placed node accesses
-  pub events_are : now.events ≡ log.events ++ access_events node.iteration accesses
   pub cells : (store : InitialStore) (before : List Access) → IsStateAfter store before log.cells
       → IsStateAfter store (before ++ accesses) now.cells
   pub replies : (store : InitialStore) (before : List Access) → IsStateAfter store before log.cells → HaveReplies store before accesses

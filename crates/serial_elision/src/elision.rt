@@ -4,7 +4,7 @@ ghost use Rattle.std.specs.Prelude.{◌≡◌, [], IfOk, is_some, false};
 ghost use Rattle.pipe_model.specs.Language.ProgramsOfTrees.{whole_of};
 ghost use Rattle.pipe_model.specs.Language.SyntaxTree.{tree_of};
 ghost use Rattle.pipe_model.specs.Pipelines.WholePrograms as whole_programs;
-ghost use Rattle.pipe_model.specs.Pipelines.WholePrograms.{init_trap, loop_accesses, loop_after_init, program_columns, program_log};
+ghost use Rattle.pipe_model.specs.Pipelines.WholePrograms.{init_trap, loop_accesses, loop_after_init, program_columns};
 ghost use Rattle.pipe_model.specs.Pipelines.WholePrograms.{program_output, program_trap};
 ghost use Rattle.stage_interp.specs.MachineState.{IsMadeFor};
 ghost use Rattle.stage_interp.specs.RemainingBehaviour.{IsCodeOf};
@@ -19,7 +19,6 @@ use crate::prepared::Prepared;
 use pipe_check::checked::Checked;
 use pipe_model::access::NodeAccesses;
 use pipe_model::column::Columns;
-use pipe_model::event::Events;
 use pipe_model::list::Numbers;
 use pipe_model::memory::NoMemory;
 use pipe_model::trap::{TrapAt, TrapPlace};
@@ -39,8 +38,6 @@ pub struct SerialRun {
     pub columns: Columns,
     /// The accesses of the loop with their stage instances, in the order in which they were made.
     pub accesses: NodeAccesses,
-    /// The events of the loop, in the order in which they happened.
-    pub events: Events,
 }
 
 // Runs `final` after a loop without a trap.
@@ -63,18 +60,13 @@ fn run_final(
         log,
         ..
     } = run;
-    let Log {
-        cells,
-        accesses,
-        events,
-    } = log;
+    let Log { cells, accesses } = log;
     if trap.is_some() {
         return Ok(SerialRun {
             output: cells.into_output(),
             trap,
             columns,
             accesses,
-            events,
         });
     }
     let last = run_alone(alloc, machine, prepared, Part::Last, TrapPlace::Last, cells)?;
@@ -83,7 +75,6 @@ fn run_final(
         trap: last.trap,
         columns,
         accesses,
-        events,
     })
 }
 
@@ -105,7 +96,6 @@ fn run_whole(
             trap: init.trap,
             columns: Columns::new(alloc),
             accesses: NodeAccesses::new(alloc),
-            events: Events::new(alloc),
         });
     }
     let run = run_loop(alloc, machine, prepared, init.cells)?;
@@ -130,7 +120,6 @@ pub fn run_serial(
     ensures trap { IfOk result (λ run. run.trap ≡ program_trap (whole_of (tree_of checked.now) input.now)) }
     ensures columns { IfOk result (λ run. run.columns ≡ program_columns (whole_of (tree_of checked.now) input.now)) }
     ensures accesses { IfOk result (λ run. run.accesses ≡ loop_accesses (whole_of (tree_of checked.now) input.now)) }
-    ensures events { IfOk result (λ run. run.events ≡ (program_log (whole_of (tree_of checked.now) input.now)).events) }
 {
     let prepared = Prepared {
         checked,

@@ -1,6 +1,6 @@
 //! The serial elision of a program: `init`, the iterations one after the other, each to its end,
-//! and `final`. The machine runs the code of the program over the cells, and accesses and events
-//! are recorded as they happen.
+//! and `final`. The machine runs the code of the program over the cells, and accesses are recorded
+//! as they happen.
 #![tactic(auto)]
 
 pub mod elision;

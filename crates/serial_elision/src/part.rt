@@ -3,7 +3,6 @@
 ghost use Rattle.std.specs.Prelude.{◌≡◌, ◌≤◌, ◌<◌, ◌++◌, ◌∷◌, ◌-◌, [], IfOk, List, length, map, pos};
 ghost use Rattle.cell_store.specs.ShardState.{IsStateAfter};
 ghost use Rattle.pipe_model.specs.declared.access.Access.{Access};
-ghost use Rattle.pipe_model.specs.declared.event.Event.TheVariants as events;
 ghost use Rattle.pipe_model.specs.Language.Programs.{natural, store_of};
 ghost use Rattle.pipe_model.specs.Language.SyntaxTree.{tree_of};
 ghost use Rattle.pipe_model.specs.Pipelines.SerialElision.{serial_trace};
@@ -18,8 +17,7 @@ ghost use Rattle.serial_elision.specs.PartRuns.{PartRan, Serves, longest_column}
 use crate::instance::{InstanceEnd, run_instance};
 use crate::log::Log;
 use crate::prepared::Prepared;
-use pipe_model::column::{Column, ColumnEnd};
-use pipe_model::event::Event;
+use pipe_model::column::Column;
 use pipe_model::list::Numbers;
 use pipe_model::memory::NoMemory;
 use pipe_model::node::{Kind, Node, NodeId, Nodes};
@@ -37,37 +35,6 @@ fn first_nodes(alloc: Global) -> Result<Nodes, NoMemory>
         kind: Kind::Zero,
     })?;
     Ok(nodes)
-}
-
-// Records that an iteration begins.
-fn begin(log: Log, iteration: u32) -> Result<Log, NoMemory>
-    ensures { IfOk result (λ now. now ≡ record log { events = log.events ++ events.Begin iteration ∷ [] }) }
-{
-    let mut now = log;
-    now.record_event(Event::Begin(iteration))?;
-    Ok(now)
-}
-
-// Records that an iteration names a next instance and enters it.
-fn enter(log: Log, iteration: u32, kind: Kind, number: i64) -> Result<Log, NoMemory>
-    ensures { IfOk result (λ now. now ≡ record log {
-      events = log.events ++ events.Advance iteration kind
-          number ∷ (events.Enter iteration ∷ []);
-    }) }
-{
-    let mut now = log;
-    now.record_event(Event::Advance(iteration, kind, number))?;
-    now.record_event(Event::Enter(iteration))?;
-    Ok(now)
-}
-
-// Records that an iteration ends.
-fn finish(log: Log, iteration: u32, end: ColumnEnd) -> Result<Log, NoMemory>
-    ensures { IfOk result (λ now. now ≡ record log { events = log.events ++ events.Finish iteration end ∷ [] }) }
-{
-    let mut now = log;
-    now.record_event(Event::Finish(iteration, end))?;
-    Ok(now)
 }
 
 // Returns the name of the last instance of an iteration.
@@ -114,22 +81,20 @@ pub fn run_part(
     machine.reset(part, iteration);
     let _limits = prepared.code.limits();
     let mut nodes = first_nodes(alloc)?;
-    let mut log = begin(log, iteration)?;
+    let mut log = log;
     loop {
         let node = last_node(iteration, &nodes);
         let (end, ran) = run_instance(machine, prepared, node, log)?;
+        log = ran;
         steps.push(machine.steps())?;
         match end {
-            InstanceEnd::Next(kind, number) => {
-                nodes.push(Node { number, kind })?;
-                log = enter(ran, iteration, kind, number)?;
-            }
+            InstanceEnd::Next(kind, number) => nodes.push(Node { number, kind })?,
             InstanceEnd::Ended(end) => {
                 let column = Column {
                     nodes,
                     end: Some(end),
                 };
-                return Ok((column, finish(ran, iteration, end)?));
+                return Ok((column, log));
             }
         }
     }

@@ -23,7 +23,6 @@ impl Beginning for Brand {
     ghost log = { record {
       cells = record { shard = record { number = 0; shards = 1; cells = 0; output_limit = 0 }; values = []; output = [] };
       accesses = [];
-      events = [];
     } };
 
     ghost node = { record { iteration = 0; index = 0 } };

@@ -20,12 +20,11 @@ use Rattle.pipe_model.specs.Races.Columns.{at}
 use Rattle.pipe_model.specs.Runs.Allowed.{Allowed, IsRunning}
 use Rattle.pipe_model.specs.Runs.NextEvents.{event_of_behaviour, next_event}
 use Rattle.pipe_model.specs.Runs.State.{Frame, State, accesses_of, current_index, frame_at, next_state, update_frame, with_action}
-use Rattle.frame_book.specs.BookStates.{item_or, left_of, pipeline_in, replies_at, state_of}
+use Rattle.frame_book.specs.BookStates.{item_or, left_of, pipeline_in, replies_at}
 use Rattle.schedule_laws.proofs.AllowedEvents.{allowed_events_are_next, event_at_running}
 use Rattle.schedule_laws.proofs.ControlOutlines.{accesses_change_no_outline}
 use Rattle.order_2d.proofs.EventsSoFar.{without-append}
 use Rattle.run_laws.proofs.Iterations.PerformedActions.{behaviour_after_all-push}
-use Rattle.run_laws.proofs.LogMerge.ControlPart.{same_frame}
 use Rattle.run_laws.proofs.RunStates.FrameMoves.{frame_at_moved}
 use Rattle.run_laws.proofs.RunStates.Frames.{frame_at_within, length-update_frame}
 use Rattle.stage_code.specs.FlatCode.{FlatCode}
@@ -33,7 +32,7 @@ use Rattle.schedule_play.specs.RunningIterations.{RunningIterationState, IsRunni
 use Rattle.schedule_play.specs.PlayStates.{FitsStatus, IsPlay, IsRunningAt, PlayState, pipeline_played, run_state}
 use Rattle.schedule_play.specs.RunningInstances.{next_of}
 use Rattle.schedule_play.proofs.Playing.Outlines.{schedule_of_control}
-use Rattle.schedule_play.proofs.Playing.Steps.{played_on, same_control}
+use Rattle.schedule_play.proofs.Playing.Steps.{played_on}
 
 module _ (code : FlatCode) (cells : ℕ) (v : PlayState) (h : IsPlay code cells v) (i : ℕ) (f : Frame)
     (is : frame_at (run_state v).frames i ≡ Some f)
@@ -64,20 +63,6 @@ module _ (code : FlatCode) (cells : ℕ) (v : PlayState) (h : IsPlay code cells 
 
   pub within : i < length v.running
   within = let a = frame_at_within s.frames i f is in let b = h.running.count in omega (arith, a, b)
-
-  -- the token's index is the index of the last instance
-  pub index_here : k.token.index ≡ current_index (frame_at s.frames i)
-  index_here =
-      let there = same_frame (state_of v.book).frames s.frames i f (sym (same_control code cells v h).frames) is in
-      let token = fits.out.token in
-      let mine : frame_at (state_of v.book).frames i ≡ Some token.running.frame =
-      subst (λ j. frame_at (state_of v.book).frames j ≡ Some token.running.frame) fits.iteration token.running.is in
-      let one : Some there.frame ≡ Some token.running.frame = sym there.is ∙ mine in
-      let same : there.frame ≡ token.running.frame = cc in
-      let nodes : token.running.frame.nodes ≡ f.nodes = ap (λ (g : Frame). g.nodes) (sym same) ∙ there.nodes in
-      let long : length f.nodes ≡ suc k.token.index = ap length (sym nodes) ∙ token.index in
-      let here : current_index (frame_at s.frames i) ≡ length f.nodes - 1 = ap current_index is in
-      omega (arith, long, here)
 
   -- ---- an access
 
@@ -133,22 +118,18 @@ module _ (code : FlatCode) (cells : ℕ) (v : PlayState) (h : IsPlay code cells 
           subst (FitsStatus code cells v.book j g.status g.trace) (sym slot) (h.running.each j g other.1))
     ]
 
-    abbrev made : List NodeAccess
-    made = v.accesses ++ record { node = record { iteration = k.token.iteration; index = k.token.index }; access = a } ∷ []
-
     pub accessed_on : IsStateAfter p.store (before ++ a ∷ []) cells' → cells'.shard ≡ v.cells.shard
         → IsPlay code cells (record v {
           running = set v.running i (Some k');
           cells = cells';
           events =
               v.events ++ Access i a ∷ [];
-          accesses = made;
         })
     accessed_on state shard =
         let allowed = allowed_here (Access i a) (λ e. absurd (cc)) next in
         let long = length-update_frame s.frames i u in
         played_on code cells v h (Access i a) allowed h.going v.book.log v.book.traces v.book.tokens v.schedule
-        (set v.running i (Some k')) cells' made
+        (set v.running i (Some k')) cells'
         (h.log ∙ sym (Rattle.std.proofs.Common.append-nil (Rattle.pipe_model.specs.Runs.ControlParts.without_accesses v.events))
         ∙ sym (without-append v.events (Access i a ∷ [])))
         (schedule_of_control (next_state s (Access i a)) s v.schedule (accesses_change_no_outline s i a running) h.schedule)
@@ -168,9 +149,6 @@ module _ (code : FlatCode) (cells : ℕ) (v : PlayState) (h : IsPlay code cells 
               ap (λ (x : Rattle.cell_store.specs.ShardState.Shard). x.number) shard ∙ h.all.number;
         })
         (ap (λ (x : Rattle.cell_store.specs.ShardState.Shard). x.cells) shard ∙ h.count)
-        (ap (λ l. l ++ record { node = record { iteration = k.token.iteration; index = k.token.index }; access = a } ∷ []) h.accesses
-        ∙ ap (λ (n : Rattle.pipe_model.specs.declared.node.NodeId.NodeId). s.accesses ++ record { node = n; access = a } ∷ [])
-        (Rattle.std.proofs.Common.ap₂ at fits.iteration index_here))
 
 -- ---- the results of the player's calls
 
@@ -207,7 +185,6 @@ pub access_made : (code : FlatCode) (cells : ℕ) (v : PlayState) (h : IsPlay co
       running = set v.running i (Some k');
       cells = cells';
       events = v.events ++ Access i a ∷ [];
-      accesses = v.accesses ++ record { node = record { iteration = k'.token.iteration; index = k'.token.index }; access = a } ∷ [];
     })
 access_made code cells v h i r k kept input same a k' cells' instance event token trace state shard =
     let p = pipeline_played v in
@@ -226,16 +203,8 @@ access_made code cells v h i r k kept input same a k' cells' instance event toke
     let low : length v.events + 1 ≤ 2 ^ 62 + length v.book.log = (let short = (h.short v.events s h.run h.going).0 in omega (arith, short))
     in
     let now : IsRunningIteration code cells tree v.book.input replies k' = subst (λ l. IsRunningIteration code cells tree l replies k')
-    same (instance tree replies mine) in
-    let node : record { iteration = k.token.iteration; index = k.token.index }
-    ≡ record { iteration = k'.token.iteration; index = k'.token.index } =
-    ap (λ (t : TokenFields). record { iteration = t.iteration; index = t.index }) (sym token) in (
+    same (instance tree replies mine) in (
       next,
-      subst (λ n. IsPlay code cells (record v {
-        running = set v.running i (Some k');
-        cells = cells';
-        events = v.events ++ Access i a ∷ [];
-        accesses = v.accesses ++ record { node = n; access = a } ∷ [];
-      })) node (accessed_on code cells v h i r.frame r.is r.runs k kept a (length v.events + 1) k' cells' next token low now trace
-          (state p.store before h.state) shard),
+      accessed_on code cells v h i r.frame r.is r.runs k kept a (length v.events + 1) k' cells' next token low now trace
+          (state p.store before h.state) shard,
     )

@@ -51,7 +51,6 @@ pub new_play : (code : FlatCode) (tree : SyntaxTree) (input : List ℤ) (limit :
       cells =
           cells;
       events = [];
-      accesses = [];
     })
 new_play code tree input limit program cells schedule accepted ranges same state all bounded scheduled limited =
     subst (λ (x : SyntaxTree). BreaksNoRule x → HasRangesOfLimits x.limits → IsStateAfter (store_of x)
@@ -63,7 +62,6 @@ new_play code tree input limit program cells schedule accepted ranges same state
       cells =
           cells;
       events = [];
-      accesses = [];
     }))
     same here accepted ranges state
   where
@@ -76,7 +74,6 @@ new_play code tree input limit program cells schedule accepted ranges same state
           cells =
               cells;
           events = [];
-          accesses = [];
         })
     here accepted ranges state =
         let well = accepted_is_well_formed (tree_of program) input accepted in
@@ -95,5 +92,4 @@ new_play code tree input limit program cells schedule accepted ranges same state
           all = all;
           count = refl;
           bounded = bounded;
-          accesses = refl;
         }

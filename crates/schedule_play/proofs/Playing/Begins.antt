@@ -132,7 +132,7 @@ module _ (code : FlatCode) (cells : ℕ) (v : PlayState) (h : IsPlay code cells 
         let c = h.running.count in
         let a = h.running.traces in
         let b = h.running.tokens in
-        played_on code cells v h (Begin i) allowed h.going log traces tokens schedule (v.running ++ Some k ∷ []) v.cells v.accesses
+        played_on code cells v h (Begin i) allowed h.going log traces tokens schedule (v.running ++ Some k ∷ []) v.cells
         (logged code cells v h (Begin i) log refl log_is) scheduled limited
         (record {
           count = length_push v.running (Some k) ∙ ap (λ m. m + 1) c ∙ sym long;
@@ -140,7 +140,7 @@ module _ (code : FlatCode) (cells : ℕ) (v : PlayState) (h : IsPlay code cells 
           tokens = length_push v.book.tokens Out ∙ ap (λ m. m + 1) b ∙ sym long;
           each = each;
         })
-        h.state h.all h.count h.accesses
+        h.state h.all h.count
 
 -- ---- the results of the player's calls
 

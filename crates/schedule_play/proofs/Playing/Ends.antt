@@ -157,7 +157,6 @@ module _ (code : FlatCode) (cells : ℕ) (v : PlayState) (h : IsPlay code cells 
         let long = length-update_frame s.frames i u in
         let accesses : (next_state s e).accesses ≡ s.accesses = ap (λ (y : State). y.accesses) moves in
         played_on code cells v h e allowed (ap (λ (y : State). y.stopped) moves ∙ h.going) log traces tokens schedule running v.cells
-        v.accesses
         (logged code cells v h e log quiet log_is) scheduled limited
         (subst (λ (fs : List Frame). KeepsRunning code cells (record v.book { log = log; traces = traces; tokens = tokens }) fs running)
         (sym same_frames) (record {
@@ -168,7 +167,7 @@ module _ (code : FlatCode) (cells : ℕ) (v : PlayState) (h : IsPlay code cells 
           each = each;
         }))
         (subst (λ l. IsStateAfter p.store (p.preamble ++ accesses_of l) v.cells) (sym accesses) h.state)
-        h.all h.count (h.accesses ∙ sym accesses)
+        h.all h.count
 
   -- ---- the cases
 

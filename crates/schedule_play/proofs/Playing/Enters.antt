@@ -105,7 +105,7 @@ module _ (code : FlatCode) (cells : ℕ) (v : PlayState) (h : IsPlay code cells 
     entered_on schedule scheduled limited =
         let long = length-update_frame s.frames i u in
         played_on code cells v h (Enter i) enter_allowed h.going log v.book.traces tokens schedule
-        (set v.running i (Some k)) v.cells v.accesses
+        (set v.running i (Some k)) v.cells
         (logged code cells v h (Enter i) log refl log_is) scheduled limited
         (record {
           count = length-set v.running i (Some k) ∙ h.running.count ∙ sym long;
@@ -113,7 +113,7 @@ module _ (code : FlatCode) (cells : ℕ) (v : PlayState) (h : IsPlay code cells 
           tokens = length-set v.book.tokens i Out ∙ h.running.tokens ∙ sym long;
           each = each;
         })
-        h.state h.all h.count h.accesses
+        h.state h.all h.count
 
 -- ---- the results of the player's calls
 

@@ -4,7 +4,6 @@ use Rattle.std.proofs.Common.{Some, None}
 use Rattle.cell_store.specs.ShardState.{IsStateAfter, ShardState}
 use Rattle.pipe_frame.specs.Replies.{accessed, after_instances, replies_of}
 use Rattle.pipe_frame.specs.TokenFields.{TokenFields}
-use Rattle.pipe_model.specs.declared.access.NodeAccess.{NodeAccess}
 use Rattle.pipe_model.specs.declared.event.Event.{Event}
 use Rattle.pipe_model.specs.declared.status.Status.{Status}
 use Rattle.pipe_model.specs.declared.status.Status.TheVariants.{Running, Pending, Completed}
@@ -128,13 +127,12 @@ module _ (code : FlatCode) (cells : ℕ) (v : PlayState) (h : IsPlay code cells 
     still_short = h.short (v.events ++ e ∷ []) (next_state s e) run going
 
     pub played_on : (log : List BookEntry) (traces : List (List (List Entry))) (tokens : List TokenState) (schedule : ScheduleState)
-        (running : List (Option RunningIterationState)) (cells' : ShardState) (accesses : List NodeAccess)
+        (running : List (Option RunningIterationState)) (cells' : ShardState)
         → events_of log ≡ without_accesses (v.events ++ e ∷ [])
         → IsScheduleOf (next_state s e) schedule → schedule.limit ≡ limit
         → KeepsRunning code cells (with_book log traces tokens) (next_state s e).frames running
         → IsStateAfter p.store (p.preamble ++ accesses_of (next_state s e).accesses) cells' → HasAllCells cells'
         → cells'.shard.cells ≡ cells
-        → accesses ≡ (next_state s e).accesses
         → IsPlay code cells (record {
           book = with_book log traces tokens;
           schedule = schedule;
@@ -142,9 +140,8 @@ module _ (code : FlatCode) (cells : ℕ) (v : PlayState) (h : IsPlay code cells 
           cells = cells';
           events =
               v.events ++ e ∷ [];
-          accesses = accesses;
         })
-    played_on log traces tokens schedule running cells' accesses logged scheduled limited kept state all count made = record {
+    played_on log traces tokens schedule running cells' logged scheduled limited kept state all count = record {
       proper = h.proper;
       short = h.short;
       run = subst (Run p limit (v.events ++ e ∷ [])) (sym after) run;
@@ -158,7 +155,6 @@ module _ (code : FlatCode) (cells : ℕ) (v : PlayState) (h : IsPlay code cells 
       all = all;
       count = count;
       bounded = h.bounded;
-      accesses = made ∙ sym (ap (λ (x : State). x.accesses) after);
     }
 
   -- the log of an event that is no access

@@ -1,7 +1,8 @@
-use Rattle.std.proofs.Common.{◌≡◌, ◌∙◌, ap, arith, length, sym}
+use Rattle.std.proofs.Common.{◌≡◌, ◌∙◌, ap, arith, length}
 use Rattle.order_2d.specs.LogStarts.{log_columns, log_starts, nodes_of_columns}
 use Rattle.race_detection.specs.NotedRuns.{found_below}
 use Rattle.race_detection.specs.FoundReports.{cell_bound}
+use Rattle.race_detection.specs.LogAccesses.{log_accesses}
 use Rattle.race_detection.proofs.CellBounds.{cells_below}
 use Rattle.race_detection.proofs.FoundRaces.{all_detected, found_apart, found_inside}
 use Rattle.race_detection.proofs.NotedCells.{count_of_nothing, none_noted}
@@ -17,9 +18,8 @@ pub note_all-requires-clause-cells : goal.note_all-requires-clause-cells
 note_all-requires-clause-cells c = λ k d w.
     let count : length c.in_ok-histories.histories.items ≡ c.cell_bound.result = ap length c.in_ok-histories.ensures
     ∙ count_of_nothing c.cell_bound.result in
-    let bound : c.cell_bound.result ≡ cell_bound c.as_slice-2.result.now = c.cell_bound.ensures.bound
-    ∙ ap cell_bound (c.as_slice.ensures ∙ sym c.as_slice-2.ensures) in
-    let below = cells_below c.as_slice-2.result.now k d w in
+    let bound = c.cell_bound.ensures.bound in
+    let below = cells_below (log_accesses c.as_slice-events.result.now) k d w in
     omega (arith, count, bound, below)
 
 pub note_all-requires-clause-empty : goal.note_all-requires-clause-empty
@@ -30,34 +30,33 @@ pub found_races-requires : goal.found_races-requires
 found_races-requires c =
     let count : length c.in_ok-histories.histories.items ≡ c.cell_bound.result = ap length c.in_ok-histories.ensures
     ∙ count_of_nothing c.cell_bound.result in
-    let kept = c.note_all.ensures.count in
-    let here = ap length c.as_slice-3.ensures.value in
+    let kept = c.in_ok-note_all.ensures.count in
+    let here = ap length c.as_slice.ensures.value in
     let small = c.cell_bound.ensures.small in
     omega (arith, count, kept, here, small)
 
 pub gather-requires-clause-cells : goal.gather-requires-clause-cells
 gather-requires-clause-cells c =
-    found_apart c.as_slice-3.result.now (length c.as_slice-3.result.now) c.as_slice-4.result.now
-    (c.as_slice-4.ensures.value ∙ c.in_ok-found.ensures)
+    found_apart c.as_slice.result.now (length c.as_slice.result.now) c.as_slice-2.result.now
+    (c.as_slice-2.ensures.value ∙ c.in_ok-found.ensures)
 
 pub gather-requires-clause-instances : goal.gather-requires-clause-instances
 gather-requires-clause-instances c =
-    let same = c.as_slice-3.ensures.value in
-    found_inside (nodes_of_columns c.args.run_log.now.columns) c.in_ok-replay.field-0.nodes c.as_slice-2.result.now
-    c.note_all.new.histories.items
-    c.as_slice-4.result.now c.note_all.ensures.noted
-    (c.as_slice-4.ensures.value ∙ c.in_ok-found.ensures ∙ ap (λ hs. found_below hs (length hs)) same)
+    let same = c.as_slice.ensures.value in
+    found_inside (nodes_of_columns c.args.run_log.now.columns) c.in_ok-replay.field-0.nodes
+    (log_accesses c.as_slice-events.result.now) c.note_all.new.histories.items c.as_slice-2.result.now c.in_ok-note_all.ensures.noted
+    (c.as_slice-2.ensures.value ∙ c.in_ok-found.ensures ∙ ap (λ hs. found_below hs (length hs)) same)
 
 pub returns : goal.returns
 returns c =
-    let same = c.as_slice-3.ensures.value in
+    let same = c.as_slice.ensures.value in
+    let events = c.args.run_log.now.events in
+    let logged = ap log_accesses c.as_slice-events.ensures in
     let count : length c.in_ok-histories.histories.items ≡ c.cell_bound.result = ap length c.in_ok-histories.ensures
     ∙ count_of_nothing c.cell_bound.result in
-    all_detected (nodes_of_columns c.args.run_log.now.columns) (log_columns c.args.run_log.now.events) c.in_ok-replay.field-0.nodes
-    (log_starts c.args.run_log.now.events) c.as_slice-2.result.now c.args.accesses.now c.note_all.new.histories.items
-    (cell_bound c.args.accesses.now)
-    c.as_slice-4.result.now c.gather.result c.note_all.ensures.noted
-    (c.as_slice-4.ensures.value ∙ c.in_ok-found.ensures ∙ ap (λ hs. found_below hs (length hs)) same)
-    c.requires.own.columns c.in_ok-replay.ensures.nodes c.as_slice-2.ensures
-    (c.note_all.ensures.count ∙ count ∙ c.cell_bound.ensures.bound ∙ ap cell_bound c.as_slice.ensures) c.gather.ensures.each
-    c.gather.ensures.rise
+    all_detected (nodes_of_columns c.args.run_log.now.columns) (log_columns events) c.in_ok-replay.field-0.nodes (log_starts events)
+    (log_accesses c.as_slice-events.result.now) (log_accesses events) c.note_all.new.histories.items (cell_bound (log_accesses events))
+    c.as_slice-2.result.now c.gather.result c.in_ok-note_all.ensures.noted
+    (c.as_slice-2.ensures.value ∙ c.in_ok-found.ensures ∙ ap (λ hs. found_below hs (length hs)) same)
+    c.requires.own.columns c.in_ok-replay.ensures.nodes logged
+    (c.in_ok-note_all.ensures.count ∙ count ∙ c.cell_bound.ensures.bound ∙ ap cell_bound logged) c.gather.ensures.each c.gather.ensures.rise

@@ -15,7 +15,7 @@ returns-then-is_some c =
     let whole = trapped_in_init w c.into_output.result c.in_ok-init.init.trap (c.in_ok-init.ensures.trap [] begun) some
     (c.into_output.ensures.output w.loop.store (init_accesses w) (c.in_ok-init.ensures.state [] begun)
     (has_output c.in_ok-init.init.cells c.in_ok-init.ensures.serves.whole)) in
-    rw (c.new.ensures, c.new-then-is_some.ensures, c.new-then-is_some-2.ensures) whole
+    rw (c.new.ensures, c.new-then-is_some.ensures) whole
 
 pub run_final-requires-clause-no_trap : goal.run_final-requires-clause-no_trap
 run_final-requires-clause-no_trap c =

@@ -22,7 +22,7 @@ loop-iteration-init c =
     record {
       elided = subst (λ n. Elided p n 0 c.new-columns.result None log) all (subst (λ l. Elided p (p.last_iteration + 1) 0 l None log)
           (sym c.new-columns.ensures)
-          (elided_none p log (ap (λ (l : Log). l.accesses) begun) (ap (λ (l : Log). l.events) begun)
+          (elided_none p log (ap (λ (l : Log). l.accesses) begun)
           (subst (λ (l : Log). IsStateAfter p.store p.preamble l.cells) (sym begun) c.requires.state)));
       counted = subst (λ n. StepsSoFar tree c.args.prepared.now.input.now p n 0 log c.new-steps.result) all
           (subst (λ l. StepsSoFar tree c.args.prepared.now.input.now p (p.last_iteration + 1) 0 log l) (sym c.new-steps.ensures)

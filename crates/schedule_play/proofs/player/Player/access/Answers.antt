@@ -91,7 +91,6 @@ returns-clause-play g c =
       cells =
           inside.cells;
       events = inside.events;
-      accesses = inside.accesses;
     } in
     let h = subst (IsPlay code cells) (sym c.self.view_is) c.requires.play in
     let i = c.args.iteration in
@@ -108,12 +107,7 @@ returns-clause-play g c =
     ensured.fields)
     (subst (λ n. c.access.new.self.trace ≡ c.in-Some.running.trace ++ record { ticket = n + 1; access = c.in_ok-access.access } ∷ [])
     ticket ensured.trace) ensured.state ensured.shard in
-    rw (
-      set-set inside.running.items i c.take.new.self (Some c.access.new.self),
-      c.in_ok-push-2.ensures.ok,
-      c.in_ok-push.ensures.ok,
-      c.node-node.ensures,
-    ) made.1
+    rw (set-set inside.running.items i c.take.new.self (Some c.access.new.self), c.in_ok-push.ensures.ok) made.1
 
 pub returns-clause-event : goal.returns-clause-event
 returns-clause-event g c = λ e next.
@@ -127,7 +121,6 @@ returns-clause-event g c = λ e next.
       cells =
           inside.cells;
       events = inside.events;
-      accesses = inside.accesses;
     } in
     let h = subst (IsPlay code cells) (sym c.self.view_is) c.requires.play in
     let i = c.args.iteration in
@@ -146,4 +139,4 @@ returns-clause-event g c = λ e next.
     ticket ensured.trace) ensured.state ensured.shard in
     let there = subst (λ (x : PlayState). next_event (pipeline_played x) (run_state x) i ≡ Some e) (sym c.self.view_is) next in
     let same : events.Access i c.in_ok-access.access ≡ e = (let q = sym made.0 ∙ there in cc) in
-    c.in_ok-push-2.ensures.ok ∙ (ap (λ x. inside.events ++ x ∷ []) same ∙ ap (λ (x : PlayState). x.events ++ e ∷ []) c.self.view_is)
+    c.in_ok-push.ensures.ok ∙ (ap (λ x. inside.events ++ x ∷ []) same ∙ ap (λ (x : PlayState). x.events ++ e ∷ []) c.self.view_is)

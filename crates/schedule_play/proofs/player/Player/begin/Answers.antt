@@ -44,7 +44,6 @@ returns-clause-play g c =
       cells =
           inside.cells;
       events = inside.events;
-      accesses = inside.accesses;
     } in
     let h = subst (IsPlay code cells) (sym c.self.view_is) c.requires.play in
     let next = subst (λ (x : PlayState). next_begin x.book.limit (run_state x) ≡ Some c.requires.next.0)
@@ -72,7 +71,6 @@ returns-clause-event g c = λ e is.
       cells =
           inside.cells;
       events = inside.events;
-      accesses = inside.accesses;
     } in
     let h = subst (IsPlay code cells) (sym c.self.view_is) c.requires.play in
     let next = subst (λ (x : PlayState). next_begin x.book.limit (run_state x) ≡ Some c.requires.next.0)

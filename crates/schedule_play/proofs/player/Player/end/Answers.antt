@@ -91,7 +91,6 @@ returns-clause-play g c =
       cells =
           inside.cells;
       events = inside.events;
-      accesses = inside.accesses;
     } in
     let h = subst (IsPlay code cells) (sym c.self.view_is) c.requires.play in
     let i = c.args.iteration in
@@ -120,7 +119,6 @@ returns-clause-event g c = λ e next.
       cells =
           inside.cells;
       events = inside.events;
-      accesses = inside.accesses;
     } in
     let h = subst (IsPlay code cells) (sym c.self.view_is) c.requires.play in
     let i = c.args.iteration in

@@ -18,4 +18,4 @@ returns-clause-play g c =
     let play = new_play code tree c.args.input.now c.args.throttle book.program c.args.cells schedule accepted ranges
     c.in_ok-open_book.ensures.tree
     c.requires.state c.requires.all c.requires.bounded c.in_ok-new.ensures.empty c.in_ok-new.ensures.limit in
-    rw (c.in_ok-open_book.ensures.book, c.new-2.ensures.items, c.new-3.ensures, c.new-4.ensures, ← c.requires.cells) play
+    rw (c.in_ok-open_book.ensures.book, c.new-2.ensures.items, c.new-3.ensures, ← c.requires.cells) play

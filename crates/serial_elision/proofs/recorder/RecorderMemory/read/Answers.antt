@@ -16,9 +16,8 @@ invariant_of-self-else-not-record_access g c =
     let is = c.self.invariant in
     let fits : SFits w64 c.read-value.result = search rules in
     let accesses = simp to_z-of_z at c.if-not-record_access.ensures.accesses in
-    let events = simp to_z-of_z at c.if-not-record_access.ensures.events in
     let adds = subst (λ (x : NodeId). Adds x log (made_since log was) was) (sym is.node_is) (is.adds c.if-self.false) in
-    let more = adds_more log was now c.self.inside.node (read_access c.args.cell.0 c.read-value.result) adds accesses events
+    let more = adds_more log was now c.self.inside.node (read_access c.args.cell.0 c.read-value.result) adds accesses
     (λ store before state. rw c.record_access.ensures.cells (c.read-value.ensures.state store before state))
     (λ store before state kind. c.read-value.ensures.value store before state) in
     record {

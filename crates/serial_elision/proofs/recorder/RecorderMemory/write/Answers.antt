@@ -16,12 +16,11 @@ invariant_of-self-2 g c =
     let is = c.self.invariant in
     let fits : SFits w64 c.args.value = c.ranges.value in
     let accesses = simp to_z-of_z at c.if-not-record_access.ensures.accesses in
-    let events = simp to_z-of_z at c.if-not-record_access.ensures.events in
     let cells = c.record_access.ensures.cells in
     let shard = c.write.ensures.shard ∙ ap (λ (s : ShardState). s.shard) cells in
     let written = simp to_z-of_z at c.write.ensures.state in
     let adds = subst (λ (x : NodeId). Adds x log (made_since log was) was) (sym is.node_is) (is.adds c.if-self.false) in
-    let more = adds_more log was now c.self.inside.node (write_access c.args.cell.0 c.args.value) adds accesses events
+    let more = adds_more log was now c.self.inside.node (write_access c.args.cell.0 c.args.value) adds accesses
     (λ store before state. written store before (rw cells state)) (λ store before state kind. absurd (cc (kind))) in
     record {
       node_is = is.node_is;
