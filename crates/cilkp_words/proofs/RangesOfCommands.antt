@@ -1,5 +1,6 @@
 -- The numbers of every command that words ask for are within their ranges.
-use Rattle.std.proofs.Common.{◌≡◌, ◌≤◌, ◌*◌, refl, subst, option_map, ℕ, Bool, true, false, List, Option, Some, IfSome, arith, codes, option_and_then, None}
+use Rattle.std.proofs.Common.{◌≡◌, ◌≤◌, ◌*◌, refl, subst, option_map, ℕ, Bool, true}
+use Rattle.std.proofs.Common.{false, List, Option, Some, IfSome, arith, codes, option_and_then, None}
 use Rattle.std.proofs.Common.{if◌then◌else◌}
 use Rattle.std.proofs.lemmas.Bool.Decides.{nat_tests}
 use Rattle.std.proofs.lemmas.Option.{same_Some}
