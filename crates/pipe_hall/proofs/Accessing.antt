@@ -24,19 +24,21 @@ use Rattle.access_history.specs.declared.history.History.{History}
 use Rattle.access_history.specs.declared.history.MarkedNode.{MarkedNode}
 use Rattle.access_history.specs.KeptInstances.{KeptAreIn}
 use Rattle.om_shared.proofs.SeenLogs.{log_prefix}
-use Rattle.pipe_hall.specs.SeatViews.{HallConstants, InstanceData, SeatView, ShardValue, constants_of}
+use Rattle.pipe_hall.specs.SeatViews.{HallConstants, InstanceData, SeatView, ShardValue, TheShard, constants_of}
 use Rattle.pipe_hall.specs.Logs.{entry_of}
-use Rattle.pipe_hall.specs.Steps.{ShardSnapshot, after_entries, after_log}
+use Rattle.pipe_hall.specs.Steps.{ShardSnapshot, ViewAndSlots, after_entries, after_log, after_shard, holding}
 use Rattle.atomic_table.specs.Seated.{TableId}
-use Rattle.pipe_hall.specs.HallRule.{view_of}
+use Rattle.pipe_hall.specs.HallRule.{place, view_of}
 use Rattle.pipe_frame.specs.SeatedTokens.{IsSeated, entries_of_seat, replies_of_seat}
+use Rattle.pipe_hall.specs.WorkerSeats.{name_of}
 use Rattle.pipe_hall.specs.InstanceSeats.{badge_view, is_instance_badge, seat_of}
 use Rattle.pipe_hall.specs.Lending.{seat_in}
 use Rattle.pipe_hall.specs.declared.run_seat.RunSeat.{RunSeat}
 use Rattle.pipe_frame.specs.HallViews.{IsSameInstance, SameSeat, identities_of}
 use Rattle.pipe_hall.specs.SeatAccesses.{TraceAfter, now_after, ran, run_more, seat_done, seat_more, tie_after}
 use Rattle.pipe_hall.specs.declared.view.View.{View}
-use Rattle.pipe_hall.proofs.Seating.{is_badge, instance_badge}
+use Rattle.pipe_hall.specs.declared.slot.Slot.TheVariants as slots
+use Rattle.pipe_hall.proofs.Seating.{is_badge, instance_badge, lent_shard}
 use Rattle.pipe_hall.proofs.Sharding.{run_accessed}
 use Rattle.pipe_hall.specs.Accesses.{CanBegin, GrowLists, IsMade, IsMadeNow, MadeBy, next_ticket}
 use Rattle.pipe_hall.specs.ShardParts.{down_list, right_list}
@@ -115,6 +117,13 @@ can_begin v i x c a t knows l slot =
           (h.histories (c / 16)).kept;
     }
 
+-- the same, by the name of the hall
+pub can_begin_in : (z : TableId) (v : SeatView) (x y : ShardValue) (c : ℕ) (a : HallConstants) → ShardSnapshot v (1 + c % 16) x
+    → v.constants ≡ Some a → c < length (store_of (name_of z v.constants).tree).values → y ≡ x → CanBegin y c
+can_begin_in z v x y c a t knows l same =
+    can_begin v (1 + c % 16) y c a (subst (ShardSnapshot v (1 + c % 16)) (sym same) t) knows
+    (subst (λ (h : HallName). c < length (store_of h.tree).values) (ap (name_of z) knows) l) refl
+
 -- the token's passes see the lists of the shard's
 pub same_lists : (v : SeatView) (i : ℕ) (x : ShardValue) (a : HallConstants) (l : SeenLists) → ShardSnapshot v i x → v.constants ≡ Some a
     → AreSeenLists (Some l) a.lists.down a.lists.right
@@ -150,6 +159,22 @@ run_same (Some d) l = ap (λ es. Some (after_entries d es)) (drop_all l)
 run_one : (o : Option InstanceData) (l : List ShardEntry) (e : ShardEntry) → after_log o l (l ++ e ∷ []) ≡ run_more o (entry_of e)
 run_one None l e = refl
 run_one (Some d) l e = ap (λ es. Some (after_entries d es)) (drop_more l e)
+
+-- a shard that was taken and lent, and is given back as it was
+view_again : (v : SeatView) (i : ℕ) (x : ShardValue) → v.held ≡ [] → after_shard (holding v i (TheShard x)) x x ≡ v
+view_again v i x held =
+    let none = sym held in
+    λ j. record { constants = v.constants; seen = v.seen; met = v.met; run = run_same v.run x.log j; held = none j; tokens = v.tokens }
+
+module _ (M : Type 0) (m n : ViewAndSlots M) (i : ℕ) (x y : ShardValue) (none_held : m.0.it.held ≡ []) (none_out : m.1 ≡ []) (lent : y ≡ x)
+    (taken : n ≡ (view_of (holding m.0.it i (TheShard x)), (place i, slots.Out) ∷ m.1)) where
+  pub given_back : (z : ViewAndSlots M)
+      → ((w : ShardValue) → n.0.it.held ≡ (i, TheShard w) ∷ [] → z ≡ (view_of (after_shard n.0.it w y), [])) → z ≡ m
+  given_back z given =
+      let t = lent_shard M m n i x y lent taken in
+      given y (ap (λ (k : ViewAndSlots M). k.0.it.held) t ∙ ap (λ hs. (i, TheShard y) ∷ hs) none_held)
+      ∙ (ap (λ (k : ViewAndSlots M). (view_of (after_shard k.0.it y y), [])) t
+      ∙ (ap (λ v. (view_of v, [])) (view_again m.0.it i y none_held) ∙ ap (λ cs. (m.0, cs)) (sym none_out)))
 
 module _ (who : MarkedNode) (f : TokenFields) (is : who ≡ record { node = at f.iteration f.index; marks = f.marks }) (now joined c : ℕ)
     (same_now : now ≡ f.now) (same_joined : joined ≡ f.joined) (write : Option ℤ) (x y : ShardValue) (old new : List Entry) where

@@ -25,8 +25,8 @@ use Rattle.frame_book.specs.CallEffects.{after_advance, after_begin, after_rescu
 use Rattle.pipe_hall.specs.BookCalls.{IsBookCall}
 use Rattle.pipe_hall.specs.HallRule.{view_of}
 use Rattle.pipe_hall.specs.SeatViews.{HallConstants, InstanceData, TheBook, constants_of}
-use Rattle.pipe_hall.specs.Steps.{BookSnapshot, ViewAndSlots, after_book, holding}
-use Rattle.pipe_hall.specs.WorkerSeats.{HasTaken, IsDataOf, IsIdle, StaysIdle, counts_with, name_of}
+use Rattle.pipe_hall.specs.Steps.{BookSnapshot, ViewAndSlots, after_book, holding, worker_seat}
+use Rattle.pipe_hall.specs.WorkerSeats.{HasTaken, HoldsBook, IsDataOf, IsIdle, StaysIdle, counts_with, name_of}
 use Rattle.pipe_hall.specs.declared.slot.Slot.TheVariants as slots
 use Rattle.pipe_hall.proofs.BookCalls.{events_stamped, unchanged_call}
 use Rattle.pipe_hall.proofs.EndingCalls.{ends_not_stopped, finishes, holds_back, waits_not_stopped}
@@ -56,6 +56,17 @@ module _ (M : Type 0) (m k n : ViewAndSlots M) (b : BookState) (back : Option In
     control = shot.control;
     tokens = shot.tokens;
     traces = shot.traces;
+  }
+
+-- by a further worker's seat, to which it is lent
+module _ (M : Type 0) (m k n : ViewAndSlots M) (b x : BookState) where
+  pub holds_beside : k ≡ (view_of (worker_seat m.0.it), []) → n ≡ (view_of (holding k.0.it 0 (TheBook b)), (0, slots.Out) ∷ k.1)
+      → x ≡ b → HoldsBook n x None
+  holds_beside split taken same = record {
+    slots = ap (λ (y : ViewAndSlots M). y.1) taken ∙ ap (λ (y : ViewAndSlots M). (0, slots.Out) ∷ y.1) split;
+    held = ap (λ (y : ViewAndSlots M). y.0.it.held) taken
+        ∙ (ap (λ (y : ViewAndSlots M). (0, TheBook b) ∷ y.0.it.held) split ∙ ap (λ z. (0, TheBook z) ∷ []) (sym same));
+    run = ap (λ (y : ViewAndSlots M). y.0.it.run) taken ∙ ap (λ (y : ViewAndSlots M). y.0.it.run) split;
   }
 
 -- ---- the book is lent by what keeps it
@@ -112,7 +123,7 @@ pub record NothingBegun {M : Type 0} (b c : BookState) (r : Begun M) : Type 0 wh
 same_events : (b c : BookState) → c ≡ b → events_of c.log ≡ events_of b.log ++ []
 same_events b c e = ap (λ (x : BookState). events_of x.log) e ∙ sym (append-nil (events_of b.log))
 
-unchanged : (b c : BookState) → c ≡ b → IsBookCall b None c None
+pub unchanged : (b c : BookState) → c ≡ b → IsBookCall b None c None
 unchanged b c e = subst (λ x. IsBookCall b None x None) (sym e) (unchanged_call b)
 
 pub nothing_begun : {M : Type 0} (b c : BookState) (r : Begun M) → ((t : FrameToken M) → r ≡ begun.Started t → ⊥) → c ≡ after_begin b r

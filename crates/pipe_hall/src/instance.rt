@@ -1,6 +1,6 @@
 //! Accesses of running instances, by their seats.
 
-ghost use Rattle.std.specs.Prelude.{◌≡◌, ◌<◌, [], length, Option, Some, None, true, IfSome};
+ghost use Rattle.std.specs.Prelude.{◌≡◌, ◌<◌, ◌+◌, ◌%◌, ◌∷◌, [], length, Option, Some, None, true, IfSome};
 ghost use Rattle.pipe_model.specs.Language.Programs.{store_of};
 ghost use Rattle.pipe_frame.specs.Ties.{AreElementsOf, AreSeenLists};
 ghost use Rattle.pipe_frame.specs.TokenCounts.{Exchanges};
@@ -9,24 +9,26 @@ ghost use Rattle.pipe_model.specs.Races.Columns.{at};
 ghost use Rattle.std.specs.Prelude.{List, ℕ, ℤ};
 ghost use Rattle.pipe_model.specs.Language.SyntaxTree.{SyntaxTree};
 ghost use Rattle.pipe_model.specs.declared.ticket.Entry.{Entry};
-ghost use Rattle.pipe_hall.specs.HallRule.{view_of};
+ghost use Rattle.pipe_hall.specs.HallRule.{place, view_of};
 ghost use Rattle.pipe_frame.specs.SeatedTokens.{IsSeated, seated_entries, seated_replies};
 ghost use Rattle.pipe_hall.specs.WorkerSeats.{IsIdle, StaysIdle, hall_of, name_of};
 ghost use Rattle.pipe_hall.specs.Accesses.{IsAsked};
 ghost use Rattle.pipe_hall.specs.SeatAccesses.{RunsAs, TraceAfter, now_after, ran, tie_after};
-ghost use Rattle.pipe_hall.specs.SeatViews.{HallConstants};
+ghost use Rattle.pipe_hall.specs.SeatViews.{HallConstants, TheShard};
+ghost use Rattle.pipe_hall.specs.Steps.{ShardSnapshot, holding};
 ghost use Rattle.pipe_frame.specs.HallViews.{AccessReturns, BeginsWith, IsSameInstance, OneMoreEntry};
 ghost use Rattle.pipe_model.specs.Runs.RunLogs.{state_after};
 
 use crate::carrier::Carrier;
 use crate::locks::Locks;
 use crate::run_seat::RunSeat;
-use crate::shard::SHARDS;
+use crate::shard::{SHARDS, Shard};
 use crate::slot::Slot;
 use crate::view::View;
-use crate::worker::{stop_at, take_seat_of};
+use crate::worker::{settle_beside, stop_at, take_seat_of};
 use access_history::history::MarkedNode;
 use atomic_table::Seat;
+use heap_value::kept::Kept;
 use order_2d::two_passes::TwoPasses;
 use pipe_frame::results::Reply;
 use pipe_frame::token::FrameToken;
@@ -34,6 +36,38 @@ use pipe_model::access::{Access, AccessKind, CellId};
 use pipe_model::node::NodeId;
 use pipe_model::ticket::{Entry, Trace};
 use std::sync::Wait;
+
+// Takes the shard of a cell, for an access of the instance of a seat. If that access may have to ask
+// the order lists before they have labels, the shard is given back, they get their labels, and it is
+// taken again.
+fn take_shard_of<R: Wait, M: Carrier>(
+    rt: &R,
+    hall: &Locks<M>,
+    run: &mut Seat<Slot<M>, View>,
+    who: NodeId,
+    joined: u32,
+    cell: CellId,
+) -> Kept<Shard>
+    requires own { run.old.table_id ≡ hall.now.table.shared.table_id }
+    requires runs { (f : TokenFields) × RunsAs run.old.me f }
+    requires cell { cell.0 < length (store_of (hall_of run.old.table_id run.old.me).tree).values }
+    ensures own { (run.new.table_id ≡ run.old.table_id) × (run.new.id ≡ run.old.id) }
+    ensures taken { run.new.me ≡ (
+      view_of (holding run.old.me.0.it (1 + cell.0 % 16) (TheShard result)),
+      (place (1 + cell.0 % 16), Slot.Out) ∷ run.old.me.1,
+    ) }
+    ensures snapshot { ShardSnapshot run.old.me.0.it (1 + cell.0 % 16) result }
+{
+    let number = cell.0 % SHARDS;
+    let mut shard = hall.take_shard(rt, run, number);
+    let lent = shard.get_mut();
+    if !lent.lacks_labels(who, joined, cell) {
+        return shard;
+    }
+    hall.return_shard(run, number, shard);
+    settle_beside(rt, hall, run);
+    hall.take_shard(rt, run, number)
+}
 
 // Makes an access in the shard of its cell, for the instance of a seat, unless memory runs out.
 fn access_by<R: Wait, M: Carrier>(
@@ -61,7 +95,7 @@ fn access_by<R: Wait, M: Carrier>(
     ensures passes { passes.new ≡ passes.old }
 {
     let number = cell.0 % SHARDS;
-    let mut shard = hall.take_shard(rt, run, number);
+    let mut shard = take_shard_of(rt, hall, run, who.node, joined, cell);
     let lent = shard.get_mut();
     let done = lent.access(rt, who, joined, now, cell, write, passes, trace);
     hall.return_shard(run, number, shard);

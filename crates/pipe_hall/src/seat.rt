@@ -25,9 +25,10 @@ use std::sync::Wait;
 
 /// A worker's seat beside its hall. Contracts see which hall it is, the events of the book that it has
 /// seen, and how many tokens its calls have given and taken back. `access` waits for the lock of one
-/// shard, and asks the order lists without a lock; the other calls of `Hall` wait for the lock of the
-/// book, once each. An access whose ticket would be above 2^62 is not made, and stops the run as one
-/// that runs out of memory does.
+/// shard, and asks the order lists without the lock of the book; if it may have to ask them before they
+/// have labels, it first waits for the lock of the book, without a shard, and labels them. The other
+/// calls of `Hall` wait for the lock of the book, once each. An access whose ticket would be above 2^62
+/// is not made, and stops the run as one that runs out of memory does.
 #[derive(Drop)]
 pub struct HallSeat<'a, M: Carrier> {
     hall: &'a HallOf<M>,

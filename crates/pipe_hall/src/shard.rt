@@ -22,6 +22,7 @@ use pipe_check::checked::Checked;
 use pipe_model::access::{Access, AccessKind, CellId};
 use pipe_model::list::ListOf;
 use pipe_model::memory::NoMemory;
+use pipe_model::node::NodeId;
 use pipe_model::ticket::{Entry, ShardEntry, ShardLog, Trace};
 use std::alloc::Global;
 use std::marker::Model;
@@ -144,6 +145,14 @@ fn note_in<R: Wait>(
 }
 
 impl Shard {
+    // Returns whether an access to a cell may have to ask the order lists, which have no labels yet.
+    pub(crate) fn lacks_labels(&self, who: NodeId, joined: u32, cell: CellId) -> bool
+        requires ready { CanBegin self.now cell.0 }
+    {
+        let slot = (cell.0 / SHARDS) as usize;
+        !self.passes.are_settled() && self.histories[slot].may_ask(who, Some(joined))
+    }
+
     // Makes an access, unless memory runs out; then nothing is done.
     pub(crate) fn access<R: Wait>(
         &mut self,

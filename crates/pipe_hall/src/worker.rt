@@ -25,6 +25,7 @@ ghost use Rattle.pipe_hall.specs.declared.slot.Slot.{Slot as SlotOf};
 
 use crate::carrier::Carrier;
 use crate::locks::Locks;
+use crate::rule::SplitsWorker;
 use crate::run_seat::RunSeat;
 use crate::slot::Slot;
 use crate::view::View;
@@ -272,4 +273,22 @@ pub(crate) fn stop_at<R: Wait, M: Carrier>(rt: &R, hall: &Locks<M>, seat: &mut S
     lent.stop();
     let _ = lent.entries();
     hall.return_book(seat, book);
+}
+
+// Has the order lists labelled, by a seat that is split off for this: the given seat, of a worker or of
+// an instance, stays as it is.
+pub(crate) fn settle_beside<R: Wait, M: Carrier>(
+    rt: &R,
+    hall: &Locks<M>,
+    seat: &mut Seat<Slot<M>, View>,
+)
+    requires own { seat.old.table_id ≡ hall.now.table.shared.table_id }
+    ensures own { (seat.new.table_id ≡ seat.old.table_id) × (seat.new.id ≡ seat.old.id) }
+    ensures unchanged { seat.new.me ≡ seat.old.me }
+{
+    let mut own = hall.table.shared.split_seat::<SplitsWorker>(seat);
+    let mut book = hall.take_book(rt, &mut own);
+    let lent = book.get_mut();
+    lent.settle_orders();
+    hall.return_book(&mut own, book);
 }
