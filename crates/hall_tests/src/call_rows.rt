@@ -20,7 +20,7 @@ use book_tests::play::Seen::{
 use pipe_engine::carried::{Carried, RunCode};
 use pipe_hall::hall::HallKey;
 use pipe_hall::seat::HallSeat;
-use pipe_model::access::Accesses;
+use pipe_model::access::{Accesses, CellId};
 use pipe_model::list::Numbers;
 use stage_code::code::Code;
 use std::alloc::Global;
@@ -194,6 +194,24 @@ fn calls_see_what_the_other_worker_did(rt: HostRuntime) -> Result<(), Fail> {
     ];
     let played = play_source(&rt, rt.alloc(), PREFIX_SUMS, 2, &rows)?;
     assert_eq!(rt; played.other, None);
+    Ok(())
+}
+
+// Iteration 1 reads what instance 1 of iteration 0 has written, which is not known to be before it. So
+// the order lists get their labels, or this test would not end.
+#[test]
+fn an_access_that_asks_has_the_orders_labelled(rt: HostRuntime) -> Result<(), Fail> {
+    let rows: [Row; 5] = [
+        (First, Begin, Token(0, 0)),
+        (First, Run, Token(0, 1)),
+        (First, Run, Ended),
+        (Second, Begin, Token(1, 0)),
+        (Second, Run, Token(1, 1)),
+    ];
+    let played = play_source(&rt, rt.alloc(), RACING, 2, &rows)?;
+    assert_eq!(rt; played.other, None);
+    assert_eq!(rt; played.logs.found.len(), 1);
+    assert_eq!(rt; played.logs.found[0].0, CellId(3));
     Ok(())
 }
 

@@ -24,7 +24,7 @@ use std::alloc::Global;
 // most 262,145.
 const MOST_ELEMENTS: u32 = 524_291;
 
-// Returns two order lists with room for each run, and passes to them.
+// Returns two order lists with room for each run, whose labels are put off, and passes to them.
 fn orders(alloc: Global) -> Result<(TwoOrders<OmWriter>, TwoPasses), NoMemory>
     ensures logs { IfOk result (λ r. (r.0.down.log ≡ []) × (r.0.right.log ≡ [])) }
     ensures room { IfOk result (λ r. (r.0.down.capacity ≡ MOST_ELEMENTS) × (r.0.right.capacity ≡ MOST_ELEMENTS)) }
@@ -34,7 +34,9 @@ fn orders(alloc: Global) -> Result<(TwoOrders<OmWriter>, TwoPasses), NoMemory>
     let (down, down_pass) = start(alloc, MOST_ELEMENTS)?;
     let (right, right_pass) = start(alloc, MOST_ELEMENTS)?;
     let passes = TwoPasses::new(down_pass, right_pass);
-    Ok((TwoOrders::new(down, right), passes))
+    let mut orders = TwoOrders::new(down, right);
+    orders.defer();
+    Ok((orders, passes))
 }
 
 // Returns payloads with passes to the same lists.

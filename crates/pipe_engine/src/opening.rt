@@ -37,7 +37,8 @@ fn most_elements(limits: Limits) -> u32
     2 * instances as u32 + 1
 }
 
-// Returns two order lists with room for this many elements each, and passes to them.
+// Returns two order lists with room for this many elements each, whose labels are put off, and passes
+// to them.
 fn orders(alloc: Global, capacity: u32) -> Result<(TwoOrders<OmWriter>, TwoPasses), NoMemory>
     requires positive { 0 < capacity }
     requires bounded { capacity ≤ 2 * MOST_STARTS + 1 }
@@ -49,7 +50,9 @@ fn orders(alloc: Global, capacity: u32) -> Result<(TwoOrders<OmWriter>, TwoPasse
     let (down, down_pass) = start(alloc, capacity)?;
     let (right, right_pass) = start(alloc, capacity)?;
     let passes = TwoPasses::new(down_pass, right_pass);
-    Ok((TwoOrders::new(down, right), passes))
+    let mut orders = TwoOrders::new(down, right);
+    orders.defer();
+    Ok((orders, passes))
 }
 
 // Returns payloads with passes to the same lists.

@@ -22,9 +22,9 @@ access-done-requires-clause-lists g c =
     let z = c.args.run.now.table_id in
     let v = c.args.run.now.me.0.it in
     let x = c.get_mut-lent.result.now in
-    let snapshot = subst (ShardSnapshot v (1 + c.args.cell.0 % 16)) (sym c.get_mut-lent.ensures.value) c.take_shard_of-shard.ensures.snapshot
-    in
-    same_lists v (1 + c.args.cell.0 % 16) x r.constants c.args.passes.now snapshot r.knows
+    let i = 1 + c.args.cell.0 % 16 in
+    let snapshot = subst (ShardSnapshot v i) (sym c.get_mut-lent.ensures.value) c.take_shard_of-shard.ensures.snapshot in
+    same_lists v i x r.constants c.args.passes.now snapshot r.knows
     (subst (λ (x : HallName). AreSeenLists (Some c.args.passes.now) x.lists.down x.lists.right) (ap (name_of z) r.knows) c.requires.lists)
 
 pub return_shard-requires-clause-made : goal.return_shard-requires-clause-made
@@ -32,9 +32,9 @@ return_shard-requires-clause-made g c =
     let q = c.requires.runs in
     let r = q.1 in
     let x = c.get_mut-lent.result.now in
-    let t = lent_shard g.row.M.Denot c.args.run.now.me c.take_shard_of-shard.new.run.me (1 + c.args.cell.0 % 16) c.take_shard_of-shard.result x
-    c.get_mut-lent.ensures.value c.take_shard_of-shard.ensures.taken in
     let i = 1 + c.args.cell.0 % 16 in
+    let t = lent_shard g.row.M.Denot c.args.run.now.me c.take_shard_of-shard.new.run.me i c.take_shard_of-shard.result x
+    c.get_mut-lent.ensures.value c.take_shard_of-shard.ensures.taken in
     let e = c.access-done.ensures in
     let m1 = c.take_shard_of-shard.new.run.me in
     let run_is : m1.0.it.run ≡ Some r.run_data = ap (λ (k : ViewAndSlots g.row.M.Denot). k.0.it.run) t ∙ r.run_is in (
@@ -53,9 +53,9 @@ returns-clause-ran g c =
     let r = q.1 in
     let x = c.get_mut-lent.result.now in
     let y = c.access-done.new.self in
-    let t = lent_shard g.row.M.Denot c.args.run.now.me c.take_shard_of-shard.new.run.me (1 + c.args.cell.0 % 16) c.take_shard_of-shard.result x
-    c.get_mut-lent.ensures.value c.take_shard_of-shard.ensures.taken in
     let i = 1 + c.args.cell.0 % 16 in
+    let t = lent_shard g.row.M.Denot c.args.run.now.me c.take_shard_of-shard.new.run.me i c.take_shard_of-shard.result x
+    c.get_mut-lent.ensures.value c.take_shard_of-shard.ensures.taken in
     let e = c.access-done.ensures in
     let v = c.args.run.now.me.0.it in
     let held = ap (λ (k : ViewAndSlots g.row.M.Denot). k.0.it.held) t ∙ ap (λ hs. (i, TheShard x) ∷ hs) r.held in
