@@ -65,7 +65,11 @@ mod tests {
             passes: &mut right,
         };
         assert!(rt; !asking.right_before(&first, &first));
+        orders.defer();
         orders.start_first();
+        assert!(rt; !early.are_settled());
+        orders.settle();
+        assert!(rt; early.are_settled());
         orders.confirm(&mut late);
         early.meet(&mut late);
         Ok(())

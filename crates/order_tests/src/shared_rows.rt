@@ -1,6 +1,6 @@
 //! Passes that ask in other threads while the writer inserts.
 
-ghost use Rattle.std.specs.Prelude.{◌≡◌, ◌<◌, ◌≤◌, ◌+◌, IfOk, length};
+ghost use Rattle.std.specs.Prelude.{◌≡◌, ◌<◌, ◌≤◌, ◌+◌, [], IfOk, false, length};
 
 use om_shared::pass::OmPass;
 use om_shared::writer::OmWriter;
@@ -15,6 +15,8 @@ pub fn insert_among(writer: &mut OmWriter, among: u32, times: u32)
     ensures log { length writer.new.log ≡ length writer.old.log + times }
     ensures capacity { writer.new.capacity ≡ writer.old.capacity }
     ensures table { writer.new.table ≡ writer.old.table }
+    ensures late { writer.new.late ≡ writer.old.late }
+    ensures pending { writer.old.late ≡ false → writer.new.pending ≡ writer.old.pending }
 {
     for k in 0..times {
         writer.insert_after(k % among);
@@ -77,6 +79,7 @@ pub fn insert_beside<R: Threads + Wait + Sync>(
 #[cfg(test)]
 mod tests {
     use super::*;
+    use om_list::om_list::OmList;
     use om_shared::writer::start;
     use pipe_model::memory::NoMemory;
     use std::alloc::Global;
@@ -89,6 +92,7 @@ mod tests {
         requires { elements ≤ 62 }
         ensures log { IfOk result (λ r. (length r.0.log ≡ elements) × (r.1.log ≡ r.0.log)) }
         ensures list { IfOk result (λ r. (r.0.capacity ≡ LAST + 1) × (r.0.table ≡ r.1.table)) }
+        ensures plain { IfOk result (λ r. (r.0.late ≡ false) × (r.0.pending ≡ [])) }
     {
         let (mut writer, mut pass) = start(alloc, LAST + 1)?;
         insert_among(&mut writer, 1, elements);
@@ -152,6 +156,65 @@ mod tests {
         assert!(rt; always);
         writer.confirm(&mut pass);
         assert!(rt; pass.precedes(&rt, 2, 1) && pass.precedes(&rt, 1, LAST));
+        Ok(())
+    }
+
+    // Inserts elements after the first `among` elements in turn.
+    fn insert_plainly(list: &mut OmList, among: u32, times: u32)
+        requires there { (0 < among) × (among ≤ length list.old.log + 1) }
+        requires room { length list.old.log + times < list.old.capacity }
+        ensures log { length list.new.log ≡ length list.old.log + times }
+        ensures capacity { list.new.capacity ≡ list.old.capacity }
+    {
+        for k in 0..times {
+            list.insert_after(k % among);
+        }
+    }
+
+    // Whether the lists have the same labels, and agree on which of 401 elements are before `y`.
+    fn are_same<R: Wait>(
+        rt: &R,
+        writer: &OmWriter,
+        pass: &mut OmPass,
+        plain: &OmList,
+        y: u32,
+    ) -> bool
+        requires element { y ≤ 400 }
+        requires settled { writer.now.pending ≡ [] }
+        requires writer { length writer.now.log ≡ 400 }
+        requires pass { length pass.old.log ≡ 400 }
+        requires plain { length plain.now.log ≡ 400 }
+        ensures unchanged { pass.new ≡ pass.old }
+    {
+        for x in 0..401 {
+            let before = pass.precedes(rt, x, y);
+            if writer.label(x) != plain.label(x) || before != plain.before(x, y) {
+                return false;
+            }
+        }
+        true
+    }
+
+    // A pass meets another one while elements have no labels.
+    #[test]
+    fn late_labels_are_those_of_a_plain_list(rt: HostRuntime) -> Result<(), Fail> {
+        let mut plain = OmList::new(rt.alloc(), 401)?;
+        insert_plainly(&mut plain, 1, 200);
+        insert_plainly(&mut plain, 7, 200);
+        let (mut writer, mut pass) = start(rt.alloc(), 401)?;
+        let mut other = pass.split()?;
+        writer.defer();
+        insert_among(&mut writer, 1, 200);
+        writer.confirm(&mut other);
+        pass.meet(&mut other);
+        assert!(rt; !pass.is_settled());
+        insert_among(&mut writer, 7, 200);
+        writer.settle();
+        assert!(rt; pass.is_settled());
+        writer.confirm(&mut pass);
+        for y in 0..401 {
+            assert!(rt; are_same(&rt, &writer, &mut pass, &plain, y), "{y}");
+        }
         Ok(())
     }
 }
