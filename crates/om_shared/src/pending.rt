@@ -1,6 +1,6 @@
 //! Insertions that are published first, and whose elements get their labels later, all at once.
 
-ghost use Rattle.std.specs.Prelude.{◌≡◌, ◌≢◌, ◌+◌, ◌*◌, ◌%◌, ◌<◌, ◌≤◌, ◌++◌, ◌∷◌, [], ℕ, List, length, take, vec_capacity};
+ghost use Rattle.std.specs.Prelude.{◌≡◌, ◌≢◌, ◌+◌, ◌*◌, ◌%◌, ◌<◌, ◌≤◌, ◌++◌, ◌∷◌, [], ℕ, List, length, vec_capacity};
 ghost use Rattle.pipe_model.specs.Orders.OrderList.{IsLog};
 ghost use Rattle.om_list.specs.KeptLists.{IsKept};
 ghost use Rattle.om_shared.specs.Seats.{HasLinkRoom, IsBetween, IsResting, IsStored, stage_of};

@@ -11,7 +11,7 @@ insert_element-requires-clause-there c =
     let kept = c.requires.kept in
     let count = kept.1.count in
     let long = c.loop-k.invariant.long in
-    let below = pending_entry kept.0 c.args.pending.now c.loop-k.k kept.2 c.loop-k-test.true in
+    let below = pending_entry kept.0 c.args.pending.now c.loop-k.k kept.2 (omega (arith, c.loop-k-test.true)) in
     omega (arith, count, long, below)
 
 pub loop-k-preserved : goal.loop-k-preserved
@@ -24,7 +24,7 @@ loop-k-preserved c =
       linked = λ done kept log.
           let before = i.linked done kept log in
           one_more_linked c.loop-k.links c.insert_element.new.links done c.args.pending.now c.args.links.now.label.items c.loop-k.k _
-          log c.loop-k-test.true refl e.labelled e.list e.long e.label before.0 before.1;
+          log (omega (arith, c.loop-k-test.true)) refl e.labelled e.list e.long e.label before.0 before.1;
       long = omega (arith, long, one);
       next_room = e.next_room ∙ i.next_room;
       prev_room = e.prev_room ∙ i.prev_room;
