@@ -1,6 +1,8 @@
 pub mod LogTexts
-pub mod MergedEntries
+pub mod MergeSteps
+pub mod NextEntries
+pub mod NextLogs
 pub mod Outlines
+pub mod RestsOfLogs
 pub mod RisingLists
 pub mod RunColumns
-pub mod SortedEntries

@@ -1,3 +1,4 @@
+pub mod LogCursors
 pub mod LogExamples
 pub mod LogLines
 pub mod MergedLogs

@@ -2,6 +2,7 @@
 //! event.
 #![tactic(auto)]
 
+mod cursors;
 pub mod examples;
 pub mod law;
 pub mod log_text;
