@@ -1,4 +1,4 @@
--- What is left of logs after one more entry, and how many entries that is.
+-- How many entries of shards are left after one more of them.
 use Rattle.std.proofs.Common.{ℕ, zero, suc, ◌+◌, ◌<◌, List, [], ◌∷◌, length, get_or, set, arith}
 use Rattle.pipe_model.specs.declared.ticket.ShardEntry.{ShardEntry}
 use Rattle.run_record.specs.LogCursors.{left_in_shards}

@@ -24,7 +24,7 @@ pub(crate) struct Cursors {
     book: usize,
     shards: Vec<usize>,
     // The ticket of the next entry of each shard, if one is left. They are next to one another, since
-    // all of them are read for each entry of the merge.
+    // all of them are read for each event.
     tickets: Vec<Option<u64>>,
 }
 
@@ -48,8 +48,8 @@ fn ticket_in_shard(shard: &[ShardEntry], index: usize) -> Option<u64>
     }
 }
 
-// Whether an entry with the first ticket comes before one with the second. Where no entry is left,
-// it comes before none.
+// Whether an entry with the first ticket comes before one with the second. Without a ticket no entry
+// is left, and that comes before none.
 fn is_before(ticket: Option<u64>, other: Option<u64>) -> bool
     ensures { result ≡ is_before ticket other }
 {
@@ -61,7 +61,7 @@ fn is_before(ticket: Option<u64>, other: Option<u64>) -> bool
 }
 
 // Finds the log with the least next ticket: at equal tickets the book, and then the shard with the
-// least number. It is the book, too, where no log has an entry left.
+// least number. If no entry is left, that is the book.
 fn next_log(book: Option<u64>, tickets: &[Option<u64>]) -> NextLog
     ensures { IsFirst book tickets.now (length tickets.now) result }
 {

@@ -12,7 +12,7 @@ use pipe_model::memory::NoMemory;
 use pipe_model::ticket::{BookEntry, BookLog, ShardLog};
 use std::alloc::Global;
 
-// How many entries the logs have. Only room is reserved by it.
+// Counts the entries of all logs, to reserve room for their events.
 fn entry_count(book: &[BookEntry], shards: &[ShardLog]) -> usize {
     let mut count = book.len();
     for shard in shards {
@@ -21,7 +21,7 @@ fn entry_count(book: &[BookEntry], shards: &[ShardLog]) -> usize {
     count
 }
 
-// The events of the logs, one after the other.
+// The events of the merge of the logs.
 fn merged_events(alloc: Global, book: &[BookEntry], shards: &[ShardLog]) -> Result<Events, NoMemory>
     requires book { BookRises book.now }
     requires shards { All ShardRises shards.now }
