@@ -4,7 +4,8 @@ Python imports a module of this name when it starts. So `rt`, which starts all c
 system's account of each process that ended is read beside it.
 
 Parts are `proof`, `tests`, `edit` (the check of a mutation test), `whole` (a check of the crate around its mutation tests) and
-`other`. Some versions of `rt` try the tests of a crate one after the other over one folder, and at last the crate itself. Of these
+`other`. Some versions of `rt` try each test of a crate over a folder of its own, named by a number, beside the folder `seed` of the crate
+itself. Others try the tests one after the other over one folder, and at last the crate itself. Of these
 checks the order says which is which, so their part is `over`, and the folder follows the crate."""
 import os
 import re
@@ -23,9 +24,11 @@ def part_of(words):
             return "tests", crate
         if verb == "check" and "-o" not in words:
             kept = words[words.index("--incremental") + 1] if "--incremental" in words else ""
-            if "/rt-edits-" in kept:
+            if kept.endswith("/seed"):
+                return "whole", crate
+            if "/rt-edits-" in kept and not os.path.basename(kept).isdigit():
                 return "over", f"{crate} {kept}"
-            return "whole" if kept.endswith("/seed") else "edit", crate
+            return "edit", crate
         return "proof", crate
     run = next(filter(None, map(RUN.fullmatch, words)), None)
     if run:
