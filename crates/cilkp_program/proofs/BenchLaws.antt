@@ -17,7 +17,6 @@ use Rattle.cilkp_words.specs.Commands.{Command}
 use Rattle.cilkp_program.proofs.OneCommand.{bench_has_no_source, bench_asks_no_run}
 use Rattle.cilkp_program.proofs.OneRow.{one_row}
 use Rattle.cilkp_program.specs.BenchCalls.{IsToBench, ReturnsSummary}
-use Rattle.dag_build.specs.NodeColumns.{node_columns}
 use Rattle.schedule_laws.specs.StartCounts.{instances_in}
 use Rattle.pipe_model.specs.declared.memory.NoMemory.{NoMemory}
 use Rattle.cilkp_program.proofs.SerialDags.{given_columns}
@@ -36,6 +35,7 @@ use Rattle.cilkp_program.specs.declared.load.Source.TheVariants as sources
 use Rattle.cilkp_program.specs.LoadedFiles.{IsLoadOf, IsReadOf}
 use Rattle.cilkp_program.specs.ResultTable.{Benches}
 use Rattle.cilkp_program.specs.TakenText.{HasTaken}
+use Rattle.pipe_model.specs.Races.Columns.{node_columns}
 
 -- a generated source is loaded as a program
 pub source_is_accepted : (size : ℕ) (bytes : List ℕ) (source : Source) → 1 ≤ size → size ≤ MOST_SIZE → bytes ≡ source_text size

@@ -1,7 +1,6 @@
 -- The number of stage instances of the elision of a generated program.
 use Rattle.pipe_model.specs.Language.CheckingRules.{BreaksNoRule}
 use Rattle.std.proofs.Common.{◌≡◌, ◌<◌, ◌≤◌, ◌+◌, ◌*◌, ℕ, ℤ, zero, suc, List, [], ◌∷◌, get_or, length, take, arith, ap, subst}
-use Rattle.dag_build.specs.NodeColumns.{node_columns}
 use Rattle.grammar_laws.proofs.SourceRefusals.{one_accepted}
 use Rattle.pipe_gen.specs.Workload.{source_text}
 use Rattle.pipe_gen.specs.declared.workload.TheConstants.{MOST_SIZE}
@@ -20,6 +19,7 @@ use Rattle.workload_laws.specs.GeneratedPrograms.{generated_tree}
 use Rattle.cilkp_program.proofs.SerialDags.{serial_log}
 use Rattle.cilkp_program.specs.declared.program_run.TheConstants.{MOST_COUNTED_INSTANCES}
 use Rattle.cilkp_program.specs.SerialResults.{elision_columns, elision_log}
+use Rattle.pipe_model.specs.Races.Columns.{node_columns}
 
 -- ---- counting column by column
 

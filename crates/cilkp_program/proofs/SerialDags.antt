@@ -18,7 +18,7 @@ use Rattle.pipe_model.specs.Runs.RunLogs.{accesses_after, column_of_frame, colum
 use Rattle.pipe_model.specs.Runs.State.{Frame, State, initial_state}
 use Rattle.pipe_model.specs.Runs.WholeProgramRuns.{IsFinishedProgramRun, ProgramRun, NoLoop, OfLoop}
 use Rattle.pipe_model.proofs.Members.{among_at}
-use Rattle.dag_build.specs.NodeColumns.{AreRising, IsAccessOf, node_columns}
+use Rattle.dag_build.specs.NodeColumns.{AreRising, IsAccessOf}
 use Rattle.dag_build.proofs.FirstRaceLaws.{no_report_is_race_free}
 use Rattle.program_laws.proofs.WellFormed.{accepted_is_well_formed}
 use Rattle.run_laws.proofs.RunStates.IterationCounts.{runs_keep_rules}
@@ -29,6 +29,7 @@ use Rattle.schedule_play.proofs.PlayedRuns.{column_inside}
 use Rattle.cilkp_program.specs.SerialResults.{ElisionResult, Races, Finishes, Traps, elision_accesses, elision_columns, elision_log}
 use Rattle.cilkp_program.specs.SerialResults.{elision_output, elision_trap}
 use Rattle.cilkp_program.specs.RunTexts.{IsPrintedAs, WithRaces, ToItsEnd, WithTrap}
+use Rattle.pipe_model.specs.Races.Columns.{node_columns}
 
 -- ---- the elision as a run
 

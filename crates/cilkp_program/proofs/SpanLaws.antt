@@ -1,6 +1,5 @@
 -- Work, span and heaviest path of an elision, and the result of a call that prints them.
 use Rattle.std.proofs.Common.{◌≡◌, ◌∙◌, ap, refl, subst, sym, ℕ, ℤ, List, [], Option, Some, None, Result, Ok, Err, IfOk, IfSome}
-use Rattle.dag_build.specs.NodeColumns.{node_columns}
 use Rattle.pipe_model.specs.declared.column.Column.{Column}
 use Rattle.pipe_model.specs.declared.event.RunLog.{RunLog}
 use Rattle.pipe_model.specs.declared.memory.NoMemory.{NoMemory}
@@ -8,7 +7,7 @@ use Rattle.pipe_model.specs.declared.report.Report.{Report}
 use Rattle.pipe_model.specs.Language.ProgramsOfTrees.{whole_of}
 use Rattle.pipe_model.specs.Language.SyntaxTree.{SyntaxTree}
 use Rattle.pipe_model.specs.Pipelines.WholePrograms.{program_columns}
-use Rattle.pipe_model.specs.Races.Columns.{AreColumns}
+use Rattle.pipe_model.specs.Races.Columns.{AreColumns, node_columns}
 use Rattle.pipe_io.specs.Faults.{CountRose}
 use Rattle.pipe_io.specs.Reads.{Content}
 use Rattle.pipe_span.proofs.ChosenPaths.{columns_have_one_span}

@@ -8,9 +8,9 @@ ghost use Rattle.cilkp_program.specs.Benchmarks.{IsGenerated, elision_summary, l
 ghost use Rattle.cilkp_program.specs.declared.program_run.TheConstants as bounds;
 ghost use Rattle.cilkp_program.specs.SerialResults.{elision_columns, elision_output};
 ghost use Rattle.cilkp_words.specs.declared.ranges.TheConstants as ranges;
-ghost use Rattle.dag_build.specs.NodeColumns.{node_columns};
 ghost use Rattle.pipe_model.specs.Language.CheckingRules.{BreaksNoRule};
 ghost use Rattle.schedule_laws.specs.StartCounts.{instances_in};
+ghost use Rattle.pipe_model.specs.Races.Columns.{node_columns};
 
 use crate::load::{Input, Source, input_of, source_of};
 use crate::program_run::{elide, instance_count, run_program};

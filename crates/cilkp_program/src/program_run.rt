@@ -1,7 +1,6 @@
 //! Runs an accepted program: its output, its trap, its log and its races.
 
 ghost use Rattle.std.specs.Prelude.{◌≡◌, ◌≤◌, [], IfOk};
-ghost use Rattle.dag_build.specs.NodeColumns.{node_columns};
 ghost use Rattle.pipe_model.specs.Language.CheckingRules.{BreaksNoRule};
 ghost use Rattle.pipe_model.specs.Language.SyntaxTree.{tree_of};
 ghost use Rattle.pipe_model.specs.Races.FirstRaces.{AreFirstRaces};
@@ -15,6 +14,7 @@ ghost use Rattle.cilkp_program.specs.RunResults.{IsFinishedRunOf};
 ghost use Rattle.cilkp_words.specs.declared.ranges.TheConstants as ranges;
 ghost use Rattle.pipe_model.specs.Pipelines.WholePrograms.{program_columns};
 ghost use Rattle.cilkp_program.specs.SerialResults.{elision_accesses, elision_columns, elision_output, elision_trap};
+ghost use Rattle.pipe_model.specs.Races.Columns.{node_columns};
 
 use dag_build::dag::Dag;
 use pipe_check::checked::Checked;

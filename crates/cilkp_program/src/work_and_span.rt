@@ -1,12 +1,12 @@
 //! Work and span of a program's serial elision, and the lines that are printed of them.
 
 ghost use Rattle.std.specs.Prelude.{◌≡◌, ◌++◌, [], None, IfOk, OnOk, string_bytes};
-ghost use Rattle.dag_build.specs.NodeColumns.{node_columns};
 ghost use Rattle.pipe_model.specs.Language.CheckingRules.{BreaksNoRule};
 ghost use Rattle.pipe_model.specs.Language.SyntaxTree.{tree_of};
 ghost use Rattle.pipe_model.specs.Races.Reports.{number_at};
 ghost use Rattle.pipe_model.specs.declared.exit_status.TheConstants as statuses;
 ghost use Rattle.cilkp_program.specs.SpanResults.{IsSpanText, instance_line, span_text};
+ghost use Rattle.pipe_model.specs.Races.Columns.{node_columns};
 
 use crate::command_result::CommandResult;
 use pipe_check::checked::Checked;

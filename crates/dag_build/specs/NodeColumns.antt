@@ -1,13 +1,8 @@
 -- A dag is made of columns: lists of instances whose stage numbers rise (Lee et al. 2013).
-use Rattle.std.specs.Prelude.{ℕ, List, map}
+use Rattle.std.specs.Prelude.{ℕ, List}
 use Rattle.pipe_model.specs.declared.access.NodeAccess.{NodeAccess}
-use Rattle.pipe_model.specs.declared.column.Column.{Column}
 use Rattle.pipe_model.specs.declared.node.Node.{Node}
 use Rattle.pipe_model.specs.Races.Columns.{nodes_at, IsRising, IsNodeOf}
-
--- the columns without their ends
-abbrev pub node_columns : List Column → List (List Node)
-node_columns columns = map (λ c. c.nodes) columns
 
 -- the stage numbers of each column rise
 pub record AreRising (columns : List (List Node)) : Type 0 where

@@ -1,10 +1,10 @@
 //! The dag of columns, with jumps that decide which instances precede which.
 
 ghost use Rattle.std.specs.Prelude.{◌≡◌, ◌<◌, ◌≤◌, ◌+◌, ◌↔◌, length, IfOk, IsTrue};
-ghost use Rattle.pipe_model.specs.Races.Columns.{nodes_at, IsNodeOf};
+ghost use Rattle.pipe_model.specs.Races.Columns.{nodes_at, IsNodeOf, node_columns};
 ghost use Rattle.pipe_model.specs.Races.Dag.{Precedes};
 ghost use Rattle.dag_build.specs.Landings.{MovesTo};
-ghost use Rattle.dag_build.specs.NodeColumns.{node_columns, AreRising};
+ghost use Rattle.dag_build.specs.NodeColumns.{AreRising};
 
 use crate::jumps::{Jumps, jumped, levels, nodes_of};
 use pipe_model::column::{Column, Columns};

@@ -15,7 +15,7 @@ use Rattle.pipe_model.specs.Runs.RunLogs.{state_after}
 use Rattle.pipe_model.specs.Runs.WholeProgramRuns.{run_output, run_trap}
 use Rattle.frame_book.specs.BookStates.{BookState, state_of}
 use Rattle.program_laws.specs.ProgramHeadline.{MeetsHeadline, exit_status, printed_text}
-use Rattle.race_report.specs.RaceReports.{IsFoundIn, column_nodes, report_found}
+use Rattle.race_report.specs.RaceReports.{IsFoundIn, report_found}
 use Rattle.run_record.specs.MergedLogs.{AreMerged}
 use Rattle.run_record.specs.OwnColumns.{made_columns}
 use Rattle.hall_laws.specs.ClosedHalls.{NoTokenIsOut}
@@ -23,6 +23,7 @@ use Rattle.hall_laws.specs.HallPrograms.{IsMergedHall, whole_in}
 use Rattle.hall_laws.specs.HallReports.{AreReportsOf}
 use Rattle.pipe_hall.specs.SeatViews.{ShardValue}
 use Rattle.hall_headline.specs.HallEnds.{IsHallEnd, found_by, logs_of}
+use Rattle.pipe_model.specs.Races.Columns.{node_columns}
 
 -- a hall that was opened after the accesses of `init`, which did not trap, and the run log into which its logs were merged
 pub record IsProgramEnd (before : List Access) (b : BookState) (shards : List ShardValue) (log : RunLog) : Type 0 where
@@ -42,13 +43,13 @@ HallEndsAreMerged =
 
 -- the reports name the races found, sorted by cell, as `gather` ensures
 pub record AreGathered (log : RunLog) (found : List (CellId × Found)) (reports : List Report) : Type 0 where
-  pub each : IsPermutation (map (λ (f : CellId × Found). report_found (column_nodes log.columns) f.0 f.1) found) reports
+  pub each : IsPermutation (map (λ (f : CellId × Found). report_found (node_columns log.columns) f.0 f.1) found) reports
   pub rise : RiseByCell reports
 
 -- the races are each of another cell and in the columns of the log, as `gather` requires, and what it ensures are the reports of the run
 pub record AreRacesOfLog (log : RunLog) (found : List (CellId × Found)) : Type 0 where
   pub cells : AllPairs (λ (f : CellId × Found) (g : CellId × Found). f.0 ≢ g.0) found
-  pub instances : All (λ (f : CellId × Found). IsFoundIn (column_nodes log.columns) f.1) found
+  pub instances : All (λ (f : CellId × Found). IsFoundIn (node_columns log.columns) f.1) found
   pub reports : (reports : List Report) → AreGathered log found reports → AreReportsOf log.events reports
 
 abbrev pub HallEndsReportTheirRaces : Type 0

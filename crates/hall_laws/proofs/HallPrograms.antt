@@ -11,14 +11,15 @@ use Rattle.pipe_model.specs.Runs.State.{Frame}
 use Rattle.pipe_model.specs.Runs.WholeProgramRuns.{OfLoop, WithLoop}
 use Rattle.program_laws.proofs.Headlines.{runs_meet_the_headline}
 use Rattle.run_laws.proofs.RunStates.IterationCounts.{runs_keep_rules}
-use Rattle.race_report.specs.RaceReports.{IsFoundIn, column_nodes, report_found}
+use Rattle.race_report.specs.RaceReports.{IsFoundIn, report_found}
 use Rattle.run_record.proofs.RunColumns.{runs_make_their_columns}
 use Rattle.hall_laws.specs.HallPrograms.{FinishedHallsMeetTheHeadline, MergedHallsReportTheirRaces, MergedHallsAreProgramRuns, whole_in}
 use Rattle.hall_laws.specs.HallRuns.{IsRunOfHall}
 use Rattle.hall_laws.proofs.FoundRaces.{histories_find_races}
 use Rattle.hall_laws.proofs.HallRuns.{closed_halls_are_runs}
+use Rattle.pipe_model.specs.Races.Columns.{node_columns}
 
-nodes_of_frames : (frames : List Frame) → column_nodes (map column_of_frame frames) ≡ map (λ (f : Frame). f.nodes) frames
+nodes_of_frames : (frames : List Frame) → node_columns (map column_of_frame frames) ≡ map (λ (f : Frame). f.nodes) frames
 nodes_of_frames [] = refl
 nodes_of_frames (f ∷ frames) = ap (λ ns. f.nodes ∷ ns) (nodes_of_frames frames)
 
@@ -31,7 +32,7 @@ merged_halls_are_program_runs v shards log h =
     record {
       run = OfLoop h.opened r.run;
       columns = columns;
-      nodes = ap column_nodes columns ∙ nodes_of_frames (state_after log.events).frames;
+      nodes = ap node_columns columns ∙ nodes_of_frames (state_after log.events).frames;
       throttled = (runs_keep_rules p v.limit log.events (state_after log.events) r.run).throttled;
       finished = λ f. record { run = OfLoop h.opened r.run; finished = WithLoop h.opened (r.finished f); columns = columns };
       stopped = r.stopped;

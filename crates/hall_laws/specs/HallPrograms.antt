@@ -18,12 +18,13 @@ use Rattle.pipe_model.specs.Runs.Throttling.{IsThrottled}
 use Rattle.pipe_model.specs.Runs.WholeProgramRuns.{IsFinishedProgramRun, ProgramRun, run_output, run_trap}
 use Rattle.frame_book.specs.BookStates.{BookState, state_of}
 use Rattle.program_laws.specs.ProgramHeadline.{MeetsHeadline, exit_status, printed_text}
-use Rattle.race_report.specs.RaceReports.{IsFoundIn, column_nodes, report_found}
+use Rattle.race_report.specs.RaceReports.{IsFoundIn, report_found}
 use Rattle.run_record.specs.MergedLogs.{AreMerged}
 use Rattle.run_record.specs.OwnColumns.{made_columns}
 use Rattle.hall_laws.specs.ClosedHalls.{ClosedHall, NoTokenIsOut}
 use Rattle.hall_laws.specs.HallReports.{AreFound, AreReportsOf, HaveNotedEntries}
 use Rattle.hall_laws.specs.HallRuns.{EndsWithStop}
+use Rattle.pipe_model.specs.Races.Columns.{node_columns}
 
 -- the program of the book, on its input
 abbrev pub whole_in : BookState → WholeProgram
@@ -43,7 +44,7 @@ pub record IsMergedHall (v : BookState) (shards : List (List ShardEntry)) (log :
 pub record IsProgramRunOfHall (v : BookState) (log : RunLog) : Type 0 where
   pub run : ProgramRun (whole_in v) v.limit log.events (state_after log.events)
   pub columns : log.columns ≡ ended_columns_after log.events
-  pub nodes : column_nodes log.columns ≡ columns_after log.events
+  pub nodes : node_columns log.columns ≡ columns_after log.events
   pub throttled : IsThrottled v.limit log.events
   pub finished : IsFinished (state_of v) → IsFinishedProgramRun (whole_in v) v.limit log
   pub stopped : (state_of v).stopped ≡ true → EndsWithStop log.events
@@ -70,6 +71,6 @@ MergedHallsReportTheirRaces =
     (v : BookState) (shards : List (List ShardEntry)) (log : RunLog) (history : ℕ → History) (found : List (CellId × Found))
     (reports : List Report)
     → IsMergedHall v shards log → HaveNotedEntries v shards history → AreFound history found
-    → All (λ (f : CellId × Found). IsFoundIn (column_nodes log.columns) f.1) found
-    × (IsPermutation (map (λ (f : CellId × Found). report_found (column_nodes log.columns) f.0 f.1) found) reports → RiseByCell reports
+    → All (λ (f : CellId × Found). IsFoundIn (node_columns log.columns) f.1) found
+    × (IsPermutation (map (λ (f : CellId × Found). report_found (node_columns log.columns) f.0 f.1) found) reports → RiseByCell reports
     → AreReportsOf log.events reports)

@@ -113,7 +113,7 @@ pub(crate) fn label_pending(
 ) -> u64
     requires own { seat.old.table_id ≡ words.now.table_id }
     requires moving { IsBetween Moving words.now.key words.now.table_id.words sequence links.old pending.old.items seat.old.me }
-    requires some { pending.old.items ≢ [] }
+    requires nonempty { pending.old.items ≢ [] }
     requires room { HasLinkRoom words.now.key (vec_capacity links.old.next) (vec_capacity links.old.prev)
         (vec_capacity links.old.label) (vec_capacity pending.old) }
     ensures own { seat.new.table_id ≡ seat.old.table_id }

@@ -6,14 +6,13 @@ use Rattle.std.proofs.lemmas.List.{length-map}
 use Rattle.std.specs.Prelude.{IfNone, IfSome, Option, Some, None}
 use Rattle.left_parent.specs.LastNumber.{AreRising, IsLastUpTo as IsLastNumber}
 use Rattle.order_2d.specs.declared.started.StartedNode.{StartedNode}
-use Rattle.order_2d.specs.LogStarts.{nodes_of_columns}
 use Rattle.order_2d.specs.StartedNodes.{IsAbove, joined_from, left_joined, numbers_of, parent_by}
 use Rattle.pipe_model.specs.declared.column.Column.{Column}
 use Rattle.pipe_model.specs.declared.node.Kind.{Kind}
 use Rattle.pipe_model.specs.declared.node.Kind.TheVariants.{Zero, Wait, Continue}
 use Rattle.pipe_model.specs.declared.node.Node.{Node}
 use Rattle.pipe_model.specs.Orders.LeftParent.{joined_at, joined_by, last_up_to, left_parent}
-use Rattle.pipe_model.specs.Races.Columns.{IsRising, node_at, nodes_at}
+use Rattle.pipe_model.specs.Races.Columns.{IsRising, node_at, nodes_at, node_columns}
 use Rattle.pipe_model.specs.Races.Dag.{IsLastUpTo}
 use Rattle.run_laws.proofs.ListOrders.JoinedPlaces.{joined_rises, last_up_to_found, last_up_to_is}
 use Rattle.run_laws.proofs.ListOrders.StableLeftParents.{left_parents_are_found, left_without_growth}
@@ -120,7 +119,7 @@ numbers_at columns numbers same a row e l = e ∙ (ap (λ ns. get_or ns a row) s
 
 -- the nodes of a column, read from the columns
 pub nodes_read : (columns : List Column) (i : ℕ) (c : Column) → i < length columns
-    → (get_or columns i c).nodes ≡ nodes_at (nodes_of_columns columns) i
+    → (get_or columns i c).nodes ≡ nodes_at (node_columns columns) i
 nodes_read [] i c l = absurd (omega (arith, l))
 nodes_read (x ∷ xs) zero c l = refl
 nodes_read (x ∷ xs) (suc i) c l = nodes_read xs i c (omega (arith, l))

@@ -3,7 +3,7 @@ use Rattle.std.proofs.Common.{◌≡◌, ◌∙◌, sym, ap, subst, ℕ, ℤ, �
 use Rattle.std.proofs.lemmas.Bool.{cases_lt}
 use Rattle.std.proofs.lemmas.List.{take_all}
 use Rattle.order_2d.specs.declared.starts.TheConstants.{MOST_STARTS}
-use Rattle.order_2d.specs.LogStarts.{IsControlLog, IsOwnLog, log_columns, log_starts, nodes_of_columns}
+use Rattle.order_2d.specs.LogStarts.{IsControlLog, IsOwnLog, log_columns, log_starts}
 use Rattle.order_2d.specs.OrderPairs.{OrderPair}
 use Rattle.order_2d.specs.ReplayedOrders.{OrdersArePrecedes, marks_of_starts}
 use Rattle.order_2d.specs.StartedNodes.{CanReplay, HasLists, numbers_of}
@@ -17,7 +17,7 @@ use Rattle.pipe_model.specs.declared.node.Node.{Node}
 use Rattle.pipe_model.specs.declared.node.NodeId.{NodeId}
 use Rattle.pipe_model.specs.Orders.Starts.{IsStarted, start_number}
 use Rattle.pipe_model.specs.Orders.TwoOrders.{down_first_taken, log_entries, right_first_taken}
-use Rattle.pipe_model.specs.Races.Columns.{IsNodeOf, IsRising, nodes_at}
+use Rattle.pipe_model.specs.Races.Columns.{IsNodeOf, IsRising, nodes_at, node_columns}
 use Rattle.pipe_model.specs.Runs.ControlParts.{control_after, without_accesses}
 use Rattle.pipe_model.specs.Runs.State.{Frame}
 use Rattle.run_laws.proofs.ListOrders.RunOrders.{started_nodes_are_own_nodes}
@@ -58,14 +58,14 @@ own_short events h bounded i =
     ]
 
 pub same_columns : (log : RunLog) → IsOwnLog log → (columns : List Column) → columns ≡ log.columns
-    → nodes_of_columns columns ≡ log_columns log.events
-same_columns log own columns same = ap nodes_of_columns same ∙ own.columns
+    → node_columns columns ≡ log_columns log.events
+same_columns log own columns same = ap node_columns same ∙ own.columns
 
 -- it can be replayed
 pub can_replay : (log : RunLog) → IsOwnLog log → length (log_starts log.events) ≤ MOST_STARTS
     → (columns : List Column) → columns ≡ log.columns → (starts : List NodeId) → starts ≡ log_starts log.events
-    → (numbers : List (List ℤ)) → numbers ≡ numbers_of (nodes_of_columns columns)
-    → CanReplay (nodes_of_columns columns) starts numbers
+    → (numbers : List (List ℤ)) → numbers ≡ numbers_of (node_columns columns)
+    → CanReplay (node_columns columns) starts numbers
 can_replay log own bounded columns same starts starts_same numbers numbers_same =
     let made = same_columns log own columns same in
     let of = own_starts log.events own.control in
@@ -86,13 +86,13 @@ starts_are_instances log own starts same x =
 
 -- the lists of all starts order its instances as its dag does
 pub replayed_orders : (log : RunLog) → IsOwnLog log → (columns : List Column) → columns ≡ log.columns
-    → (starts : List NodeId) (numbers : List (List ℤ)) → CanReplay (nodes_of_columns columns) starts numbers
-    → (nodes : List NodeId) → nodes ≡ starts → (marks : List Marks) → marks ≡ marks_of_starts (nodes_of_columns columns) starts starts
-    → (o : OrderPair) → HasLists (nodes_of_columns columns) starts (length starts) o
+    → (starts : List NodeId) (numbers : List (List ℤ)) → CanReplay (node_columns columns) starts numbers
+    → (nodes : List NodeId) → nodes ≡ starts → (marks : List Marks) → marks ≡ marks_of_starts (node_columns columns) starts starts
+    → (o : OrderPair) → HasLists (node_columns columns) starts (length starts) o
     → OrdersArePrecedes (log_columns log.events) nodes marks o
 replayed_orders log own columns same starts numbers run nodes nodes_same marks marks_same o lists =
     let all = take_all (length starts) starts (omega arith) in
     subst (λ cs. OrdersArePrecedes cs nodes marks o) (same_columns log own columns same)
-    (orders_are_precedes (nodes_of_columns columns) starts run.columns_ok run.starts_ok nodes nodes_same marks marks_same o
+    (orders_are_precedes (node_columns columns) starts run.columns_ok run.starts_ok nodes nodes_same marks marks_same o
     (lists.down ∙ ap (log_entries (down_first_taken (start_number starts)) 0) all)
-    (lists.right ∙ ap (log_entries (right_first_taken (nodes_of_columns columns) (start_number starts)) 0) all))
+    (lists.right ∙ ap (log_entries (right_first_taken (node_columns columns) (start_number starts)) 0) all))

@@ -3,7 +3,7 @@ use Rattle.std.proofs.Common.{◌≡◌, ◌∙◌, sym, ap, subst, ℕ, ℤ, �
 use Rattle.std.specs.List.{All}
 use Rattle.std.proofs.lemmas.List.{get_or_default, take_all}
 use Rattle.std.proofs.lemmas.List.Elements.{All-map}
-use Rattle.order_2d.specs.LogStarts.{IsOwnLog, log_starts, nodes_of_columns}
+use Rattle.order_2d.specs.LogStarts.{IsOwnLog, log_starts}
 use Rattle.order_2d.specs.OrderPairs.{OrderPair}
 use Rattle.order_2d.specs.ReplayedOrders.{marks_of_starts}
 use Rattle.order_2d.specs.StartedNodes.{CanReplay, HasLists}
@@ -19,7 +19,7 @@ use Rattle.pipe_model.specs.Orders.OrderMarks.{instance_marks}
 use Rattle.pipe_model.specs.Orders.Starts.{AreStarts, start_at, start_number}
 use Rattle.pipe_model.specs.Orders.TwoOrders.{down_element, down_first_log, down_first_taken, log_entries, right_element, right_first_log}
 use Rattle.pipe_model.specs.Orders.TwoOrders.{right_first_taken}
-use Rattle.pipe_model.specs.Races.Columns.{AreColumns, at}
+use Rattle.pipe_model.specs.Races.Columns.{AreColumns, at, node_columns}
 use Rattle.pipe_model.specs.Runs.ControlParts.{control_after, without_accesses}
 use Rattle.run_laws.proofs.ListOrders.InsertionLists.{list_has_below}
 use Rattle.run_laws.proofs.ListOrders.LongerLogs.{logs_name_earlier_elements}
@@ -61,12 +61,12 @@ module _ (columns : List (List Node)) (starts : List NodeId) (ok : AreColumns co
 -- the marks of a replayed run
 pub replayed_marks : (log : RunLog) → IsOwnLog log → (columns : List Column) → columns ≡ log.columns
     → (starts : List NodeId) → starts ≡ log_starts log.events
-    → (numbers : List (List ℤ)) → CanReplay (nodes_of_columns columns) starts numbers
-    → (marks : List Marks) → marks ≡ marks_of_starts (nodes_of_columns columns) starts starts
-    → (o : OrderPair) → HasLists (nodes_of_columns columns) starts (length starts) o
+    → (numbers : List (List ℤ)) → CanReplay (node_columns columns) starts numbers
+    → (marks : List Marks) → marks ≡ marks_of_starts (node_columns columns) starts starts
+    → (o : OrderPair) → HasLists (node_columns columns) starts (length starts) o
     → All (AreIn (list_of_log o.down.log) (list_of_log o.right.log)) marks
 replayed_marks log own columns same starts starts_same numbers run marks marks_same o lists =
-    let cs : List (List Node) = nodes_of_columns columns in
+    let cs : List (List Node) = node_columns columns in
     let made = same_columns log own columns same in
     let laws = logs_name_earlier_elements.control_runs own.control.limit (without_accesses log.events)
     (control_after log.events) own.control.run in

@@ -6,13 +6,12 @@ use Rattle.std.specs.Prelude.{Some}
 use Rattle.std.proofs.lemmas.List.{get_or_append_left, get_or_default, get_or_push, get_or-set_other, get_or-set_same, length_push}
 use Rattle.std.proofs.lemmas.List.{length-map}
 use Rattle.order_2d.specs.declared.started.StartedNode.{StartedNode}
-use Rattle.order_2d.specs.LogStarts.{nodes_of_columns}
 use Rattle.order_2d.specs.StartedNodes.{HasStarted, no_rows, no_started_node, node_in, row_at, started_node}
 use Rattle.pipe_model.specs.declared.column.Column.{Column}
 use Rattle.pipe_model.specs.declared.node.Node.{Node}
 use Rattle.pipe_model.specs.declared.node.NodeId.{NodeId}
 use Rattle.pipe_model.specs.Orders.Starts.{AreStarts, IsStarted, start_number}
-use Rattle.pipe_model.specs.Races.Columns.{AreColumns, at}
+use Rattle.pipe_model.specs.Races.Columns.{AreColumns, at, node_columns}
 use Rattle.run_laws.proofs.ListOrders.StartNumbers.{counted_down, up_ordered}
 
 rows_long : (columns : List Column) → length (no_rows columns) ≡ length columns
@@ -26,7 +25,7 @@ empty_row (c ∷ cs) (suc i) = empty_row cs i
 
 -- before the first start all rows are empty
 pub none_started : (columns : List Column) (starts : List NodeId) (rows : List (List StartedNode)) → rows ≡ no_rows columns
-    → HasStarted (nodes_of_columns columns) starts 0 rows
+    → HasStarted (node_columns columns) starts 0 rows
 none_started columns starts rows e =
     let none : (i k : ℕ) → k < length (row_at rows i) → ⊥ = λ i k l.
     let empty : length (row_at rows i) ≡ 0 = ap (λ rs. length (row_at rs i)) e ∙ ap length (empty_row columns i) in

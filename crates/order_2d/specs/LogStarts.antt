@@ -1,13 +1,12 @@
 -- The instances that a run log starts, by its events without the accesses.
 use Rattle.std.specs.Prelude.{◌≡◌, ℕ, List, [], ◌∷◌, ◌++◌, ◌+◌, ◌<◌, length, map, slice_index, slice_set}
-use Rattle.pipe_model.specs.declared.column.Column.{Column}
 use Rattle.pipe_model.specs.declared.event.Event.{Event}
 use Rattle.pipe_model.specs.declared.event.Event.TheVariants.{Begin, Advance, Enter, Finish, Stop, Access}
 use Rattle.pipe_model.specs.declared.event.RunLog.{RunLog}
 use Rattle.pipe_model.specs.declared.node.Node.{Node}
 use Rattle.pipe_model.specs.declared.node.NodeId.{NodeId}
 use Rattle.pipe_model.specs.Orders.Starts.{starts_of}
-use Rattle.pipe_model.specs.Races.Columns.{at}
+use Rattle.pipe_model.specs.Races.Columns.{at, node_columns}
 use Rattle.pipe_model.specs.Runs.ControlParts.{control_after, without_accesses}
 use Rattle.pipe_model.specs.Runs.ControlRun.{ControlRun}
 use Rattle.pipe_model.specs.Runs.State.{State, own_columns}
@@ -25,14 +24,10 @@ log_starts events = starts_of (without_accesses events)
 abbrev pub log_columns : List Event → List (List Node)
 log_columns events = own_columns (control_after events)
 
--- columns without their ends
-abbrev pub nodes_of_columns : List Column → List (List Node)
-nodes_of_columns columns = map (λ c. c.nodes) columns
-
 -- the log's columns are those that its events make
 pub record IsOwnLog (log : RunLog) : Type 0 where
   pub control : IsControlLog log.events
-  pub columns : nodes_of_columns log.columns ≡ log_columns log.events
+  pub columns : node_columns log.columns ≡ log_columns log.events
 
 -- ---- how many instances each iteration has
 

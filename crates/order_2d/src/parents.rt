@@ -1,10 +1,9 @@
 //! The left parents of instances.
 
 ghost use Rattle.std.specs.Prelude.{◌≡◌, ◌<◌, ◌^◌, ℕ, List, IfOk, length, map};
-ghost use Rattle.order_2d.specs.LogStarts.{nodes_of_columns};
 ghost use Rattle.order_2d.specs.StartedNodes.{IsAbove, numbers_of, parent_by};
 ghost use Rattle.pipe_model.specs.Orders.LeftParent.{last_up_to, left_parent};
-ghost use Rattle.pipe_model.specs.Races.Columns.{IsNodeOf, IsRising, nodes_at};
+ghost use Rattle.pipe_model.specs.Races.Columns.{IsNodeOf, IsRising, nodes_at, node_columns};
 ghost use Rattle.pipe_model.specs.declared.node.Node.{Node as PlainNode};
 
 use crate::started::StartedNode;
@@ -28,7 +27,7 @@ fn stage_numbers(alloc: Global, nodes: &[Node]) -> Result<Numbers, NoMemory>
 
 /// Returns the stage numbers of each column. Returns an error only if memory runs out.
 pub(crate) fn column_numbers(alloc: Global, columns: &[Column]) -> Result<ListOf<Numbers>, NoMemory>
-    ensures { IfOk result (λ rows. rows ≡ numbers_of (nodes_of_columns columns.now)) }
+    ensures { IfOk result (λ rows. rows ≡ numbers_of (node_columns columns.now)) }
 {
     let mut rows = ListOf::with_capacity(alloc, columns.len())?;
     for column in columns {
@@ -59,12 +58,12 @@ pub(crate) fn left_index(
     x: NodeId,
     above: Option<StartedNode>,
 ) -> Option<u32>
-    requires node { IsNodeOf (nodes_of_columns columns.now) x }
-    requires numbers { numbers.now ≡ numbers_of (nodes_of_columns columns.now) }
-    requires rising { (i : ℕ) → IsRising (nodes_at (nodes_of_columns columns.now) i) }
-    requires bounded { (i : ℕ) → length (nodes_at (nodes_of_columns columns.now) i) < 2 ^ 32 }
-    requires above { IsAbove (nodes_of_columns columns.now) x.iteration x.index above }
-    ensures { result ≡ left_parent (nodes_of_columns columns.now) x.iteration x.index }
+    requires node { IsNodeOf (node_columns columns.now) x }
+    requires numbers { numbers.now ≡ numbers_of (node_columns columns.now) }
+    requires rising { (i : ℕ) → IsRising (nodes_at (node_columns columns.now) i) }
+    requires bounded { (i : ℕ) → length (nodes_at (node_columns columns.now) i) < 2 ^ 32 }
+    requires above { IsAbove (node_columns columns.now) x.iteration x.index above }
+    ensures { result ≡ left_parent (node_columns columns.now) x.iteration x.index }
 {
     if x.iteration == 0 {
         return None;

@@ -1,7 +1,7 @@
 //! The two orders of a run that has been logged.
 
 ghost use Rattle.std.specs.Prelude.{◌≡◌, ◌↔◌, ◌<◌, ◌≤◌, ◌+◌, ◌*◌, ◌++◌, ◌∷◌, [], All, IfOk, OnOk, length, slice_set};
-ghost use Rattle.order_2d.specs.LogStarts.{IsOwnLog, log_columns, log_starts, nodes_of_columns};
+ghost use Rattle.order_2d.specs.LogStarts.{IsOwnLog, log_columns, log_starts};
 ghost use Rattle.order_2d.specs.OrderPairs.{AreInserted, HasRoom, down_taken, marks_after, right_taken, with_start};
 ghost use Rattle.order_2d.specs.ReplayedOrders.{OrdersArePrecedes, marks_of_starts};
 ghost use Rattle.order_2d.specs.StartedNodes.{CanReplay, HasLists, HasStarted, no_rows, row_at, started_node};
@@ -9,7 +9,7 @@ ghost use Rattle.pipe_model.specs.Orders.GrowingLists.{AreIn};
 ghost use Rattle.pipe_model.specs.Orders.OrderList.{list_of_log};
 ghost use Rattle.pipe_model.specs.Orders.Starts.{IsStarted, start_at};
 ghost use Rattle.pipe_model.specs.Orders.TwoOrders.{down_first_log, right_first_log};
-ghost use Rattle.pipe_model.specs.Races.Columns.{IsNodeOf};
+ghost use Rattle.pipe_model.specs.Races.Columns.{IsNodeOf, node_columns};
 ghost use Rattle.pipe_model.specs.declared.node.NodeId.{NodeId as PlainNodeId};
 
 use crate::parents::{column_numbers, left_index};
@@ -60,13 +60,13 @@ fn start_next(
     starts: &[NodeId],
     m: usize,
 ) -> StartedNode
-    requires run { CanReplay (nodes_of_columns columns.now) starts.now numbers.now }
+    requires run { CanReplay (node_columns columns.now) starts.now numbers.now }
     requires next { m < length starts.now }
-    requires rows { HasStarted (nodes_of_columns columns.now) starts.now m rows.now }
-    requires lists { HasLists (nodes_of_columns columns.now) starts.now m orders.old }
-    ensures node { result ≡ started_node (nodes_of_columns columns.now) starts.now (start_at starts.now m).iteration
+    requires rows { HasStarted (node_columns columns.now) starts.now m rows.now }
+    requires lists { HasLists (node_columns columns.now) starts.now m orders.old }
+    ensures node { result ≡ started_node (node_columns columns.now) starts.now (start_at starts.now m).iteration
         (start_at starts.now m).index }
-    ensures lists { HasLists (nodes_of_columns columns.now) starts.now (m + 1) orders.new }
+    ensures lists { HasLists (node_columns columns.now) starts.now (m + 1) orders.new }
 {
     let x = starts[m];
     let above = above(rows, x);
@@ -111,11 +111,11 @@ fn start_all(
     starts: &[NodeId],
     orders: &mut TwoOrders<OmList>,
 ) -> Result<(Vec<Marks>, Vec<StartedColumn>), NoMemory>
-    requires run { CanReplay (nodes_of_columns columns.now) starts.now numbers.now }
-    requires lists { HasLists (nodes_of_columns columns.now) starts.now 0 orders.old }
-    ensures lists { OnOk result (HasLists (nodes_of_columns columns.now) starts.now (length starts.now) orders.new) }
-    ensures marks { IfOk result (λ r. r.0.items ≡ marks_of_starts (nodes_of_columns columns.now) starts.now starts.now) }
-    ensures rows { IfOk result (λ r. HasStarted (nodes_of_columns columns.now) starts.now (length starts.now) r.1.items) }
+    requires run { CanReplay (node_columns columns.now) starts.now numbers.now }
+    requires lists { HasLists (node_columns columns.now) starts.now 0 orders.old }
+    ensures lists { OnOk result (HasLists (node_columns columns.now) starts.now (length starts.now) orders.new) }
+    ensures marks { IfOk result (λ r. r.0.items ≡ marks_of_starts (node_columns columns.now) starts.now starts.now) }
+    ensures rows { IfOk result (λ r. HasStarted (node_columns columns.now) starts.now (length starts.now) r.1.items) }
 {
     let mut rows = empty_rows(alloc, columns)?;
     let mut marks = Vec::with_capacity(alloc, starts.len())?;

@@ -2,7 +2,6 @@
 use Rattle.std.proofs.Common.{◌≡◌, ◌≢◌, ◌∙◌, refl, pos, sym, ap, ap₂, subst, ℕ, ℤ, zero, suc, ◌-◌, ◌<◌, ◌≤◌, ◌<ℤ◌, List, [], ◌∷◌, ◌++◌}
 use Rattle.std.proofs.Common.{length, map, get_or, set, arith, false, cond, Some}
 use Rattle.std.proofs.lemmas.List.{get_or-map, get_or_default, length-map, length_push, length-set, map-append}
-use Rattle.order_2d.specs.LogStarts.{nodes_of_columns}
 use Rattle.order_2d.proofs.EventsSoFar.{without-append}
 use Rattle.order_tests.specs.Plays.{IsPlayed, statuses_of}
 use Rattle.pipe_model.specs.declared.column.Column.{Column}
@@ -16,7 +15,7 @@ use Rattle.pipe_model.specs.declared.node.Node.{Node}
 use Rattle.pipe_model.specs.declared.status.Status.{Status}
 use Rattle.pipe_model.specs.declared.status.Status.TheVariants.{Running, Pending, Completed}
 use Rattle.pipe_model.specs.Pipelines.Behaviour.{Action, Staged, Ended, node_of}
-use Rattle.pipe_model.specs.Races.Columns.{node_at, nodes_at}
+use Rattle.pipe_model.specs.Races.Columns.{node_at, nodes_at, node_columns}
 use Rattle.pipe_model.specs.Runs.Allowed.{ContinuesLoop, ControlAllows, HasPassed, LeftHasPassed, MayBegin}
 use Rattle.pipe_model.specs.Runs.ControlParts.{control_after, control_from, next_control}
 use Rattle.pipe_model.specs.Runs.ControlRun.{ControlRun, ControlRunThen, EmptyControlRun, is_access}
@@ -79,7 +78,7 @@ played_on : {limit : ℕ} {events : List Event} {columns : List Column} {before 
     → (e : Event) → is_access e ≡ false → ControlAllows limit (control_after events) e
     → (next_state (control_after events) e).stopped ≡ (control_after events).stopped
     → (more : List Column) (after : List Status)
-    → nodes_of_columns more ≡ own_columns (next_state (control_after events) e)
+    → node_columns more ≡ own_columns (next_state (control_after events) e)
     → after ≡ statuses_of (next_state (control_after events) e) → length after ≡ length more
     → IsPlayed limit (events ++ e ∷ []) more after
 played_on {limit} {events} h e quiet may still more after made stand same =
@@ -111,7 +110,7 @@ status_at_frame (x ∷ fs) (suc i) f e = status_at_frame fs i f e
 
 has_frame : {limit : ℕ} {events : List Event} {columns : List Column} {before : List Status} → IsPlayed limit events columns before
     → (i : ℕ) → i < length columns
-    → HasFrame (control_after events).frames i (nodes_at (nodes_of_columns columns) i) (get_or before i Running)
+    → HasFrame (control_after events).frames i (nodes_at (node_columns columns) i) (get_or before i Running)
 has_frame {events = es} {columns = cs} h i l =
     let fs : List Frame = (control_after es).frames in
     let wide = length-map cs (λ (c : Column). c.nodes) in
@@ -128,7 +127,7 @@ has_frame {events = es} {columns = cs} h i l =
 -- ---- reads of columns and statuses
 
 pub column_nodes : (columns : List Column) (i : ℕ) (x : Column) → i < length columns → x ≡ get_or columns i x
-    → nodes_at (nodes_of_columns columns) i ≡ x.nodes
+    → nodes_at (node_columns columns) i ≡ x.nodes
 column_nodes columns i x l is =
     get_or-map (λ (c : Column). c.nodes) columns i x [] l ∙ ap (λ (c : Column). c.nodes) (sym is)
 
@@ -157,7 +156,7 @@ module _ {limit : ℕ} {events : List Event} {columns : List Column} {before : L
   }
 
   pub begins_next : (j : ℕ) → length columns ≡ suc j → length columns < limit
-      → ContinuesLoop (get_or before j Running) (nodes_at (nodes_of_columns columns) j) → MayBegin limit s (length columns)
+      → ContinuesLoop (get_or before j Running) (nodes_at (node_columns columns) j) → MayBegin limit s (length columns)
   begins_next j next some goes = record {
     number = wide;
     room = (let bounded = few_alive s.frames in omega (arith, bounded, some, wide));
@@ -188,7 +187,7 @@ module _ {limit : ℕ} {events : List Event} {columns : List Column} {before : L
 
   module _ (i : ℕ) (inside : i < length columns) where
     pub advanced : (kind : Kind) (number : ℤ) → get_or before i Running ≡ Running → kind ≢ Zero
-        → (node_at (nodes_at (nodes_of_columns columns) i) (length (nodes_at (nodes_of_columns columns) i) - 1)).number <ℤ number
+        → (node_at (nodes_at (node_columns columns) i) (length (nodes_at (node_columns columns) i) - 1)).number <ℤ number
         → IsPlayed limit (events ++ Advance i kind number ∷ []) columns (set before i (Pending kind number))
     advanced kind number runs named up =
         let here = has_frame h i inside in
@@ -207,8 +206,8 @@ module _ {limit : ℕ} {events : List Event} {columns : List Column} {before : L
         (omega (arith, stand, same))
 
     pub iteration_ended : (end : ColumnEnd) (more : List Column) → get_or before i Running ≡ Running
-        → (end ≡ Closed → length (nodes_at (nodes_of_columns columns) i) ≡ 1)
-        → nodes_of_columns more ≡ nodes_of_columns columns → length more ≡ length columns
+        → (end ≡ Closed → length (nodes_at (node_columns columns) i) ≡ 1)
+        → node_columns more ≡ node_columns columns → length more ≡ length columns
         → IsPlayed limit (events ++ Finish i end ∷ []) more (set before i (Completed end))
     iteration_ended end more runs first nodes long =
         let here = has_frame h i inside in
@@ -226,7 +225,7 @@ module _ {limit : ℕ} {events : List Event} {columns : List Column} {before : L
 
     -- the left neighbour has passed a number
     pub left_passed : (j : ℕ) (number : ℤ) → i ≡ suc j
-        → HasPassed (get_or before j Running) (nodes_at (nodes_of_columns columns) j) number → LeftHasPassed s.frames i number
+        → HasPassed (get_or before j Running) (nodes_at (node_columns columns) j) number → LeftHasPassed s.frames i number
     left_passed j number e passed =
         subst (λ n. LeftHasPassed s.frames n number) (sym e) (λ f is. (
         let here = has_frame h j (omega (arith, inside, e)) in
@@ -237,7 +236,7 @@ module _ {limit : ℕ} {events : List Event} {columns : List Column} {before : L
 
     pub entered : (kind : Kind) (number : ℤ) (more : List Column) → get_or before i Running ≡ Pending kind number
         → (kind ≡ Wait → LeftHasPassed s.frames i number)
-        → nodes_of_columns more ≡ set (nodes_of_columns columns) i (nodes_at (nodes_of_columns columns) i ++ node_of kind number ∷ [])
+        → node_columns more ≡ set (node_columns columns) i (nodes_at (node_columns columns) i ++ node_of kind number ∷ [])
         → length more ≡ length columns
         → IsPlayed limit (events ++ Enter i ∷ []) more (set before i Running)
     entered kind number more named free nodes long =

@@ -1,5 +1,7 @@
 //! Lists for order maintenance: small ones with their logs, and one with many elements.
 
+ghost use Rattle.std.specs.Prelude.{◌≡◌, ◌≤◌, IfOk, length};
+
 use om_list::om_list::OmList;
 use pipe_model::memory::NoMemory;
 use std::alloc::Global;
@@ -46,29 +48,61 @@ fn logs_make_their_lists(rt: HostRuntime) -> Result<(), Fail> {
 
 const LAST: u32 = 100_000;
 
-// The first 62 elements halve the labels that are free. The next one has element 0 and the last three
-// labelled anew, in the range of the labels 0 to 7.
+// A list of `count` elements after element 0, each of which was inserted right after it.
+fn inserted_after_first(alloc: Global, count: u32) -> Result<OmList, NoMemory>
+    requires { count ≤ LAST }
+    ensures { IfOk result (λ list. length list.log ≡ count) }
+{
+    let mut list = OmList::new(alloc, LAST + 1)?;
+    for _done in 0..count {
+        list.insert_after(0);
+    }
+    Ok(list)
+}
+
+// Whether the elements have these labels.
+fn has_labels(list: &OmList, labels: &[(u32, u64)]) -> bool {
+    for (x, label) in labels {
+        if *x >= list.len() || list.label(*x) != *label {
+            return false;
+        }
+    }
+    true
+}
+
+// Whether each element but 0 and 1 has a lesser label than the one before it.
+fn labels_fall(list: &OmList) -> bool {
+    for x in 2..list.len() {
+        if list.label(x) >= list.label(x - 1) {
+            return false;
+        }
+    }
+    true
+}
+
+// The first 62 elements halve the labels that are free.
 #[test]
-fn elements_are_inserted_after_the_first(rt: HostRuntime) -> Result<(), Fail> {
-    let mut list = OmList::new(rt.alloc(), LAST + 1)?;
-    for k in 0..LAST {
-        let element = list.insert_after(0);
-        if k < 62 {
-            assert_eq!(rt; list.label(element), (1 << 61) >> k);
-        }
-        if k == 62 {
-            assert_eq!(rt; list.label(0), 0);
-            assert_eq!(rt; list.label(element), 1);
-            assert_eq!(rt; list.label(62), 2);
-            assert_eq!(rt; list.label(61), 4);
-            assert_eq!(rt; list.label(60), 6);
-            assert_eq!(rt; list.label(59), 8);
-        }
+fn labels_are_halved(rt: HostRuntime) -> Result<(), Fail> {
+    let list = inserted_after_first(rt.alloc(), 62)?;
+    for k in 0..62 {
+        assert!(rt; list.label(k + 1) == (1 << 61) >> k, "{k}");
     }
+    Ok(())
+}
+
+// The next one has element 0 and the last three labelled anew, in the range of the labels 0 to 7.
+#[test]
+fn a_crowded_range_is_labelled_anew(rt: HostRuntime) -> Result<(), Fail> {
+    let list = inserted_after_first(rt.alloc(), 63)?;
+    let labels = [(0, 0), (63, 1), (62, 2), (61, 4), (60, 6), (59, 8)];
+    assert!(rt; has_labels(&list, &labels));
+    Ok(())
+}
+
+#[test]
+fn later_elements_are_before_earlier_ones(rt: HostRuntime) -> Result<(), Fail> {
+    let list = inserted_after_first(rt.alloc(), LAST)?;
     assert!(rt; list.before(0, 1) && list.before(LAST, 1) && !list.before(1, LAST));
-    assert!(rt; list.label(0) < list.label(LAST));
-    for x in 1..LAST {
-        assert!(rt; list.label(x + 1) < list.label(x), "{x}");
-    }
+    assert!(rt; list.label(0) < list.label(LAST) && labels_fall(&list));
     Ok(())
 }

@@ -2,12 +2,12 @@
 
 ghost use Rattle.std.specs.Prelude.{◌≡◌, ◌≢◌, ◌<◌, ◌≤◌, ◌<ℤ◌, ◌-◌, ◌++◌, ◌∷◌, [], IfOk, OnOk, length, slice_index_or, slice_set};
 ghost use Rattle.std.specs.Bool.{OnTrue};
-ghost use Rattle.order_2d.specs.LogStarts.{IsOwnLog, nodes_of_columns};
+ghost use Rattle.order_2d.specs.LogStarts.{IsOwnLog};
 ghost use Rattle.order_tests.specs.Plays.{IsPlayed};
 ghost use Rattle.pipe_model.specs.declared.column.ColumnEnd.TheVariants.{Closed};
 ghost use Rattle.pipe_model.specs.declared.node.Kind.TheVariants.{Wait, Zero};
 ghost use Rattle.pipe_model.specs.declared.status.Status.TheVariants.{Pending, Running};
-ghost use Rattle.pipe_model.specs.Races.Columns.{node_at, nodes_at};
+ghost use Rattle.pipe_model.specs.Races.Columns.{node_at, nodes_at, node_columns};
 ghost use Rattle.pipe_model.specs.Runs.Allowed.{ContinuesLoop, HasPassed, LeftHasPassed, MayBegin};
 ghost use Rattle.pipe_model.specs.Runs.ControlParts.{control_after};
 
@@ -139,8 +139,8 @@ fn may_enter(play: &Play, i: usize, kind: Kind, number: i64) -> bool
 // Appends an instance to a column.
 fn push_node(columns: &mut Vec<Column>, i: usize, node: Node) -> Result<(), NoMemory>
     requires { i < length columns.old.items }
-    ensures nodes { OnOk result (nodes_of_columns columns.new.items ≡ slice_set (nodes_of_columns columns.old.items) i
-        (nodes_at (nodes_of_columns columns.old.items) i ++ node ∷ [])) }
+    ensures nodes { OnOk result (node_columns columns.new.items ≡ slice_set (node_columns columns.old.items) i
+        (nodes_at (node_columns columns.old.items) i ++ node ∷ [])) }
     ensures len { length columns.new.items ≡ length columns.old.items }
 {
     let column = &mut columns[i];
@@ -175,7 +175,7 @@ fn may_finish(nodes: &[Node], end: ColumnEnd) -> bool
 // Sets the end of a column.
 fn set_end(columns: &mut Vec<Column>, i: usize, end: ColumnEnd)
     requires { i < length columns.old.items }
-    ensures nodes { nodes_of_columns columns.new.items ≡ nodes_of_columns columns.old.items }
+    ensures nodes { node_columns columns.new.items ≡ node_columns columns.old.items }
     ensures len { length columns.new.items ≡ length columns.old.items }
 {
     columns[i].end = Some(end);

@@ -43,33 +43,41 @@ mod tests {
         right_first: 0,
     };
 
+    // An instance with element 0 in both lists.
+    const FIRST: Marks = Marks {
+        down_first: 0,
+        right_first: 0,
+        down: ZERO,
+        right: ZERO,
+    };
+
     #[test]
-    fn passes_of_two_lists_are_asked_and_meet(rt: HostRuntime) -> Result<(), Fail> {
-        let (mut orders, mut early) = shared_orders(rt.alloc(), 8)?;
-        let mut late = early.split()?;
-        let mut down = early.split()?;
-        let mut right = early.split()?;
-        let first = Marks {
-            down_first: 0,
-            right_first: 0,
-            down: ZERO,
-            right: ZERO,
-        };
+    fn passes_are_asked_about_both_lists(rt: HostRuntime) -> Result<(), Fail> {
+        let (_orders, mut passes) = shared_orders(rt.alloc(), 8)?;
         let mut asking = Asking {
             rt: &rt,
-            passes: &mut down,
+            passes: &mut passes,
         };
-        assert!(rt; !asking.down_before(&first, &first));
-        let mut asking = Asking {
-            rt: &rt,
-            passes: &mut right,
-        };
-        assert!(rt; !asking.right_before(&first, &first));
+        assert!(rt; !asking.down_before(&FIRST, &FIRST) && !asking.right_before(&FIRST, &FIRST));
+        Ok(())
+    }
+
+    #[test]
+    fn two_lists_are_deferred_and_settled(rt: HostRuntime) -> Result<(), Fail> {
+        let (mut orders, passes) = shared_orders(rt.alloc(), 8)?;
         orders.defer();
         orders.start_first();
-        assert!(rt; !early.are_settled());
+        assert!(rt; !passes.are_settled());
         orders.settle();
-        assert!(rt; early.are_settled());
+        assert!(rt; passes.are_settled());
+        Ok(())
+    }
+
+    #[test]
+    fn passes_of_two_lists_meet(rt: HostRuntime) -> Result<(), Fail> {
+        let (mut orders, mut early) = shared_orders(rt.alloc(), 8)?;
+        let mut late = early.split()?;
+        orders.start_first();
         orders.confirm(&mut late);
         early.meet(&mut late);
         Ok(())

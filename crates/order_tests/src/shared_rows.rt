@@ -100,6 +100,18 @@ mod tests {
         Ok((writer, pass))
     }
 
+    // Whether the elements of a list without pending insertions have these labels.
+    fn has_labels(writer: &OmWriter, labels: &[(u32, u64)]) -> bool
+        requires { writer.now.pending ≡ [] }
+    {
+        for (x, label) in labels {
+            if *x >= writer.len() || writer.label(*x) != *label {
+                return false;
+            }
+        }
+        true
+    }
+
     // Each label is half of the one before it. Then those of the last three elements, and no others,
     // move within the range of the 8 labels from 0 to 7.
     #[test]
@@ -109,9 +121,8 @@ mod tests {
             assert!(rt; writer.label(k + 1) == 1 << (61 - k));
         }
         writer.insert_after(0);
-        assert!(rt; writer.label(0) == 0 && writer.label(63) == 1 && writer.label(62) == 2);
-        assert!(rt; writer.label(61) == 4 && writer.label(60) == 6 && writer.label(59) == 8);
-        assert!(rt; writer.len() == 64);
+        let labels = [(0, 0), (63, 1), (62, 2), (61, 4), (60, 6), (59, 8)];
+        assert!(rt; writer.len() == 64 && has_labels(&writer, &labels));
         Ok(())
     }
 
@@ -195,12 +206,42 @@ mod tests {
         true
     }
 
-    // A pass meets another one while elements have no labels.
-    #[test]
-    fn late_labels_are_those_of_a_plain_list(rt: HostRuntime) -> Result<(), Fail> {
-        let mut plain = OmList::new(rt.alloc(), 401)?;
+    fn plain_list(alloc: Global) -> Result<OmList, NoMemory>
+        ensures { IfOk result (λ list. length list.log ≡ 400) }
+    {
+        let mut plain = OmList::new(alloc, 401)?;
         insert_plainly(&mut plain, 1, 200);
         insert_plainly(&mut plain, 7, 200);
+        Ok(plain)
+    }
+
+    // A list with the same insertions, whose elements get their labels after them, and a pass that has
+    // seen them.
+    fn labelled_late(alloc: Global) -> Result<(OmWriter, OmPass), NoMemory>
+        ensures log { IfOk result (λ r. (length r.0.log ≡ 400) × (r.1.log ≡ r.0.log)) }
+        ensures settled { IfOk result (λ r. r.0.pending ≡ []) }
+    {
+        let (mut writer, mut pass) = start(alloc, 401)?;
+        writer.defer();
+        insert_among(&mut writer, 1, 200);
+        insert_among(&mut writer, 7, 200);
+        writer.settle();
+        writer.confirm(&mut pass);
+        Ok((writer, pass))
+    }
+
+    #[test]
+    fn late_labels_are_those_of_a_plain_list(rt: HostRuntime) -> Result<(), Fail> {
+        let plain = plain_list(rt.alloc())?;
+        let (writer, mut pass) = labelled_late(rt.alloc())?;
+        for y in 0..401 {
+            assert!(rt; are_same(&rt, &writer, &mut pass, &plain, y), "{y}");
+        }
+        Ok(())
+    }
+
+    #[test]
+    fn passes_meet_before_labels_are_given(rt: HostRuntime) -> Result<(), Fail> {
         let (mut writer, mut pass) = start(rt.alloc(), 401)?;
         let mut other = pass.split()?;
         writer.defer();
@@ -208,13 +249,8 @@ mod tests {
         writer.confirm(&mut other);
         pass.meet(&mut other);
         assert!(rt; !pass.is_settled());
-        insert_among(&mut writer, 7, 200);
         writer.settle();
-        assert!(rt; pass.is_settled());
-        writer.confirm(&mut pass);
-        for y in 0..401 {
-            assert!(rt; are_same(&rt, &writer, &mut pass, &plain, y), "{y}");
-        }
+        assert!(rt; pass.is_settled() && pass.precedes(&rt, 200, 1));
         Ok(())
     }
 }

@@ -24,7 +24,7 @@ use Rattle.pipe_model.specs.Pipelines.SerialElision.{serial_trace, serial_traces
 use Rattle.pipe_model.specs.Pipelines.Store.{InitialStore, value_after}
 use Rattle.pipe_model.specs.Pipelines.WholePrograms.{WholeProgram, init_accesses, init_trap, loop_after_init, loop_traces, program_columns}
 use Rattle.pipe_model.specs.Pipelines.WholePrograms.{program_log}
-use Rattle.pipe_model.specs.Races.Columns.{AreColumns, IsRising, node_at, nodes_at}
+use Rattle.pipe_model.specs.Races.Columns.{AreColumns, IsRising, node_at, nodes_at, node_columns}
 use Rattle.pipe_model.specs.Runs.Run.{EmptyRun}
 use Rattle.pipe_model.specs.Runs.RunLogs.{column_of_frame, state_after}
 use Rattle.pipe_model.specs.Runs.State.{Frame, State, initial_state, own_columns}
@@ -45,7 +45,7 @@ use Rattle.serial_elision.proofs.PartRuns.{natural_most}
 use Rattle.pipe_span.specs.Entries.{most_entries, most_weight}
 use Rattle.pipe_span.specs.HeaviestPaths.{instances_before}
 use Rattle.pipe_span.specs.SpanLaws.{InstancesHaveSteps}
-use Rattle.pipe_span.specs.WorkAndSpan.{AreSteps, node_columns}
+use Rattle.pipe_span.specs.WorkAndSpan.{AreSteps}
 
 -- ---- one number for each instance
 

@@ -5,10 +5,10 @@ use Rattle.pipe_model.specs.Language.Programs.{natural}
 use Rattle.pipe_model.specs.Language.ProgramsOfTrees.{whole_of}
 use Rattle.pipe_model.specs.Language.SyntaxTree.{SyntaxTree}
 use Rattle.pipe_model.specs.Pipelines.WholePrograms.{program_columns}
-use Rattle.pipe_model.specs.Races.Columns.{AreColumns}
+use Rattle.pipe_model.specs.Races.Columns.{AreColumns, node_columns}
 use Rattle.pipe_span.specs.declared.heaviest.Span.{Span}
 use Rattle.pipe_span.specs.HeaviestPaths.{instances_before}
-use Rattle.pipe_span.specs.WorkAndSpan.{IsWorkAndSpan, node_columns}
+use Rattle.pipe_span.specs.WorkAndSpan.{IsWorkAndSpan}
 use Rattle.serial_elision.specs.ElisionSteps.{program_steps}
 
 -- columns whose instances have weights have at most one work, span and heaviest path

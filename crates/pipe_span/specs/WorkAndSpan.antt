@@ -2,16 +2,11 @@
 -- those of a heaviest path.
 use Rattle.std.specs.Prelude.{◌≡◌, ℕ, ℤ, List, [], ◌≤ℤ◌, pos, negsuc, map, slice_index_or}
 use Rattle.std.specs.List.{sum}
-use Rattle.pipe_model.specs.declared.column.Column.{Column}
 use Rattle.pipe_model.specs.declared.node.Node.{Node}
 use Rattle.pipe_model.specs.declared.node.NodeId.{NodeId}
 use Rattle.pipe_span.specs.declared.heaviest.Span.{Span}
 use Rattle.pipe_span.specs.HeaviestPaths.{IsHeaviestTo}
 use Rattle.pipe_span.specs.Entries.{most_weight}
-
--- the columns without their ends
-abbrev pub node_columns : List Column → List (List Node)
-node_columns columns = map (λ c. c.nodes) columns
 
 -- a number of steps as a weight; none is negative
 abbrev pub weight_of_steps : ℤ → ℕ

@@ -2,10 +2,10 @@
 
 ghost use Rattle.std.specs.Prelude.{◌≡◌, ◌<◌, ◌≤◌, ◌*◌, ℕ, length, IfOk};
 ghost use Rattle.std.specs.List.{sum};
-ghost use Rattle.pipe_model.specs.Races.Columns.{AreColumns, IsRising, nodes_at};
+ghost use Rattle.pipe_model.specs.Races.Columns.{AreColumns, IsRising, nodes_at, node_columns};
 ghost use Rattle.pipe_span.specs.Entries.{AreWeights, most_entries, most_weight};
 ghost use Rattle.pipe_span.specs.HeaviestPaths.{instances_before};
-ghost use Rattle.pipe_span.specs.WorkAndSpan.{AreSteps, IsHeaviest, IsWorkAndSpan, node_columns, weights_of};
+ghost use Rattle.pipe_span.specs.WorkAndSpan.{AreSteps, IsHeaviest, IsWorkAndSpan, weights_of};
 
 use crate::last::heaviest_last;
 use crate::rows::{entries_of, rows_of};

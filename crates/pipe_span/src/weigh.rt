@@ -4,12 +4,12 @@ ghost use Rattle.std.specs.Prelude.{◌≡◌, ◌≤◌, ℕ, length, IfOk};
 ghost use Rattle.pipe_model.specs.Language.ProgramsOfTrees.{whole_of};
 ghost use Rattle.pipe_model.specs.Language.SyntaxTree.{tree_of};
 ghost use Rattle.pipe_model.specs.Pipelines.WholePrograms.{program_columns};
-ghost use Rattle.pipe_model.specs.Races.Columns.{AreColumns, IsRising, nodes_at};
+ghost use Rattle.pipe_model.specs.Races.Columns.{AreColumns, IsRising, nodes_at, node_columns};
 ghost use Rattle.serial_elision.specs.ElisionSteps.{program_steps};
 ghost use Rattle.stage_interp.specs.RemainingBehaviour.{IsCodeOf};
 ghost use Rattle.pipe_span.specs.Entries.{most_entries};
 ghost use Rattle.pipe_span.specs.HeaviestPaths.{instances_before};
-ghost use Rattle.pipe_span.specs.WorkAndSpan.{AreSteps, node_columns};
+ghost use Rattle.pipe_span.specs.WorkAndSpan.{AreSteps};
 
 use pipe_check::checked::Checked;
 use pipe_model::column::Columns;

@@ -130,26 +130,39 @@ impl<M: Runs + Drop, Q: WorkTest<M>> Worker<M, Q> {
         }
     }
 
-    // Looks for a further task after an iteration that cannot go on.
+    // Lets the next iteration begin, by a task. If the deque refuses it, the book knows that one may begin.
+    fn offer_next(&mut self)
+        ensures tokens { TakesTokens Q.weight 0 (ends_of self.old) (ends_of self.new) }
+        ensures worker { IsSameWorker self.old self.new }
+    {
+        let _refused = self.ends.push(Task::Begin);
+    }
+
+    // Looks for a further task after an iteration that cannot go on. If the next iteration may begin, its
+    // task is pushed after the look: the worker takes one of its tasks at once, and where it is the only
+    // one, workers that have nothing to do should not find it first.
     fn look<R: Wait, H: Hall<M>>(
         &mut self,
         rt: &R,
         hall: &mut H,
         iteration: u32,
         outcome: StageOutcome,
+        next_begins: bool,
     )
         requires named { H.named hall.old ≡ Q.named }
         ensures named { H.named hall.new ≡ Q.named }
         ensures tokens { KeepsTokens Q.weight 0 0 (H.tokens hall.old) (ends_of self.old) (H.tokens hall.new) (ends_of self.new) }
         ensures worker { IsSameWorker self.old self.new }
     {
-        match after(outcome, true) {
-            Look::Right => {
-                if let Some(token) = hall.check_right(rt, iteration) {
-                    self.keep(rt, hall, token);
-                }
-            }
-            Look::On | Look::Rescue => {}
+        let found = match after(outcome, true) {
+            Look::Right => hall.check_right(rt, iteration),
+            Look::On | Look::Rescue => None,
+        };
+        if next_begins {
+            self.offer_next();
+        }
+        if let Some(token) = found {
+            self.keep(rt, hall, token);
         }
     }
 
@@ -176,17 +189,20 @@ impl<M: Runs + Drop, Q: WorkTest<M>> Worker<M, Q> {
             let index = token.index;
             gate.at(rt, self.number, NodeId { iteration, index });
             let (next, end) = run_and_advance(self.alloc, rt, code, input, hall, token);
-            if index == 0 && loop_goes_on(end) {
-                let _refused = self.ends.push(Task::Begin);
-            }
+            let next_begins = index == 0 && loop_goes_on(end);
             match next {
-                Next::Go(further) => token = further,
+                Next::Go(further) => {
+                    if next_begins {
+                        self.offer_next();
+                    }
+                    token = further;
+                }
                 Next::Suspended => {
-                    self.look(rt, hall, iteration, StageOutcome::Suspended);
+                    self.look(rt, hall, iteration, StageOutcome::Suspended, next_begins);
                     return;
                 }
                 Next::Ended => {
-                    self.look(rt, hall, iteration, StageOutcome::Ended);
+                    self.look(rt, hall, iteration, StageOutcome::Ended, next_begins);
                     return;
                 }
                 Next::Stopped => {

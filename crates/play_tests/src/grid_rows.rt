@@ -1,10 +1,13 @@
 //! Grids that are filled.
 
 ghost use Rattle.std.specs.Prelude.{◌<◌};
+ghost use Rattle.pipe_model.specs.Language.CheckingRules.{BreaksNoRule};
+ghost use Rattle.pipe_model.specs.Language.SyntaxTree.{tree_of};
 
 use crate::wave_sources::lowered;
 use pipe_check::checked::Checked;
 use pipe_model::list::Numbers;
+use pipe_model::memory::NoMemory;
 use pipe_model::node::NodeId;
 use pipe_model::trap::{Trap, TrapAt, TrapPlace};
 use race_report::race_text::text;
@@ -74,31 +77,31 @@ const ROWS: [Row; 10] = [
     (TRAP_IN_ROW_2, &[], Some((Trap::DivZero, 1, 2)), 4),
 ];
 
-// A lowered program that was played.
-#[derive(Drop)]
-struct Seen {
-    checked: Checked,
-    played: Played,
-}
-
-// Plays the lowered program of a source without an input.
-fn played(alloc: Global, source: &[u8], workers: u32) -> Result<Seen, Fail>
-    requires { 0 < workers }
+// Plays an accepted program without an input.
+fn play_of(alloc: Global, checked: &Checked, workers: u32) -> Result<Played, NoMemory>
+    requires accepted { BreaksNoRule (tree_of checked.now) }
+    requires workers { 0 < workers }
 {
-    let checked = lowered(alloc, source)?;
-    let code = lower(alloc, &checked)?;
+    let code = lower(alloc, checked)?;
     let input = Numbers::new(alloc);
-    let played = play(
+    play(
         alloc,
-        &checked,
+        checked,
         &code,
         &input,
         workers,
         workers,
         &[],
         1_000_000,
-    )?;
-    Ok(Seen { checked, played })
+    )
+}
+
+// Plays the lowered program of a source.
+fn played(alloc: Global, source: &[u8], workers: u32) -> Result<Played, Fail>
+    requires { 0 < workers }
+{
+    let checked = lowered(alloc, source)?;
+    Ok(play_of(alloc, &checked, workers)?)
 }
 
 // Returns the place of a trap in this column and this row.
@@ -111,47 +114,81 @@ fn trap_at(trap: Option<(Trap, u32, u32)>) -> Option<TrapAt> {
     })
 }
 
+// Plays the program of a row. Returns whether its grid was filled without a race, with the output, the trap
+// and the columns of the row.
+fn is_filled(alloc: Global, row: Row, workers: u32) -> Result<bool, Fail>
+    requires { 0 < workers }
+{
+    let (source, output, trap, columns) = row;
+    let played = played(alloc, source.as_bytes(), workers)?;
+    Ok(
+        played.finished
+            && played.reports.is_empty()
+            && played.output.as_slice() == output
+            && played.trap == trap_at(trap)
+            && played.run_log.columns.len() == columns,
+    )
+}
+
 #[test]
 fn grids_are_filled(rt: HostRuntime) -> Result<(), Fail> {
-    let alloc = rt.alloc();
-    for workers in [1, 8] {
-        for (source, output, trap, columns) in ROWS {
-            let Seen { played, .. } = played(alloc, source.as_bytes(), workers)?;
-            assert!(rt; played.finished && played.reports.is_empty(), "{source}");
-            assert_eq!(rt; played.output.as_slice(), output, "{source}");
-            assert_eq!(rt; played.trap, trap_at(trap), "{source}");
-            assert_eq!(rt; played.run_log.columns.len(), columns, "{source}");
+    for (k, row) in ROWS.into_iter().enumerate() {
+        for workers in [1, 8] {
+            assert!(rt; is_filled(rt.alloc(), row, workers)?, "row {k}, {workers}");
         }
     }
     Ok(())
 }
 
+// Plays a program. Returns whether it is finished without a trap, and has these lines of its races.
+fn races_as(alloc: Global, checked: &Checked, lines: &[u8]) -> Result<bool, NoMemory>
+    requires { BreaksNoRule (tree_of checked.now) }
+{
+    let played = play_of(alloc, checked, 1)?;
+    let found = text(alloc, &played.reports, checked)?;
+    Ok(played.finished && played.trap.is_none() && found.as_slice() == lines)
+}
+
 #[test]
 fn points_off_the_paths_race(rt: HostRuntime) -> Result<(), Fail> {
-    let alloc = rt.alloc();
-    let Seen { checked, played } = played(alloc, RACING_POINTS.as_bytes(), 1)?;
-    assert!(rt; played.finished && played.trap.is_none());
-    let lines = text(alloc, &played.reports, &checked)?;
-    assert_eq!(rt; lines.as_slice(), b"race s write 0/1 read 1/0\n".as_slice());
+    let checked = lowered(rt.alloc(), RACING_POINTS.as_bytes())?;
+    assert!(rt; races_as(rt.alloc(), &checked, b"race s write 0/1 read 1/0\n")?);
     Ok(())
+}
+
+// Texts, each repeated, one after the other.
+fn joined(alloc: Global, parts: &[(&[u8], usize)]) -> Result<Vec<u8>, NoMemory> {
+    let mut source = Vec::new(alloc);
+    for (text, times) in parts {
+        for _ in 0..*times {
+            source.extend_from_slice(text)?;
+        }
+    }
+    Ok(source)
+}
+
+// A body in 64 brackets.
+const DEEPEST: [(&[u8], usize); 5] = [
+    (
+        b"limits iterations 1, stages 1, steps 999, emits 1; cell s = 0; pipe_while (1) { let row = 0; ",
+        1,
+    ),
+    (b"if (1) { ", 63),
+    (b"s = 1; ", 1),
+    (b"} ", 63),
+    (b"} final { emit s; }", 1),
+];
+
+// Whether a program emits 1.
+fn emits_one(alloc: Global, source: &[u8]) -> Result<bool, Fail> {
+    let played = played(alloc, source, 1)?;
+    Ok(played.output.as_slice() == [1].as_slice())
 }
 
 // The lowered program has one open bracket more than a source may have.
 #[test]
 fn deepest_bodies_are_lowered(rt: HostRuntime) -> Result<(), Fail> {
-    let alloc = rt.alloc();
-    let mut source = Vec::new(alloc);
-    source.extend_from_slice(b"limits iterations 1, stages 1, steps 999, emits 1; cell s = 0; ")?;
-    source.extend_from_slice(b"pipe_while (1) { let row = 0; ")?;
-    for _ in 0..63 {
-        source.extend_from_slice(b"if (1) { ")?;
-    }
-    source.extend_from_slice(b"s = 1; ")?;
-    for _ in 0..63 {
-        source.extend_from_slice(b"} ")?;
-    }
-    source.extend_from_slice(b"} final { emit s; }")?;
-    let Seen { played, .. } = played(alloc, &source, 1)?;
-    assert_eq!(rt; played.output.as_slice(), [1].as_slice());
+    let source = joined(rt.alloc(), &DEEPEST)?;
+    assert!(rt; emits_one(rt.alloc(), &source)?);
     Ok(())
 }

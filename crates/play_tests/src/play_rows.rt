@@ -1,8 +1,11 @@
 //! Loops, played by given choices.
 
 ghost use Rattle.std.specs.Prelude.{◌≡◌, ◌<◌};
+ghost use Rattle.pipe_model.specs.Language.CheckingRules.{BreaksNoRule};
+ghost use Rattle.pipe_model.specs.Language.SyntaxTree.{tree_of};
 
 use crate::sources::accepted;
+use pipe_check::checked::Checked;
 use pipe_model::access::CellId;
 use pipe_model::list::{Bytes, Numbers};
 use pipe_model::memory::NoMemory;
@@ -87,24 +90,62 @@ struct Seen {
     lines: Bytes,
 }
 
-// Plays a source without an input.
-fn played(alloc: Global, source: &str, limits: Bounds, choices: &[u32]) -> Result<Seen, Fail>
+// Plays an accepted program without an input.
+fn play_of(
+    alloc: Global,
+    checked: &Checked,
+    limits: Bounds,
+    choices: &[u32],
+) -> Result<Played, NoMemory>
+    requires accepted { BreaksNoRule (tree_of checked.now) }
     requires workers { 0 < limits.workers }
     requires throttle { 0 < limits.throttle }
 {
-    let checked = accepted(alloc, source.as_bytes())?;
-    let code = lower(alloc, &checked)?;
+    let code = lower(alloc, checked)?;
     let input = Numbers::new(alloc);
     let Bounds {
         workers,
         throttle,
         turns,
     } = limits;
-    let play = play(
-        alloc, &checked, &code, &input, workers, throttle, choices, turns,
-    )?;
-    let lines = text(alloc, &play.run_log, &checked)?;
+    play(
+        alloc, checked, &code, &input, workers, throttle, choices, turns,
+    )
+}
+
+// The same, with the lines of the log.
+fn seen_of(
+    alloc: Global,
+    checked: &Checked,
+    limits: Bounds,
+    choices: &[u32],
+) -> Result<Seen, NoMemory>
+    requires accepted { BreaksNoRule (tree_of checked.now) }
+    requires workers { 0 < limits.workers }
+    requires throttle { 0 < limits.throttle }
+{
+    let play = play_of(alloc, checked, limits, choices)?;
+    let lines = text(alloc, &play.run_log, checked)?;
     Ok(Seen { play, lines })
+}
+
+// Plays the program of a source.
+fn played(alloc: Global, source: &str, limits: Bounds, choices: &[u32]) -> Result<Seen, Fail>
+    requires workers { 0 < limits.workers }
+    requires throttle { 0 < limits.throttle }
+{
+    let checked = accepted(alloc, source.as_bytes())?;
+    Ok(seen_of(alloc, &checked, limits, choices)?)
+}
+
+// Plays it by the choices of a seed.
+fn seeded(alloc: Global, source: &str, limits: Bounds, seed: u32) -> Result<Seen, Fail>
+    requires workers { 0 < limits.workers }
+    requires throttle { 0 < limits.throttle }
+    requires seed { seed < 100 }
+{
+    let choices = choices(alloc, seed)?;
+    played(alloc, source, limits, choices.as_slice())
 }
 
 fn joined(alloc: Global, lines: &[&str]) -> Result<Bytes, NoMemory> {
@@ -115,61 +156,73 @@ fn joined(alloc: Global, lines: &[&str]) -> Result<Bytes, NoMemory> {
     Ok(Bytes::from_vec(text))
 }
 
+// Whether a loop that was played has these lines.
+fn has_lines(alloc: Global, seen: &Seen, lines: &[&str]) -> Result<bool, NoMemory> {
+    let wanted = joined(alloc, lines)?;
+    Ok(seen.lines.as_slice() == wanted.as_slice())
+}
+
+// Plays the loop that counts to 1, which has twelve events. Returns whether it has its first lines and no
+// race, and is finished if it had enough turns.
+fn counts(alloc: Global, turns: u64) -> Result<bool, Fail> {
+    let seen = played(alloc, COUNTING, limits(1, 2, turns), &[])?;
+    let lines = &LINES[..turns.min(12) as usize];
+    let ends = seen.play.finished == (turns >= 12) && seen.play.reports.is_empty();
+    Ok(has_lines(alloc, &seen, lines)? && ends)
+}
+
 #[test]
 fn a_loop_is_played_to_its_end(rt: HostRuntime) -> Result<(), Fail> {
-    let alloc = rt.alloc();
-    let seen = played(alloc, COUNTING, limits(1, 2, 100), &[])?;
-    assert_eq!(rt; seen.lines.as_slice(), joined(alloc, &LINES)?.as_slice());
-    assert!(rt; seen.play.finished && seen.play.reports.is_empty());
-    let front = played(alloc, COUNTING, limits(1, 2, 11), &[])?;
-    assert_eq!(rt;
-        front.lines.as_slice(),
-        joined(alloc, &LINES[..11])?.as_slice()
-    );
-    assert!(rt; !front.play.finished);
-    let none = played(alloc, COUNTING, limits(1, 2, 0), &[])?;
-    assert!(rt; none.lines.is_empty() && !none.play.finished);
+    for turns in [0, 11, 12, 100] {
+        assert!(rt; counts(rt.alloc(), turns)?, "{turns}");
+    }
     Ok(())
+}
+
+// Whether a play by a seed is finished, and has a race of cell `f` alone.
+fn has_the_race(alloc: Global, seed: u32) -> Result<bool, Fail>
+    requires { seed < 100 }
+{
+    let seen = seeded(alloc, RACING, limits(2, 2, 10_000), seed)?;
+    let reports = seen.play.reports.as_slice();
+    Ok(seen.play.finished && reports.len() == 1 && reports[0].cell == CellId(3))
 }
 
 #[test]
 fn each_schedule_has_the_race(rt: HostRuntime) -> Result<(), Fail> {
-    let alloc = rt.alloc();
     for seed in 0..100 {
-        let choices = choices(alloc, seed)?;
-        let seen = played(alloc, RACING, limits(2, 2, 10_000), choices.as_slice())?;
-        assert!(rt; seen.play.finished, "{seed}");
-        let reports = seen.play.reports.as_slice();
-        assert_eq!(rt; reports.len(), 1, "{seed}");
-        assert_eq!(rt; reports[0].cell, CellId(3), "{seed}");
+        assert!(rt; has_the_race(rt.alloc(), seed)?, "{seed}");
     }
     Ok(())
+}
+
+// Whether a play by a seed, with one iteration alive at a time, is finished and has these lines.
+fn is_serial(alloc: Global, seed: u32, lines: &[u8]) -> Result<bool, Fail>
+    requires { seed < 100 }
+{
+    let seen = seeded(alloc, WAITING, limits(4, 1, 1000), seed)?;
+    Ok(seen.play.finished && seen.lines.as_slice() == lines)
 }
 
 // With one iteration alive at a time there is one order.
 #[test]
 fn throttled_loops_are_serial(rt: HostRuntime) -> Result<(), Fail> {
-    let alloc = rt.alloc();
-    let serial = played(alloc, WAITING, limits(1, 1, 1000), &[])?;
+    let serial = played(rt.alloc(), WAITING, limits(1, 1, 1000), &[])?.lines;
     for seed in 0..10 {
-        let choices = choices(alloc, seed)?;
-        let seen = played(alloc, WAITING, limits(4, 1, 1000), choices.as_slice())?;
-        assert!(rt; seen.play.finished, "{seed}");
-        assert_eq!(rt; seen.lines.as_slice(), serial.lines.as_slice(), "{seed}");
+        assert!(rt; is_serial(rt.alloc(), seed, serial.as_slice())?, "{seed}");
     }
     Ok(())
 }
 
 // Choice 1 begins iteration 1 as soon as it may begin, and lets it go on up to its wait. It enters its stage
 // once iteration 0 has ended, after iteration 2, which closes the loop.
+fn waits_and_goes_on(alloc: Global) -> Result<bool, Fail> {
+    let seen = played(alloc, WAITING, limits(2, 2, 1000), &[1])?;
+    Ok(has_lines(alloc, &seen, &WAITING_LINES)? && seen.play.finished)
+}
+
 #[test]
 fn an_iteration_waits_and_goes_on(rt: HostRuntime) -> Result<(), Fail> {
-    let alloc = rt.alloc();
-    let seen = played(alloc, WAITING, limits(2, 2, 1000), &[1])?;
-    assert_eq!(rt;
-        seen.lines.as_slice(),
-        joined(alloc, &WAITING_LINES)?.as_slice()
-    );
-    assert!(rt; seen.play.finished);
+    assert!(rt; waits_and_goes_on(rt.alloc())?);
     Ok(())
 }

@@ -1,12 +1,15 @@
 //! Whole programs, played by given choices.
 
 ghost use Rattle.std.specs.Prelude.{◌<◌};
+ghost use Rattle.pipe_model.specs.Language.CheckingRules.{BreaksNoRule};
+ghost use Rattle.pipe_model.specs.Language.SyntaxTree.{tree_of};
 
 use crate::sources::accepted;
 use pipe_check::checked::Checked;
 use pipe_model::column::ColumnEnd;
 use pipe_model::event::Event;
 use pipe_model::list::Numbers;
+use pipe_model::memory::NoMemory;
 use pipe_model::node::NodeId;
 use pipe_model::trap::{Trap, TrapAt, TrapPlace};
 use race_report::race_text::text;
@@ -72,14 +75,27 @@ const ROWS: [Row; 6] = [
     ),
 ];
 
-// A program that was played.
-#[derive(Drop)]
-struct Seen {
-    checked: Checked,
-    played: Played,
+// Plays an accepted program without an input.
+fn play_of(
+    alloc: Global,
+    checked: &Checked,
+    workers: u32,
+    throttle: u32,
+    choices: &[u32],
+    turns: u64,
+) -> Result<Played, NoMemory>
+    requires accepted { BreaksNoRule (tree_of checked.now) }
+    requires workers { 0 < workers }
+    requires throttle { 0 < throttle }
+{
+    let code = lower(alloc, checked)?;
+    let input = Numbers::new(alloc);
+    play(
+        alloc, checked, &code, &input, workers, throttle, choices, turns,
+    )
 }
 
-// Plays a program without an input.
+// Plays the program of a source.
 fn played(
     alloc: Global,
     source: &str,
@@ -87,17 +103,12 @@ fn played(
     throttle: u32,
     choices: &[u32],
     turns: u64,
-) -> Result<Seen, Fail>
+) -> Result<Played, Fail>
     requires workers { 0 < workers }
     requires throttle { 0 < throttle }
 {
     let checked = accepted(alloc, source.as_bytes())?;
-    let code = lower(alloc, &checked)?;
-    let input = Numbers::new(alloc);
-    let played = play(
-        alloc, &checked, &code, &input, workers, throttle, choices, turns,
-    )?;
-    Ok(Seen { checked, played })
+    Ok(play_of(alloc, &checked, workers, throttle, choices, turns)?)
 }
 
 // Returns the trap of a division by 0 at this place.
@@ -143,82 +154,125 @@ fn are_prefix_sums(played: &Played) -> bool {
         && played.trap.is_none()
 }
 
+// Plays the prefix sums for so many turns. Returns whether they are finished, and whether they are right.
+fn ends(alloc: Global, turns: u64) -> Result<(bool, bool), Fail> {
+    let played = played(alloc, PREFIX_SUMS, 4, 4, &[59], turns)?;
+    Ok((played.finished, are_prefix_sums(&played)))
+}
+
+// Plays the prefix sums. Returns whether they are right, and the most instances that ran at a time.
+fn sums(alloc: Global, workers: u32, choices: &[u32]) -> Result<(bool, u32), Fail>
+    requires { 0 < workers }
+{
+    let played = played(alloc, PREFIX_SUMS, workers, 4, choices, 1000)?;
+    let most = most_running(played.run_log.events.as_slice());
+    Ok((are_prefix_sums(&played), most))
+}
+
+// Plays them by the choices of a seed.
+fn seeded_sums(alloc: Global, workers: u32, seed: u32) -> Result<(bool, u32), Fail>
+    requires workers { 0 < workers }
+    requires seed { seed < 10 }
+{
+    let choices = choices(alloc, seed)?;
+    sums(alloc, workers, choices.as_slice())
+}
+
 #[test]
 fn sums_take_42_turns(rt: HostRuntime) -> Result<(), Fail> {
-    let alloc = rt.alloc();
-    for turns in [41, 42] {
-        let Seen { played, .. } = played(alloc, PREFIX_SUMS, 4, 4, &[59], turns)?;
-        assert_eq!(rt; played.finished, turns == 42);
-        assert_eq!(rt; are_prefix_sums(&played), turns == 42);
-    }
+    assert!(rt; ends(rt.alloc(), 41)? == (false, false));
+    assert!(rt; ends(rt.alloc(), 42)? == (true, true));
     Ok(())
 }
 
 #[test]
 fn schedules_change_no_sum(rt: HostRuntime) -> Result<(), Fail> {
-    let alloc = rt.alloc();
     for seed in 0..10 {
-        let choices = choices(alloc, seed)?;
-        let Seen { played, .. } = played(alloc, PREFIX_SUMS, 4, 4, choices.as_slice(), 1000)?;
-        assert!(rt; are_prefix_sums(&played), "{seed}");
+        let (are_right, _most) = seeded_sums(rt.alloc(), 4, seed)?;
+        assert!(rt; are_right, "{seed}");
     }
     Ok(())
 }
 
 #[test]
 fn two_workers_run_two_instances(rt: HostRuntime) -> Result<(), Fail> {
-    let alloc = rt.alloc();
     for seed in 0..10 {
-        let choices = choices(alloc, seed)?;
-        let Seen { played, .. } = played(alloc, PREFIX_SUMS, 2, 4, choices.as_slice(), 1000)?;
-        assert!(rt; are_prefix_sums(&played), "{seed}");
-        let most = most_running(played.run_log.events.as_slice());
-        assert_eq!(rt; most, 2, "{seed}");
+        assert!(rt; seeded_sums(rt.alloc(), 2, seed)? == (true, 2), "{seed}");
     }
     Ok(())
 }
 
-// `final`, which would emit 7, does not run.
+// Plays a program whose sums race. Returns whether it has the races, and `final`, which would emit 7, has
+// not run.
+fn leaves_out_final(alloc: Global, checked: &Checked) -> Result<bool, NoMemory>
+    requires { BreaksNoRule (tree_of checked.now) }
+{
+    let played = play_of(alloc, checked, 1, 1, &[], 10_000)?;
+    let lines = text(alloc, &played.reports, checked)?;
+    Ok(
+        played.finished
+            && played.trap.is_none()
+            && lines.as_slice() == RACING_LINES.as_bytes()
+            && played.output.as_slice() == [1, 3, 6].as_slice(),
+    )
+}
+
 #[test]
 fn races_leave_out_final(rt: HostRuntime) -> Result<(), Fail> {
-    let alloc = rt.alloc();
-    let Seen { checked, played } = played(alloc, RACING_SUMS, 1, 1, &[], 10_000)?;
-    assert!(rt; played.finished && played.trap.is_none());
-    let lines = text(alloc, &played.reports, &checked)?;
-    assert_eq!(rt; lines.as_slice(), RACING_LINES.as_bytes());
-    assert_eq!(rt; played.output.as_slice(), [1, 3, 6].as_slice());
+    let checked = accepted(rt.alloc(), RACING_SUMS.as_bytes())?;
+    assert!(rt; leaves_out_final(rt.alloc(), &checked)?);
     Ok(())
+}
+
+// Whether this is left of a program after some turns: the number of events and of columns, the output,
+// the part in which 1 is divided by 0, and whether the run is finished.
+fn is_left(
+    played: &Played,
+    counts: [usize; 2],
+    output: &[i64],
+    place: Option<TrapPlace>,
+    finished: bool,
+) -> bool {
+    [played.run_log.events.len(), played.run_log.columns.len()] == counts
+        && played.output.as_slice() == output
+        && played.trap == division(place)
+        && played.finished == finished
+}
+
+fn is_played_as(alloc: Global, row: Row) -> Result<bool, Fail> {
+    let (source, turns, counts, output, place, finished) = row;
+    let played = played(alloc, source, 2, 2, &[], turns)?;
+    Ok(is_left(&played, counts, output, place, finished))
 }
 
 #[test]
 fn parts_run_in_order(rt: HostRuntime) -> Result<(), Fail> {
-    let alloc = rt.alloc();
-    for (source, turns, [events, columns], output, place, finished) in ROWS {
-        let Seen { played, .. } = played(alloc, source, 2, 2, &[], turns)?;
-        assert_eq!(rt; played.run_log.events.len(), events, "{source}");
-        assert_eq!(rt; played.run_log.columns.len(), columns, "{source}");
-        assert_eq!(rt; played.output.as_slice(), output, "{source}");
-        assert_eq!(rt; played.trap, division(place), "{source}");
-        assert_eq!(rt; played.finished, finished, "{source}");
+    for (k, row) in ROWS.into_iter().enumerate() {
+        assert!(rt; is_played_as(rt.alloc(), row)?, "row {k}");
     }
     Ok(())
+}
+
+// Takes this choice each time. Returns whether the trap of iteration 1 is reported, and `last` is the
+// iteration that trapped last.
+fn has_least_trap(alloc: Global, choice: u32, last: u32) -> Result<bool, Fail> {
+    let played = played(alloc, TWO_TRAPS, 4, 4, &[choice], 47)?;
+    let node = NodeId {
+        iteration: 1,
+        index: 2,
+    };
+    Ok(
+        played.finished
+            && last_trapped(played.run_log.events.as_slice()) == Some(last)
+            && played.trap == division(Some(TrapPlace::At(node, 5)))
+            && played.output.as_slice() == [0, 1, 2, 3].as_slice(),
+    )
 }
 
 // The last candidate is taken each time by choice 59, as there are at most 5: iteration 3 traps first.
 #[test]
 fn least_iteration_has_the_trap(rt: HostRuntime) -> Result<(), Fail> {
-    let alloc = rt.alloc();
-    let node = NodeId {
-        iteration: 1,
-        index: 2,
-    };
-    let trap = division(Some(TrapPlace::At(node, 5)));
-    for (choice, last) in [(0, 3), (59, 1)] {
-        let Seen { played, .. } = played(alloc, TWO_TRAPS, 4, 4, &[choice], 47)?;
-        assert!(rt; played.finished);
-        assert_eq!(rt; last_trapped(played.run_log.events.as_slice()), Some(last));
-        assert_eq!(rt; played.trap, trap);
-        assert_eq!(rt; played.output.as_slice(), [0, 1, 2, 3].as_slice());
-    }
+    assert!(rt; has_least_trap(rt.alloc(), 0, 3)?);
+    assert!(rt; has_least_trap(rt.alloc(), 59, 1)?);
     Ok(())
 }

@@ -1,6 +1,7 @@
 //! Programs that are no wave loops, each with its first fault.
 
 use crate::wave_sources::wave_fault;
+use std::alloc::Global;
 use std::test::Fail;
 use wave_lower::fault::WaveFault;
 
@@ -40,14 +41,17 @@ const ROWS: [(&str, WaveFault); 11] = [
     ),
 ];
 
+// The first fault of a loop after the declarations.
+fn fault_of(alloc: Global, body: &str) -> Result<Option<WaveFault>, Fail> {
+    let mut source = Vec::from_slice(alloc, HEAD.as_bytes())?;
+    source.extend_from_slice(body.as_bytes())?;
+    wave_fault(alloc, &source)
+}
+
 #[test]
 fn first_faults_are_found(rt: HostRuntime) -> Result<(), Fail> {
-    let alloc = rt.alloc();
     for (body, fault) in ROWS {
-        let mut source = Vec::new(alloc);
-        source.extend_from_slice(HEAD.as_bytes())?;
-        source.extend_from_slice(body.as_bytes())?;
-        assert_eq!(rt; wave_fault(alloc, &source)?, Some(fault), "{body}");
+        assert!(rt; fault_of(rt.alloc(), body)? == Some(fault), "{body}");
     }
     Ok(())
 }

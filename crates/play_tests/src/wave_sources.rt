@@ -15,10 +15,7 @@ use wave_lower::wave::lower_wave;
 /// Returns the fault of a source as a wave loop, if it has one.
 pub fn wave_fault(alloc: Global, source: &[u8]) -> Result<Option<WaveFault>, Fail> {
     let checked = accepted(alloc, source)?;
-    match lower_wave(alloc, checked.program()) {
-        Ok(_) => Ok(None),
-        Err(fault) => Ok(Some(fault)),
-    }
+    Ok(lower_wave(alloc, checked.program()).err())
 }
 
 /// Returns the lowered program of a source, or fails the test if the source is no wave loop.

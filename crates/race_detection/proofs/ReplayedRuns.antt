@@ -4,7 +4,7 @@ use Rattle.std.proofs.Common.{length, ap, sym, subst, arith}
 use Rattle.std.proofs.lemmas.Bool.Decides.{nat_tests}
 use Rattle.std.proofs.lemmas.List.{get_or-map, length-map}
 use Rattle.order_2d.specs.declared.replay.Replayed.{Replayed}
-use Rattle.order_2d.specs.LogStarts.{IsOwnLog, log_columns, log_starts, nodes_of_columns}
+use Rattle.order_2d.specs.LogStarts.{IsOwnLog, log_columns, log_starts}
 use Rattle.order_2d.specs.ReplayedOrders.{marks_of_starts}
 use Rattle.order_2d.specs.StartedNodes.{HasStarted}
 use Rattle.pipe_model.specs.declared.event.RunLog.{RunLog}
@@ -17,7 +17,7 @@ use Rattle.pipe_model.specs.Orders.OrderMarks.{instance_marks}
 use Rattle.order_2d.proofs.OwnLogs.{own_starts}
 use Rattle.pipe_model.specs.Orders.Starts.{AreStarts, IsStarted, start_at, start_number}
 use Rattle.pipe_model.specs.Orders.TwoOrders.{down_first_log, right_first_log}
-use Rattle.pipe_model.specs.Races.Columns.{IsNodeOf, at}
+use Rattle.pipe_model.specs.Races.Columns.{IsNodeOf, at, node_columns}
 use Rattle.race_detection.specs.NotedRuns.{IsReplayOf}
 
 -- the start with the number of an instance is that instance
@@ -63,7 +63,7 @@ pub is_replay : (log : RunLog) (r : Replayed) → IsOwnLog log → r.nodes ≡ l
     → HasStarted (log_columns log.events) (log_starts log.events) (length (log_starts log.events)) r.rows.items
     → All (AreIn (list_of_log r.orders.down.log) (list_of_log r.orders.right.log)) r.marks.items
     → ((x : NodeId) → IsStarted r.nodes x ↔ IsNodeOf (log_columns log.events) x)
-    → IsReplayOf (nodes_of_columns log.columns) r
+    → IsReplayOf (node_columns log.columns) r
 is_replay log r own nodes down right marks rows placed instances =
     let columns = log_columns log.events in
     let made : IsReplayOf columns r = record {

@@ -1,9 +1,9 @@
 //! The races of a logged run.
 
 ghost use Rattle.std.specs.Prelude.{◌≡◌, ◌≤◌, ◌<◌, ◌^◌, ◌++◌, ◌∷◌, ℕ, All, List, [], IfOk, length, OnOk};
-ghost use Rattle.order_2d.specs.LogStarts.{IsControlLog, IsOwnLog, log_columns, log_starts, nodes_of_columns};
+ghost use Rattle.order_2d.specs.LogStarts.{IsControlLog, IsOwnLog, log_columns, log_starts};
 ghost use Rattle.order_2d.specs.declared.starts.TheConstants.{MOST_STARTS};
-ghost use Rattle.pipe_model.specs.Races.Columns.{IsNodeOf};
+ghost use Rattle.pipe_model.specs.Races.Columns.{IsNodeOf, node_columns};
 ghost use Rattle.pipe_model.specs.declared.access.NodeAccess.{NodeAccess as PlainAccess};
 ghost use Rattle.race_detection.specs.FoundReports.{found_reports};
 ghost use Rattle.race_detection.specs.LogAccesses.{access_by, log_accesses};
@@ -33,14 +33,14 @@ fn empty_histories(alloc: Global, cells: usize) -> Result<Vec<History>, NoMemory
 
 // Notes an access in the history of its cell.
 fn note_access(run: &StartedRun<'_>, access: NodeAccess, histories: &mut Vec<History>)
-    requires run { IsReplayOf (nodes_of_columns run.now.columns.now) run.now.replayed }
-    requires inside { IsNodeOf (nodes_of_columns run.now.columns.now) access.node }
+    requires run { IsReplayOf (node_columns run.now.columns.now) run.now.replayed }
+    requires inside { IsNodeOf (node_columns run.now.columns.now) access.node }
     requires cell { access.access.cell.0 < length histories.old.items }
-    requires noted { (before : List PlainAccess) × HaveNoted (nodes_of_columns run.now.columns.now) run.now.replayed.nodes before
+    requires noted { (before : List PlainAccess) × HaveNoted (node_columns run.now.columns.now) run.now.replayed.nodes before
         histories.old.items }
-    ensures noted { (before : List PlainAccess) → HaveNoted (nodes_of_columns run.now.columns.now) run.now.replayed.nodes before
+    ensures noted { (before : List PlainAccess) → HaveNoted (node_columns run.now.columns.now) run.now.replayed.nodes before
         histories.old.items
-        → HaveNoted (nodes_of_columns run.now.columns.now) run.now.replayed.nodes (before ++ access ∷ []) histories.new.items }
+        → HaveNoted (node_columns run.now.columns.now) run.now.replayed.nodes (before ++ access ∷ []) histories.new.items }
     ensures count { length histories.new.items ≡ length histories.old.items }
 {
     let history = &mut histories[access.access.cell.0 as usize];
@@ -50,14 +50,14 @@ fn note_access(run: &StartedRun<'_>, access: NodeAccess, histories: &mut Vec<His
 // Notes the access of an event, if it is one; `counts` has the number of instances that each
 // iteration has started before it.
 fn note_event(run: &StartedRun<'_>, event: &Event, counts: &[u32], histories: &mut Vec<History>)
-    requires run { IsReplayOf (nodes_of_columns run.now.columns.now) run.now.replayed }
-    requires inside { All (λ (a : PlainAccess). IsNodeOf (nodes_of_columns run.now.columns.now) a.node) (access_by counts.now event.now) }
+    requires run { IsReplayOf (node_columns run.now.columns.now) run.now.replayed }
+    requires inside { All (λ (a : PlainAccess). IsNodeOf (node_columns run.now.columns.now) a.node) (access_by counts.now event.now) }
     requires cells { All (λ (a : PlainAccess). a.access.cell.0 < length histories.old.items) (access_by counts.now event.now) }
-    requires noted { (before : List PlainAccess) × HaveNoted (nodes_of_columns run.now.columns.now) run.now.replayed.nodes before
+    requires noted { (before : List PlainAccess) × HaveNoted (node_columns run.now.columns.now) run.now.replayed.nodes before
         histories.old.items }
-    ensures noted { (before : List PlainAccess) → HaveNoted (nodes_of_columns run.now.columns.now) run.now.replayed.nodes before
+    ensures noted { (before : List PlainAccess) → HaveNoted (node_columns run.now.columns.now) run.now.replayed.nodes before
         histories.old.items
-        → HaveNoted (nodes_of_columns run.now.columns.now) run.now.replayed.nodes (before ++ access_by counts.now event.now)
+        → HaveNoted (node_columns run.now.columns.now) run.now.replayed.nodes (before ++ access_by counts.now event.now)
         histories.new.items }
     ensures count { length histories.new.items ≡ length histories.old.items }
 {
@@ -85,13 +85,13 @@ fn note_all(
     events: &[Event],
     histories: &mut Vec<History>,
 ) -> Result<(), NoMemory>
-    requires run { IsReplayOf (nodes_of_columns run.now.columns.now) run.now.replayed }
+    requires run { IsReplayOf (node_columns run.now.columns.now) run.now.replayed }
     requires control { IsControlLog events.now }
     requires bounded { length (log_starts events.now) ≤ MOST_STARTS }
-    requires inside { All (λ (a : PlainAccess). IsNodeOf (nodes_of_columns run.now.columns.now) a.node) (log_accesses events.now) }
+    requires inside { All (λ (a : PlainAccess). IsNodeOf (node_columns run.now.columns.now) a.node) (log_accesses events.now) }
     requires cells { All (λ (a : PlainAccess). a.access.cell.0 < length histories.old.items) (log_accesses events.now) }
-    requires empty { HaveNoted (nodes_of_columns run.now.columns.now) run.now.replayed.nodes [] histories.old.items }
-    ensures noted { OnOk result (HaveNoted (nodes_of_columns run.now.columns.now) run.now.replayed.nodes (log_accesses events.now)
+    requires empty { HaveNoted (node_columns run.now.columns.now) run.now.replayed.nodes [] histories.old.items }
+    ensures noted { OnOk result (HaveNoted (node_columns run.now.columns.now) run.now.replayed.nodes (log_accesses events.now)
         histories.new.items) }
     ensures count { OnOk result (length histories.new.items ≡ length histories.old.items) }
 {

@@ -1,17 +1,12 @@
 -- The report of a race that the history of a cell has found.
-use Rattle.std.specs.Prelude.{List, map}
+use Rattle.std.specs.Prelude.{List}
 use Rattle.access_history.specs.declared.history.Found.{Found}
 use Rattle.pipe_model.specs.declared.access.CellId.{CellId}
-use Rattle.pipe_model.specs.declared.column.Column.{Column}
 use Rattle.pipe_model.specs.declared.node.Node.{Node}
 use Rattle.pipe_model.specs.declared.report.Report.{Report}
 use Rattle.pipe_model.specs.Races.CellRaces.{noted_access}
 use Rattle.pipe_model.specs.Races.Columns.{IsNodeOf}
 use Rattle.pipe_model.specs.Races.Reports.{report_of}
-
--- the instances of the columns, without the ends of the columns
-abbrev pub column_nodes : List Column → List (List Node)
-column_nodes columns = map (λ c. c.nodes) columns
 
 -- both instances of the race are in the columns
 pub record IsFoundIn (columns : List (List Node)) (race : Found) : Type 0 where

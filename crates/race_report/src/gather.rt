@@ -2,9 +2,9 @@
 
 ghost use Rattle.std.specs.Prelude.{◌≡◌, ◌≢◌, All, AllPairs, IfOk, map};
 ghost use Rattle.std.specs.List.Sorted.{IsPermutation};
-ghost use Rattle.pipe_model.specs.Races.Columns.{IsNodeOf};
+ghost use Rattle.pipe_model.specs.Races.Columns.{IsNodeOf, node_columns};
 ghost use Rattle.pipe_model.specs.Races.Reports.{RiseByCell, number_at};
-ghost use Rattle.race_report.specs.RaceReports.{IsFoundIn, column_nodes, report_found};
+ghost use Rattle.race_report.specs.RaceReports.{IsFoundIn, report_found};
 
 use access_history::history::Found;
 use pipe_model::access::CellId;
@@ -17,15 +17,15 @@ use std::alloc::Global;
 
 // The stage number of an instance.
 fn number_of(columns: &[Column], x: NodeId) -> i64
-    requires { IsNodeOf (column_nodes columns.now) x }
-    ensures { result ≡ number_at (column_nodes columns.now) x }
+    requires { IsNodeOf (node_columns columns.now) x }
+    ensures { result ≡ number_at (node_columns columns.now) x }
 {
     columns[x.iteration as usize].nodes.as_slice()[x.index as usize].number
 }
 
 fn report_of(columns: &[Column], cell: CellId, race: Found) -> Report
-    requires { IsFoundIn (column_nodes columns.now) race }
-    ensures { result ≡ report_found (column_nodes columns.now) cell race }
+    requires { IsFoundIn (node_columns columns.now) race }
+    ensures { result ≡ report_found (node_columns columns.now) cell race }
 {
     Report {
         cell,
@@ -44,8 +44,8 @@ fn reports_of(
     found: &[(CellId, Found)],
     columns: &[Column],
 ) -> Result<Vec<Report>, NoMemory>
-    requires { All (λ f. IsFoundIn (column_nodes columns.now) f.1) found.now }
-    ensures { IfOk result (λ reports. reports.items ≡ map (λ f. report_found (column_nodes columns.now) f.0 f.1) found.now) }
+    requires { All (λ f. IsFoundIn (node_columns columns.now) f.1) found.now }
+    ensures { IfOk result (λ reports. reports.items ≡ map (λ f. report_found (node_columns columns.now) f.0 f.1) found.now) }
 {
     let mut reports = Vec::with_capacity(alloc, found.len())?;
     for (cell, race) in found {
@@ -63,8 +63,8 @@ pub fn gather(
     columns: &Columns,
 ) -> Result<Reports, NoMemory>
     requires cells { AllPairs (λ a b. a.0 ≢ b.0) found.now }
-    requires instances { All (λ f. IsFoundIn (column_nodes columns.now) f.1) found.now }
-    ensures each { IfOk result (λ reports. IsPermutation (map (λ f. report_found (column_nodes columns.now) f.0 f.1) found.now) reports) }
+    requires instances { All (λ f. IsFoundIn (node_columns columns.now) f.1) found.now }
+    ensures each { IfOk result (λ reports. IsPermutation (map (λ f. report_found (node_columns columns.now) f.0 f.1) found.now) reports) }
     ensures rise { IfOk result RiseByCell }
 {
     let mut reports = reports_of(alloc, found, columns.as_slice())?;

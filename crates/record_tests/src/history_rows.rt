@@ -142,14 +142,23 @@ fn report_of(accesses: Accesses, race: Race) -> Result<Found, Fail> {
     })
 }
 
+// Whether the first race of the accesses is this, or there is none, and the history reports it.
+fn has_first_race(accesses: Accesses, known: bool, race: Option<Race>) -> Result<bool, Fail> {
+    let (history, first) = noted(accesses, known)?;
+    match race {
+        Some((racing, number, kind)) => {
+            let report = report_of(accesses, (racing, number, kind))?;
+            Ok(first == Some((racing, name(number), kind)) && history.report == Some(report))
+        }
+        None => Ok(first.is_none() && history.report.is_none()),
+    }
+}
+
 #[test]
 fn first_races_are_found(rt: HostRuntime) -> Result<(), Fail> {
-    for (accesses, race) in RACES {
+    for (k, (accesses, race)) in RACES.into_iter().enumerate() {
         for known in [false, true] {
-            let (history, first) = noted(accesses, known)?;
-            let (racing, number, kind) = race;
-            assert_eq!(rt; first, Some((racing, name(number), kind)));
-            assert_eq!(rt; history.report, Some(report_of(accesses, race)?));
+            assert!(rt; has_first_race(accesses, known, Some(race))?, "{k} {known}");
         }
     }
     Ok(())
@@ -157,11 +166,9 @@ fn first_races_are_found(rt: HostRuntime) -> Result<(), Fail> {
 
 #[test]
 fn ordered_accesses_do_not_race(rt: HostRuntime) -> Result<(), Fail> {
-    for accesses in NO_RACES {
+    for (k, accesses) in NO_RACES.into_iter().enumerate() {
         for known in [false, true] {
-            let (history, first) = noted(accesses, known)?;
-            assert_eq!(rt; first, None);
-            assert_eq!(rt; history.report, None);
+            assert!(rt; has_first_race(accesses, known, None)?, "{k} {known}");
         }
     }
     Ok(())

@@ -1,12 +1,12 @@
 //! The merge of a book and two shards, with the same tickets in several logs.
 
-ghost use Rattle.std.specs.Prelude.{◌≡◌, IfOk};
+ghost use Rattle.std.specs.Prelude.{◌≡◌, All, IfOk};
 ghost use Rattle.run_record.specs.MergedLogs.{BookRises, ShardRises};
 
 use pipe_model::access::{Access, AccessKind, CellId};
-use pipe_model::column::ColumnEnd;
-use pipe_model::event::Event;
+use pipe_model::column::{Column, ColumnEnd};
 use pipe_model::event::Event::{Advance, Begin, Enter, Finish};
+use pipe_model::event::{Event, RunLog};
 use pipe_model::list::ListOf;
 use pipe_model::node::{Kind, Node, NodeId};
 use pipe_model::ticket::{BookEntry, BookLog, ShardEntry, ShardLog};
@@ -76,14 +76,23 @@ fn second_shard(alloc: Global) -> Result<ShardLog, AllocError>
     Ok(ListOf::from_vec(Vec::from_array(alloc, entries)?))
 }
 
-#[test]
-fn equal_tickets_keep_the_order_of_logs(rt: HostRuntime) -> Result<(), Fail> {
-    let alloc = rt.alloc();
-    let mut shards = Vec::new(alloc);
-    shards.push(first_shard(alloc)?)?;
-    shards.push(second_shard(alloc)?)?;
-    let log = merge(alloc, book(alloc)?, shards)?;
-    let wanted = [
+fn shards(alloc: Global) -> Result<Vec<ShardLog>, AllocError>
+    ensures { IfOk result (λ logs. All ShardRises logs.items) }
+{
+    let mut logs = Vec::new(alloc);
+    logs.push(first_shard(alloc)?)?;
+    logs.push(second_shard(alloc)?)?;
+    Ok(logs)
+}
+
+fn merged(alloc: Global) -> Result<RunLog, Fail> {
+    let book = book(alloc)?;
+    let shards = shards(alloc)?;
+    Ok(merge(alloc, book, shards)?)
+}
+
+fn wanted() -> [Event; 11] {
+    [
         Begin(0),
         Event::Access(0, write(2, 20)),
         Advance(0, Kind::Continue, 4),
@@ -95,8 +104,18 @@ fn equal_tickets_keep_the_order_of_logs(rt: HostRuntime) -> Result<(), Fail> {
         Event::Access(1, write(5, 32)),
         Finish(0, ColumnEnd::End),
         Finish(1, ColumnEnd::Closed),
-    ];
-    assert_eq!(rt; log.events.as_slice(), &wanted[..]);
+    ]
+}
+
+// Whether a column has these nodes and this end.
+fn is_column(column: &Column, nodes: &[Node], end: ColumnEnd) -> bool {
+    column.nodes.as_slice() == nodes && column.end == Some(end)
+}
+
+#[test]
+fn equal_tickets_keep_the_order_of_logs(rt: HostRuntime) -> Result<(), Fail> {
+    let log = merged(rt.alloc())?;
+    assert!(rt; log.events.as_slice() == wanted().as_slice());
     let head = Node {
         number: 0,
         kind: Kind::Zero,
@@ -106,10 +125,8 @@ fn equal_tickets_keep_the_order_of_logs(rt: HostRuntime) -> Result<(), Fail> {
         kind: Kind::Continue,
     };
     let columns = log.columns.as_slice();
-    assert_eq!(rt; columns.len(), 2);
-    assert_eq!(rt; columns[0].nodes.as_slice(), &[head, second][..]);
-    assert_eq!(rt; columns[0].end, Some(ColumnEnd::End));
-    assert_eq!(rt; columns[1].nodes.as_slice(), &[head][..]);
-    assert_eq!(rt; columns[1].end, Some(ColumnEnd::Closed));
+    assert!(rt; columns.len() == 2);
+    assert!(rt; is_column(&columns[0], &[head, second], ColumnEnd::End));
+    assert!(rt; is_column(&columns[1], &[head], ColumnEnd::Closed));
     Ok(())
 }

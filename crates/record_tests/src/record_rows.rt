@@ -1,8 +1,12 @@
 //! Records of a loop that counts to 1, waits, and emits the count.
 
-ghost use Rattle.std.specs.Prelude.{◌<◌};
+ghost use Rattle.std.specs.Prelude.{◌<◌, ◌≤◌, ◌^◌, length};
+ghost use Rattle.pipe_model.specs.Language.CheckingRules.{BreaksNoRule};
+ghost use Rattle.pipe_model.specs.Language.SyntaxTree.{tree_of};
 
 use crate::sources::accepted;
+use pipe_check::checked::Checked;
+use pipe_model::event::Events;
 use pipe_model::list::Numbers;
 use pipe_model::memory::NoMemory;
 use record_check::answer::{RecordAnswer, RunKind};
@@ -39,19 +43,20 @@ enum Outcome {
     BadLine(u32),
 }
 
-// Reads and checks a record of `COUNTING`, which has no race.
-fn judged(alloc: Global, record: &[u8], throttle: u32) -> Result<Outcome, Fail>
-    requires { 0 < throttle }
+// Checks the events of a record of an accepted program, which has no race.
+fn outcome_of(
+    alloc: Global,
+    checked: &Checked,
+    throttle: u32,
+    events: &Events,
+) -> Result<Outcome, Fail>
+    requires accepted { BreaksNoRule (tree_of checked.now) }
+    requires throttle { 0 < throttle }
+    requires short { length events.now < 2 ^ 32 }
 {
-    let checked = accepted(alloc, COUNTING.as_bytes())?;
-    let code = lower(alloc, &checked)?;
-    let events = match parse_record(alloc, record, &checked) {
-        Ok(events) => events,
-        Err(RecordFault::BadLine(line)) => return Ok(Outcome::BadLine(line)),
-        Err(_) => return Err(Fail::new(format_args!("the record is not read"))),
-    };
+    let code = lower(alloc, checked)?;
     let input = Numbers::new(alloc);
-    match check_record(alloc, &checked, &code, &input, throttle, &events)? {
+    match check_record(alloc, checked, &code, &input, throttle, events)? {
         RecordAnswer::Run(kind, log, reports) => {
             if log.events.len() != events.len() || !reports.is_empty() {
                 return Err(Fail::new(format_args!("the log or the races are wrong")));
@@ -59,6 +64,18 @@ fn judged(alloc: Global, record: &[u8], throttle: u32) -> Result<Outcome, Fail>
             Ok(Outcome::Run(kind))
         }
         RecordAnswer::NotAllowed(event) => Ok(Outcome::NotAllowed(event)),
+    }
+}
+
+// Reads and checks a record of `COUNTING`.
+fn judged(alloc: Global, record: &[u8], throttle: u32) -> Result<Outcome, Fail>
+    requires { 0 < throttle }
+{
+    let checked = accepted(alloc, COUNTING.as_bytes())?;
+    match parse_record(alloc, record, &checked) {
+        Ok(events) => outcome_of(alloc, &checked, throttle, &events),
+        Err(RecordFault::BadLine(line)) => Ok(Outcome::BadLine(line)),
+        Err(_) => Err(Fail::new(format_args!("the record is not read"))),
     }
 }
 
@@ -94,62 +111,71 @@ fn changed(alloc: Global, index: usize, change: &[&str]) -> Result<Vec<u8>, NoMe
     joined(alloc, lines.as_slice())
 }
 
+// Fails unless the first of the twelve lines are a record of this.
+fn expect_front(alloc: Global, count: usize, wanted: Outcome) -> Result<(), Fail>
+    requires { count ≤ 12 }
+{
+    let record = joined(alloc, &LINES[..count])?;
+    expect(alloc, record.as_slice(), 1024, wanted)
+}
+
+// Fails unless the twelve lines, with `change` in place of the line with this index, are a record of this.
+fn expect_changed(
+    alloc: Global,
+    index: usize,
+    change: &[&str],
+    throttle: u32,
+    wanted: Outcome,
+) -> Result<(), Fail>
+    requires { 0 < throttle }
+{
+    let record = changed(alloc, index, change)?;
+    expect(alloc, record.as_slice(), throttle, wanted)
+}
+
 #[test]
 fn records_are_judged(rt: HostRuntime) -> Result<(), Fail> {
     let alloc = rt.alloc();
-    let all = joined(alloc, &LINES)?;
-    expect(alloc, all.as_slice(), 1024, Outcome::Run(RunKind::Finished))?;
-    let front = joined(alloc, &LINES[..11])?;
-    expect(
-        alloc,
-        front.as_slice(),
-        1024,
-        Outcome::Run(RunKind::Unfinished),
-    )?;
-    let early = changed(alloc, 4, &[])?;
-    expect(alloc, early.as_slice(), 1024, Outcome::NotAllowed(4))?;
-    let named = changed(alloc, 1, &["read 0 m 0\n"])?;
-    let mut bad = Vec::from_slice(alloc, b"1\n".as_slice())?;
-    bad.extend_from_slice(named.as_slice())?;
-    expect(alloc, bad.as_slice(), 1024, Outcome::BadLine(2))?;
+    expect_front(alloc, 12, Outcome::Run(RunKind::Finished))?;
+    expect_front(alloc, 11, Outcome::Run(RunKind::Unfinished))?;
     expect(alloc, b"".as_slice(), 1, Outcome::Run(RunKind::Unfinished))?;
-    Ok(())
+    expect_changed(alloc, 4, &[], 1024, Outcome::NotAllowed(4))?;
+    let bad = ["1\n", "begin 0\n", "read 0 m 0\n"];
+    expect_changed(alloc, 0, &bad, 1024, Outcome::BadLine(2))
 }
 
 #[test]
 fn stops_end_a_run(rt: HostRuntime) -> Result<(), Fail> {
     let alloc = rt.alloc();
-    let stopped = changed(alloc, 11, &["stop\n"])?;
-    expect(alloc, stopped.as_slice(), 2, Outcome::Run(RunKind::Stopped))?;
-    let twice = changed(alloc, 3, &["stop\n"])?;
-    expect(alloc, twice.as_slice(), 2, Outcome::NotAllowed(4))?;
-    Ok(())
+    expect_changed(alloc, 11, &["stop\n"], 2, Outcome::Run(RunKind::Stopped))?;
+    expect_changed(alloc, 3, &["stop\n"], 2, Outcome::NotAllowed(4))
 }
 
 // Without the end of iteration 0 the other events are still a run, in which it is alive.
 #[test]
-fn changed_records_are_refused(rt: HostRuntime) -> Result<(), Fail> {
-    let alloc = rt.alloc();
-    for (k, line) in LINES.iter().enumerate() {
-        let doubled = changed(alloc, k, &[*line, *line])?;
-        expect(
-            alloc,
-            doubled.as_slice(),
-            1024,
-            Outcome::NotAllowed(k as u32 + 1),
-        )?;
-        let dropped = changed(alloc, k, &[])?;
+fn dropped_lines_are_missed(rt: HostRuntime) -> Result<(), Fail> {
+    for k in 0..12 {
         let wanted = match k {
             8 | 11 => Outcome::Run(RunKind::Unfinished),
             _ => Outcome::NotAllowed(k as u32),
         };
-        expect(alloc, dropped.as_slice(), 1024, wanted)?;
+        expect_changed(rt.alloc(), k, &[], 1024, wanted)?;
     }
-    let value = changed(alloc, 5, &["read 0 n 2\n"])?;
-    expect(alloc, value.as_slice(), 1024, Outcome::NotAllowed(5))?;
-    let ended = changed(alloc, 10, &["read 0 n 1\n"])?;
-    expect(alloc, ended.as_slice(), 1024, Outcome::NotAllowed(10))?;
-    let alive = changed(alloc, 8, &[])?;
-    expect(alloc, alive.as_slice(), 1, Outcome::NotAllowed(8))?;
-    Ok(())
+    expect_changed(rt.alloc(), 8, &[], 1, Outcome::NotAllowed(8))
+}
+
+#[test]
+fn changed_records_are_refused(rt: HostRuntime) -> Result<(), Fail> {
+    let alloc = rt.alloc();
+    for (k, line) in LINES.into_iter().enumerate() {
+        expect_changed(
+            alloc,
+            k,
+            &[line, line],
+            1024,
+            Outcome::NotAllowed(k as u32 + 1),
+        )?;
+    }
+    expect_changed(alloc, 5, &["read 0 n 2\n"], 1024, Outcome::NotAllowed(5))?;
+    expect_changed(alloc, 10, &["read 0 n 1\n"], 1024, Outcome::NotAllowed(10))
 }

@@ -4,8 +4,8 @@ use crate::sources::accepted;
 use pipe_check::checked::Checked;
 use pipe_model::access::{Access, AccessKind, CellId};
 use pipe_model::column::ColumnEnd;
-use pipe_model::event::Event;
 use pipe_model::event::Event::{Advance, Begin, Enter, Finish, Stop};
+use pipe_model::event::{Event, Events};
 use pipe_model::memory::NoMemory;
 use pipe_model::node::Kind;
 use pipe_model::trap::Trap;
@@ -36,17 +36,22 @@ fn read(alloc: Global, checked: &Checked, text: &[u8]) -> Result<Result<usize, u
     }
 }
 
+// The events of a record.
+fn events_of(alloc: Global, text: &str) -> Result<Events, Fail> {
+    let checked = accepted(alloc, SOURCE.as_bytes())?;
+    match parse_record(alloc, text.as_bytes(), &checked) {
+        Ok(events) => Ok(events),
+        Err(_) => Err(Fail::new(format_args!("the record is not read"))),
+    }
+}
+
 #[test]
 fn each_line_has_its_event(rt: HostRuntime) -> Result<(), Fail> {
-    let alloc = rt.alloc();
-    let checked = accepted(alloc, SOURCE.as_bytes())?;
-    let text =
+    let events = events_of(
+        rt.alloc(),
         "begin 0\nread 0 n -9223372036854775808\nwrite 7 a[2] 9223372036854775807\nread 1 input 3\n\
-        write 1 output 0\nwait 2 1\ncontinue 3 -2\nenter 4\nend 5\nclosed 65536\ntrap 6 DivZero\nstop";
-    let events = match parse_record(alloc, text.as_bytes(), &checked) {
-        Ok(events) => events,
-        Err(_) => return Err(Fail::new(format_args!("the record is not read"))),
-    };
+        write 1 output 0\nwait 2 1\ncontinue 3 -2\nenter 4\nend 5\nclosed 65536\ntrap 6 DivZero\nstop",
+    )?;
     let wanted = [
         Begin(0),
         access(0, 2, AccessKind::Read, i64::MIN),
@@ -61,42 +66,43 @@ fn each_line_has_its_event(rt: HostRuntime) -> Result<(), Fail> {
         Finish(6, ColumnEnd::Trapped(Trap::DivZero)),
         Stop,
     ];
-    assert_eq!(rt; events.as_slice(), wanted.as_slice());
+    assert!(rt; events.as_slice() == wanted.as_slice());
     Ok(())
 }
 
+// Texts, each with its number of events, or with its first bad line.
+const TEXTS: [(&[u8], Result<usize, u32>); 21] = [
+    (b"", Ok(0)),
+    (b"begin 0", Ok(1)),
+    (
+        b"12\n-7\nrace n write 0/1 read 1/-1\ntrap Index at 0/1\nbegin 0\n",
+        Ok(1),
+    ),
+    (b"trap Budget in init\n", Ok(0)),
+    (b"begin 0\n12\n", Err(1)),
+    (b"begin 0\ntrap Index at 0/1\n", Err(1)),
+    (b"race m write 0/1 read 1/1\n", Err(0)),
+    (b"race n write 0/1 read 65537/1\n", Err(0)),
+    (b"trap Index at 0\n", Err(0)),
+    (b"\n", Err(0)),
+    (b"begin 0\n\n", Err(1)),
+    (b"begin 0\r\n", Err(0)),
+    (b"begin 0\0\n", Err(0)),
+    (b"begin 00\n", Err(0)),
+    (b"begin 65537\n", Err(0)),
+    (b"begin 0 \n", Err(0)),
+    (b"read 0 n 01\n", Err(0)),
+    (b"read 0 n -0\n", Err(0)),
+    (b"read 0 n 12345678901234567890\n", Err(0)),
+    (b"read 0 a[3] 0\n", Err(0)),
+    (b"write 0 a 0\n", Err(0)),
+];
+
 #[test]
 fn first_bad_line_is_found(rt: HostRuntime) -> Result<(), Fail> {
-    let alloc = rt.alloc();
-    let checked = accepted(alloc, SOURCE.as_bytes())?;
-    let cases: [(&[u8], Result<usize, u32>); 21] = [
-        (b"".as_slice(), Ok(0)),
-        (b"begin 0".as_slice(), Ok(1)),
-        (
-            b"12\n-7\nrace n write 0/1 read 1/-1\ntrap Index at 0/1\nbegin 0\n".as_slice(),
-            Ok(1),
-        ),
-        (b"trap Budget in init\n".as_slice(), Ok(0)),
-        (b"begin 0\n12\n".as_slice(), Err(1)),
-        (b"begin 0\ntrap Index at 0/1\n".as_slice(), Err(1)),
-        (b"race m write 0/1 read 1/1\n".as_slice(), Err(0)),
-        (b"race n write 0/1 read 65537/1\n".as_slice(), Err(0)),
-        (b"trap Index at 0\n".as_slice(), Err(0)),
-        (b"\n".as_slice(), Err(0)),
-        (b"begin 0\n\n".as_slice(), Err(1)),
-        (b"begin 0\r\n".as_slice(), Err(0)),
-        (b"begin 0\0\n".as_slice(), Err(0)),
-        (b"begin 00\n".as_slice(), Err(0)),
-        (b"begin 65537\n".as_slice(), Err(0)),
-        (b"begin 0 \n".as_slice(), Err(0)),
-        (b"read 0 n 01\n".as_slice(), Err(0)),
-        (b"read 0 n -0\n".as_slice(), Err(0)),
-        (b"read 0 n 12345678901234567890\n".as_slice(), Err(0)),
-        (b"read 0 a[3] 0\n".as_slice(), Err(0)),
-        (b"write 0 a 0\n".as_slice(), Err(0)),
-    ];
-    for (text, wanted) in cases {
-        assert_eq!(rt; read(alloc, &checked, text)?, wanted);
+    let checked = accepted(rt.alloc(), SOURCE.as_bytes())?;
+    for (k, (text, wanted)) in TEXTS.into_iter().enumerate() {
+        assert!(rt; read(rt.alloc(), &checked, text)? == wanted, "{k}");
     }
     Ok(())
 }
@@ -106,15 +112,18 @@ fn feeds(alloc: Global, count: usize) -> Result<Vec<u8>, NoMemory> {
     Ok(Vec::from_elem(alloc, b'\n', count)?)
 }
 
+// What is wrong with a record of so many line feeds.
+fn fault_of_feeds(alloc: Global, count: usize) -> Result<Option<RecordFault>, Fail> {
+    let checked = accepted(alloc, SOURCE.as_bytes())?;
+    let text = feeds(alloc, count)?;
+    Ok(parse_record(alloc, text.as_slice(), &checked).err())
+}
+
 #[test]
 fn long_texts_are_refused(rt: HostRuntime) -> Result<(), Fail> {
-    let alloc = rt.alloc();
-    let checked = accepted(alloc, SOURCE.as_bytes())?;
-    let longest = feeds(alloc, LONGEST_RECORD)?;
-    assert_eq!(rt; read(alloc, &checked, longest.as_slice())?, Err(0));
-    let longer = feeds(alloc, LONGEST_RECORD + 1)?;
-    match parse_record(alloc, longer.as_slice(), &checked) {
-        Err(RecordFault::TooLong) => Ok(()),
-        _ => Err(Fail::new(format_args!("the text is not too long"))),
-    }
+    let longest = fault_of_feeds(rt.alloc(), LONGEST_RECORD)?;
+    assert!(rt; longest == Some(RecordFault::BadLine(0)));
+    let longer = fault_of_feeds(rt.alloc(), LONGEST_RECORD + 1)?;
+    assert!(rt; longer == Some(RecordFault::TooLong));
+    Ok(())
 }

@@ -3,12 +3,14 @@
 use crate::sources::accepted;
 use pipe_model::access::AccessKind::{Read, Write};
 use pipe_model::access::{AccessKind, CellId};
-use pipe_model::list::ListOf;
+use pipe_model::list::{Bytes, Numbers};
+use pipe_model::memory::NoMemory;
 use pipe_model::node::NodeId;
-use pipe_model::report::Report;
+use pipe_model::report::{Report, Reports};
 use pipe_model::trap::{Trap, TrapAt, TrapPlace};
 use race_report::outcome::outcome_text;
 use race_report::race_text::text;
+use std::alloc::Global;
 use std::test::Fail;
 
 const SOURCE: &str = "limits iterations 8, stages 4, steps 100, emits 8; \
@@ -34,40 +36,56 @@ fn report(cell: u32, earlier_kind: AccessKind, later_kind: AccessKind) -> Report
     }
 }
 
+// Races of cells of each kind.
+const RACES: [(u32, AccessKind, AccessKind); 5] = [
+    (0, Write, Write),
+    (1, Write, Read),
+    (2, Write, Read),
+    (5, Read, Write),
+    (6, Read, Write),
+];
+
+const LINES: &str = "race input write 0/3 write 1/4\nrace output write 0/3 read 1/4\n\
+    race s write 0/3 read 1/4\nrace a[2] read 0/3 write 1/4\nrace last read 0/3 write 1/4\n";
+
+fn reports(alloc: Global) -> Result<Reports, NoMemory> {
+    let mut reports = Reports::new(alloc);
+    for (cell, earlier_kind, later_kind) in RACES {
+        reports.push(report(cell, earlier_kind, later_kind))?;
+    }
+    Ok(reports)
+}
+
+// The lines of some reports.
+fn lines_of(alloc: Global, reports: &Reports) -> Result<Bytes, Fail> {
+    let checked = accepted(alloc, SOURCE.as_bytes())?;
+    Ok(text(alloc, reports, &checked)?)
+}
+
 #[test]
 fn races_name_their_cells(rt: HostRuntime) -> Result<(), Fail> {
-    let alloc = rt.alloc();
-    let cases: [(u32, AccessKind, AccessKind, &str); 5] = [
-        (0, Write, Write, "race input write 0/3 write 1/4\n"),
-        (1, Write, Read, "race output write 0/3 read 1/4\n"),
-        (2, Write, Read, "race s write 0/3 read 1/4\n"),
-        (5, Read, Write, "race a[2] read 0/3 write 1/4\n"),
-        (6, Read, Write, "race last read 0/3 write 1/4\n"),
-    ];
-    let mut reports = ListOf::new(alloc);
-    let mut wanted = String::new(alloc);
-    for (cell, earlier_kind, later_kind, line) in cases {
-        reports.push(report(cell, earlier_kind, later_kind))?;
-        wanted.push_str(line)?;
-    }
-    let checked = accepted(alloc, SOURCE.as_bytes())?;
-    let lines = text(alloc, &reports, &checked)?;
-    assert_eq!(rt; lines.as_slice(), wanted.as_bytes());
+    let reports = reports(rt.alloc())?;
+    let lines = lines_of(rt.alloc(), &reports)?;
+    assert!(rt; lines.as_slice() == LINES.as_bytes());
     Ok(())
+}
+
+// The numbers 7 and -12.
+fn output(alloc: Global) -> Result<Numbers, NoMemory> {
+    let mut output = Numbers::new(alloc);
+    output.push(7)?;
+    output.push(-12)?;
+    Ok(output)
 }
 
 #[test]
 fn output_comes_before_the_trap(rt: HostRuntime) -> Result<(), Fail> {
-    let alloc = rt.alloc();
-    let mut output = ListOf::new(alloc);
-    for number in [7, -12] {
-        output.push(number)?;
-    }
+    let output = output(rt.alloc())?;
     let trap = TrapAt {
         place: TrapPlace::At(second_of(1), 4),
         trap: Trap::DivZero,
     };
-    let lines = outcome_text(alloc, &output, Some(trap))?;
-    assert_eq!(rt; lines.as_slice(), &b"7\n-12\ntrap DivZero at 1/4\n"[..]);
+    let lines = outcome_text(rt.alloc(), &output, Some(trap))?;
+    assert!(rt; lines.as_slice() == b"7\n-12\ntrap DivZero at 1/4\n".as_slice());
     Ok(())
 }

@@ -14,7 +14,7 @@ use Rattle.schedule_play.specs.LoopPlays.{IsEndOf, IsLoopPlay}
 use Rattle.schedule_play.specs.OneAccess.{HasAllCells}
 use Rattle.schedule_play.specs.PlayStates.{IsPlay, PlayState, pipeline_played, run_state}
 use Rattle.order_2d.specs.declared.starts.TheConstants.{MOST_STARTS}
-use Rattle.order_2d.specs.LogStarts.{IsOwnLog, log_columns, log_starts, nodes_of_columns}
+use Rattle.order_2d.specs.LogStarts.{IsOwnLog, log_columns, log_starts}
 use Rattle.pipe_model.specs.declared.access.NodeAccess.{NodeAccess}
 use Rattle.pipe_model.specs.declared.column.Column.{Column}
 use Rattle.pipe_model.specs.declared.event.Event.{Event}
@@ -24,7 +24,7 @@ use Rattle.pipe_model.specs.Language.CheckingRules.{BreaksNoRule}
 use Rattle.pipe_model.specs.Language.SyntaxTree.{SyntaxTree, tree_of}
 use Rattle.pipe_model.specs.Orders.Starts.{starts_of}
 use Rattle.pipe_model.specs.Pipelines.Pipeline.{IsWellFormed, Pipeline}
-use Rattle.pipe_model.specs.Races.Columns.{IsNodeOf, nodes_at}
+use Rattle.pipe_model.specs.Races.Columns.{IsNodeOf, nodes_at, node_columns}
 use Rattle.pipe_model.specs.Races.Reports.{AreRight}
 use Rattle.pipe_model.specs.Runs.Run.{IsFinished, Run}
 use Rattle.pipe_model.specs.Runs.RunLogs.{accesses_after, column_of_frame, columns_after, ended_columns_after, state_after}
@@ -46,7 +46,7 @@ use Rattle.run_record.specs.OwnColumns.{made_columns}
 
 -- ---- detection
 
-nodes_of_frames : (frames : List Frame) → nodes_of_columns (map column_of_frame frames) ≡ map (λ (f : Frame). f.nodes) frames
+nodes_of_frames : (frames : List Frame) → node_columns (map column_of_frame frames) ≡ map (λ (f : Frame). f.nodes) frames
 nodes_of_frames [] = refl
 nodes_of_frames (f ∷ frames) = ap (λ ns. f.nodes ∷ ns) (nodes_of_frames frames)
 
@@ -80,7 +80,7 @@ detectable tree input limit events columns accepted run made =
     let starts = ap length d.starts in
     record {
       ended = ended;
-      own = record { control = d.control; columns = ap nodes_of_columns ended ∙ nodes_of_frames s.frames ∙ sym d.columns };
+      own = record { control = d.control; columns = ap node_columns ended ∙ nodes_of_frames s.frames ∙ sym d.columns };
       bounded = omega (arith, counted, small, bounded, starts);
       inside = subst (λ cs. All (λ (a : NodeAccess). IsNodeOf cs a.node) (log_accesses events)) (sym d.columns)
           (subst (All (λ (a : NodeAccess). IsNodeOf (own_columns s) a.node)) (sym d.accesses)

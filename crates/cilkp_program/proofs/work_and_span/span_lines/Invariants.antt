@@ -1,9 +1,9 @@
 use Rattle.std.proofs.Common.{◌≡◌, ◌++◌, codes, string_bytes, take}
 use Rattle.std.specs.Fmt.{signed_decimal}
 use Rattle.std.specs.List.{flat_map}
-use Rattle.dag_build.specs.NodeColumns.{node_columns}
 use Rattle.cilkp_program.specs.SpanResults.{instance_line}
 use Rattle.cilkp_program.proofs.work_and_span.span_lines.Given as goal
+use Rattle.pipe_model.specs.Races.Columns.{node_columns}
 
 abbrev pub invariant-loop-x : goal.invariant-loop-x
 invariant-loop-x l = string_bytes l.text ≡ codes "work " ++ (signed_decimal l.found.work ++ (codes "\nspan " ++ (signed_decimal l.found.span

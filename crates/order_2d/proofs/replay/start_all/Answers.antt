@@ -1,12 +1,12 @@
 -- Start after start.
 use Rattle.std.proofs.Common.{◌∙◌, ◌++◌, ◌∷◌, [], ap, slice_set}
 use Rattle.order_2d.specs.declared.started.StartedNode.{StartedNode}
-use Rattle.order_2d.specs.LogStarts.{nodes_of_columns}
 use Rattle.order_2d.specs.StartedNodes.{row_at}
 use Rattle.order_2d.proofs.ListsSoFar.{marks_more}
 use Rattle.order_2d.proofs.RowsSoFar.{none_started, one_more_started}
 use Rattle.order_2d.proofs.replay.start_all.Goals as goal
 use Rattle.pipe_model.specs.Orders.Starts.{start_at}
+use Rattle.pipe_model.specs.Races.Columns.{node_columns}
 
 pub loop-m-init : goal.loop-m-init
 loop-m-init c = record {
@@ -17,7 +17,7 @@ loop-m-init c = record {
 
 pub loop-m-preserved : goal.loop-m-preserved
 loop-m-preserved c =
-    let columns = nodes_of_columns c.args.columns.now in
+    let columns = node_columns c.args.columns.now in
     let starts = c.args.starts.now in
     let x = start_at starts c.loop-m.m in
     let rows = c.loop-m.rows.items in

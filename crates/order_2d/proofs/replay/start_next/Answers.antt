@@ -2,7 +2,6 @@
 use Rattle.std.proofs.Common.{◌∙◌, ◌+◌, sym, ap₂, subst, arith, length}
 use mathlib.Core.Path.{subst₂}
 use Rattle.order_2d.specs.declared.started.StartedNode.{StartedNode}
-use Rattle.order_2d.specs.LogStarts.{nodes_of_columns}
 use Rattle.order_2d.specs.OrderPairs.{AreInserted, down_taken, right_taken}
 use Rattle.order_2d.specs.StartedNodes.{HasLists, IsAbove, joined_from}
 use Rattle.order_2d.proofs.LeftParentSearch.{joined_is}
@@ -12,16 +11,17 @@ use Rattle.order_2d.proofs.ParentMarks.{taken_right}
 use Rattle.order_2d.proofs.replay.start_next.Goals as goal
 use Rattle.pipe_model.specs.Orders.Starts.{start_at, start_number}
 use Rattle.pipe_model.specs.Orders.TwoOrders.{down_first_taken}
+use Rattle.pipe_model.specs.Races.Columns.{node_columns}
 
 pub above-above-requires-clause-started : goal.above-above-requires-clause-started
 above-above-requires-clause-started c =
     let x = start_at c.args.starts.now c.args.m in
-    above_there (nodes_of_columns c.args.columns.now) c.args.starts.now c.requires.run.columns_ok c.requires.run.starts_ok
+    above_there (node_columns c.args.columns.now) c.args.starts.now c.requires.run.columns_ok c.requires.run.starts_ok
     c.args.m c.args.rows.now c.requires.rows c.requires.next x.iteration x.index (c.requires.run.starts_ok.once c.args.m c.requires.next)
 
 pub left_index-left-requires-clause-above : goal.left_index-left-requires-clause-above
 left_index-left-requires-clause-above c =
-    let columns = nodes_of_columns c.args.columns.now in
+    let columns = node_columns c.args.columns.now in
     let x = start_at c.args.starts.now c.args.m in
     let above = above_is columns c.args.starts.now c.requires.run.columns_ok c.requires.run.starts_ok
     c.args.m c.args.rows.now c.requires.rows c.requires.next x.iteration x.index (c.requires.run.starts_ok.once c.args.m c.requires.next)
@@ -31,13 +31,13 @@ left_index-left-requires-clause-above c =
 pub left_marks-requires-clause-started : goal.left_marks-requires-clause-started
 left_marks-requires-clause-started c =
     let x = start_at c.args.starts.now c.args.m in
-    λ j e. left_there (nodes_of_columns c.args.columns.now) c.args.starts.now c.requires.run.columns_ok c.requires.run.starts_ok
+    λ j e. left_there (node_columns c.args.columns.now) c.args.starts.now c.requires.run.columns_ok c.requires.run.starts_ok
     c.args.m c.args.rows.now c.requires.rows c.requires.next x.iteration x.index (c.requires.run.starts_ok.once c.args.m c.requires.next)
     j (sym c.left_index-left.ensures ∙ e)
 
 pub start_with-marks-requires-clause-inserted : goal.start_with-marks-requires-clause-inserted
 start_with-marks-requires-clause-inserted c =
-    let columns = nodes_of_columns c.args.columns.now in
+    let columns = node_columns c.args.columns.now in
     let starts = c.args.starts.now in
     let x = start_at starts c.args.m in
     let number = c.requires.run.starts_ok.once c.args.m c.requires.next in
@@ -53,11 +53,11 @@ start_with-marks-requires-clause-inserted c =
 
 pub start_with-marks-requires-clause-room : goal.start_with-marks-requires-clause-room
 start_with-marks-requires-clause-room c =
-    has_room (nodes_of_columns c.args.columns.now) c.args.starts.now c.args.m c.args.orders.now c.requires.lists c.requires.next
+    has_room (node_columns c.args.columns.now) c.args.starts.now c.args.m c.args.orders.now c.requires.lists c.requires.next
 
 pub returns-clause-node : goal.returns-clause-node
 returns-clause-node c =
-    let columns = nodes_of_columns c.args.columns.now in
+    let columns = node_columns c.args.columns.now in
     let starts = c.args.starts.now in
     let x = start_at starts c.args.m in
     let number = c.requires.run.starts_ok.once c.args.m c.requires.next in
@@ -82,7 +82,7 @@ returns-clause-node c =
 
 pub returns-clause-lists : goal.returns-clause-lists
 returns-clause-lists c =
-    let columns = nodes_of_columns c.args.columns.now in
+    let columns = node_columns c.args.columns.now in
     let starts = c.args.starts.now in
     let x = start_at starts c.args.m in
     let number = c.requires.run.starts_ok.once c.args.m c.requires.next in

@@ -1,8 +1,7 @@
 use Rattle.std.proofs.Common.{◌≡◌, ◌<◌, ◌∙◌, [], ap, arith, below_more, length, sym}
 use Rattle.std.proofs.lemmas.List.{get_or-map}
 use Rattle.pipe_model.specs.declared.column.Column.{Column}
-use Rattle.pipe_model.specs.Races.Columns.{nodes_at}
-use Rattle.dag_build.specs.NodeColumns.{node_columns}
+use Rattle.pipe_model.specs.Races.Columns.{nodes_at, node_columns}
 use Rattle.order_tests.proofs.dag_rows.are_rising.Goals as goal
 
 pub loop-column-preserved : goal.loop-column-preserved

@@ -1,6 +1,5 @@
 use Rattle.std.proofs.Common.{ℕ, ◌<◌}
-use Rattle.pipe_model.specs.Races.Columns.{nodes_at, IsRising}
-use Rattle.dag_build.specs.NodeColumns.{node_columns}
+use Rattle.pipe_model.specs.Races.Columns.{nodes_at, IsRising, node_columns}
 use Rattle.order_tests.proofs.dag_rows.are_rising.Given as goal
 
 abbrev pub invariant-loop-column : goal.invariant-loop-column

@@ -8,9 +8,10 @@ use Rattle.pipe_model.specs.declared.access.CellId.{CellId}
 use Rattle.pipe_model.specs.declared.ticket.BookEntry.{BookEntry}
 use Rattle.pipe_model.specs.declared.ticket.ShardEntry.{ShardEntry}
 use Rattle.pipe_model.specs.Language.SyntaxTree.{tree_of}
-use Rattle.race_report.specs.RaceReports.{IsFoundIn, column_nodes, report_found}
+use Rattle.race_report.specs.RaceReports.{IsFoundIn, report_found}
 use Rattle.run_record.specs.MergedLogs.{AreMerged, BookRises, ShardRises}
 use Rattle.pipe_engine.proofs.ending.end_loop.Goals as goal
+use Rattle.pipe_model.specs.Races.Columns.{node_columns}
 
 pub merge-requires-clause-book : goal.merge-requires-clause-book
 merge-requires-clause-book g c =
@@ -59,7 +60,7 @@ gather-requires-clause-instances g c =
     let all = races (tree_of c.args.prepared.now.checked.now) c.args.prepared.now.input.now c.args.throttle c.args.hall end.book
     end.shards.items
     c.in_ok-run_log.run_log c.requires.opened ensured.constants h merged c.in_ok-run_log.ensures.columns in
-    subst (λ (l : List (CellId × Found)). All (λ (f : CellId × Found). IsFoundIn (column_nodes c.in_ok-run_log.run_log.columns) f.1) l)
+    subst (λ (l : List (CellId × Found)). All (λ (f : CellId × Found). IsFoundIn (node_columns c.in_ok-run_log.run_log.columns) f.1) l)
     (sym (c.as_slice-2.ensures.value ∙ c.in_ok-found.ensures ∙ ap found_by c.as_slice.ensures.value)) all.instances
 
 pub returns : goal.returns
@@ -72,7 +73,7 @@ returns g c =
     let merged = subst (λ (l : List BookEntry). AreMerged l (logs_of end.shards.items) c.in_ok-run_log.run_log.events) log.log
     (subst (λ (ls : List (List ShardEntry)). AreMerged c.in_ok-book_log.book_log ls c.in_ok-run_log.run_log.events)
     c.in_ok-shard_logs.ensures c.in_ok-run_log.ensures.events) in
-    let nodes = column_nodes c.in_ok-run_log.run_log.columns in
+    let nodes = node_columns c.in_ok-run_log.run_log.columns in
     let reports = c.in_ok-reports.reports in
     let gathered : AreGathered c.in_ok-run_log.run_log (found_by end.shards.items) reports = record {
       each = subst (λ (l : List (CellId × Found)). IsPermutation (map (λ (f : CellId × Found). report_found nodes f.0 f.1) l) reports)

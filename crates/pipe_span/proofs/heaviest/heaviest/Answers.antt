@@ -1,10 +1,10 @@
 use Rattle.std.proofs.Common.{◌≡◌, ◌∙◌, [], length, ap, arith, sym, w64}
 use Rattle.std.proofs.lemmas.Int.{to_z_pos}
 use Rattle.std.proofs.lemmas.List.{nil_from_length}
-use Rattle.pipe_span.specs.WorkAndSpan.{node_columns}
 use Rattle.pipe_span.specs.WorkAndSpan.{IsHeaviest, weights_of}
 use Rattle.pipe_span.proofs.StepWeights.{no_columns, some_columns, weights_are}
 use Rattle.pipe_span.proofs.heaviest.heaviest.Goals as goal
+use Rattle.pipe_model.specs.Races.Columns.{node_columns}
 
 pub sum_of-work-requires-clause-weights : goal.sum_of-work-requires-clause-weights
 sum_of-work-requires-clause-weights c =

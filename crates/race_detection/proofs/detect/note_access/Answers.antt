@@ -1,9 +1,9 @@
 use Rattle.std.proofs.Common.{subst, sym}
-use Rattle.order_2d.specs.LogStarts.{nodes_of_columns}
 use Rattle.pipe_model.specs.Races.CellRaces.{accesses_to}
 use Rattle.race_detection.specs.NotedRuns.{HasNoted}
 use Rattle.race_detection.proofs.NotedCells.{history_here, one_more_noted, set_count}
 use Rattle.race_detection.proofs.detect.note_access.Goals as goal
+use Rattle.pipe_model.specs.Races.Columns.{node_columns}
 
 pub note-requires-clause-noted : goal.note-requires-clause-noted
 note-requires-clause-noted c =
@@ -15,7 +15,7 @@ note-requires-clause-noted c =
 
 pub returns-clause-noted : goal.returns-clause-noted
 returns-clause-noted c = λ before noted.
-    let columns = nodes_of_columns c.args.run.now.columns.now in
+    let columns = node_columns c.args.run.now.columns.now in
     let starts = c.args.run.now.replayed.nodes in
     let cell = c.args.access.access.cell.0 in
     let here = history_here c.args.histories.now.items cell c.index_mut-history.result.now c.requires.cell

@@ -2,12 +2,12 @@
 use Rattle.std.proofs.Common.{◌∙◌, ◌<◌, ℕ, All, List, ap, arith, get_or, length, slice_index, subst, sym, take}
 use Rattle.std.proofs.lemmas.List.{get_or_default, length-append}
 use Rattle.order_2d.proofs.EventsSoFar.{counted_after, events_before, next_event, state_before}
-use Rattle.order_2d.specs.LogStarts.{EntersBegun, counts_after, counts_in, nodes_of_columns, started_after}
+use Rattle.order_2d.specs.LogStarts.{EntersBegun, counts_after, counts_in, started_after}
 use Rattle.pipe_model.specs.declared.access.NodeAccess.{NodeAccess}
 use Rattle.pipe_model.specs.declared.event.Event.{Event}
 use Rattle.pipe_model.specs.declared.event.Event.TheVariants.{Begin}
 use Rattle.pipe_model.specs.Orders.Starts.{starts_of}
-use Rattle.pipe_model.specs.Races.Columns.{IsNodeOf}
+use Rattle.pipe_model.specs.Races.Columns.{IsNodeOf, node_columns}
 use Rattle.race_detection.specs.LogAccesses.{access_by, log_accesses}
 use Rattle.race_detection.specs.NotedRuns.{HaveNoted}
 use Rattle.race_detection.proofs.LoggedAccesses.{all_made, made_next}
@@ -19,7 +19,7 @@ note_event-requires-clause-inside c =
     let events = c.args.events.now in
     let next = made_next events s.event-index c.deref.result.now c.requires.control c.loop-event-test.true
     (c.deref.ensures.value ∙ s.invariant.counts) in
-    all_made (λ (a : NodeAccess). IsNodeOf (nodes_of_columns c.args.run.now.columns.now) a.node) events s.event-index _ next
+    all_made (λ (a : NodeAccess). IsNodeOf (node_columns c.args.run.now.columns.now) a.node) events s.event-index _ next
     c.requires.inside
 
 pub note_event-requires-clause-cells : goal.note_event-requires-clause-cells
@@ -67,7 +67,7 @@ loop-event-preserved c =
     let made = made_next events s.event-index c.deref.result.now c.requires.control c.loop-event-test.true
     (c.deref.ensures.value ∙ s.invariant.counts) in
     record {
-      noted = subst (λ l. HaveNoted (nodes_of_columns c.args.run.now.columns.now) c.args.run.now.replayed.nodes l
+      noted = subst (λ l. HaveNoted (node_columns c.args.run.now.columns.now) c.args.run.now.replayed.nodes l
           c.note_event.new.histories.items) (sym made.more)
           (c.note_event.ensures.noted (log_accesses (take s.event-index events)) s.invariant.noted);
       count = c.note_event.ensures.count ∙ s.invariant.count;

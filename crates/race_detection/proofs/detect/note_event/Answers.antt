@@ -1,14 +1,13 @@
 use Rattle.std.proofs.Common.{◌<◌, All, arith, length, subst, sym}
-use Rattle.order_2d.specs.LogStarts.{nodes_of_columns}
 use Rattle.pipe_model.specs.declared.access.NodeAccess.{NodeAccess}
 use Rattle.pipe_model.specs.declared.event.Event.{Event}
-use Rattle.pipe_model.specs.Races.Columns.{IsNodeOf}
+use Rattle.pipe_model.specs.Races.Columns.{IsNodeOf, node_columns}
 use Rattle.race_detection.specs.LogAccesses.{access_by}
 use Rattle.race_detection.proofs.detect.note_event.Goals as goal
 
 pub note_access-requires-clause-inside : goal.note_access-requires-clause-inside
 note_access-requires-clause-inside c =
-    let columns = nodes_of_columns c.args.run.now.columns.now in
+    let columns = node_columns c.args.run.now.columns.now in
     let made : NodeAccess = record { node = c.last_instance.result; access = c.in-Access.access } in
     let inside = subst (λ (e : Event). All (λ (a : NodeAccess). IsNodeOf columns a.node) (access_by c.args.counts.now e)) c.in-Access.is
     c.requires.inside in

@@ -1,13 +1,13 @@
 use Rattle.std.proofs.Common.{◌∙◌, ap, Some}
-use Rattle.order_2d.specs.LogStarts.{nodes_of_columns}
 use Rattle.pipe_model.specs.Orders.OrderList.{list_of_log}
 use Rattle.race_detection.proofs.KnownPaths.{known_kept}
 use Rattle.race_detection.proofs.MarkedHistories.{marked_as, noted_again}
 use Rattle.race_detection.proofs.started_run.note.Goals as goal
+use Rattle.pipe_model.specs.Races.Columns.{node_columns}
 
 pub returns : goal.returns
 returns c = λ accesses before.
-    let columns = nodes_of_columns c.args.run.now.columns.now in
+    let columns = node_columns c.args.run.now.columns.now in
     let starts = c.args.run.now.replayed.nodes in
     let down = ap list_of_log (ap (λ o. o.down) c.view-orders.ensures ∙ c.requires.run.down) in
     let right = ap list_of_log (ap (λ o. o.right) c.view-orders.ensures ∙ c.requires.run.right) in
