@@ -154,7 +154,8 @@ fn are_prefix_sums(played: &Played) -> bool {
         && played.trap.is_none()
 }
 
-// Plays the prefix sums for so many turns. Returns whether they are finished, and whether they are right.
+// Plays the prefix sums for this number of turns. Returns whether the run is finished, and whether the
+// sums are right.
 fn ends(alloc: Global, turns: u64) -> Result<(bool, bool), Fail> {
     let played = played(alloc, PREFIX_SUMS, 4, 4, &[59], turns)?;
     Ok((played.finished, are_prefix_sums(&played)))

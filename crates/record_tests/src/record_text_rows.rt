@@ -112,7 +112,7 @@ fn feeds(alloc: Global, count: usize) -> Result<Vec<u8>, NoMemory> {
     Ok(Vec::from_elem(alloc, b'\n', count)?)
 }
 
-// What is wrong with a record of so many line feeds.
+// The fault of a record that consists of line feeds, if it has one.
 fn fault_of_feeds(alloc: Global, count: usize) -> Result<Option<RecordFault>, Fail> {
     let checked = accepted(alloc, SOURCE.as_bytes())?;
     let text = feeds(alloc, count)?;
