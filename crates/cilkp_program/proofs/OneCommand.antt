@@ -204,7 +204,7 @@ pub one_bench : {asked : Option Command} {seed size other others : ℕ} → aske
     → (seed ≡ other) × (size ≡ others)
 one_bench {asked} {seed} {size} {other} {others} w v = let e : Bench seed size ≡ Bench other others = one_command w v in (cc (e), cc (e))
 
--- two different commands
+-- the words do not ask for two different commands
 pub apart : {asked : Option Command} {c d : Command} → asked ≡ Some c → asked ≡ Some d → (c ≡ d → ⊥) → ⊥
 apart w v other = other (one_command w v)
 

@@ -29,7 +29,7 @@ use Rattle.cilkp_program.specs.RecordResults.{kind_line, status_of_reports}
 
 -- ---- reading
 
--- the line of a bad line
+-- what is printed for a record with a bad line
 pub bad_line : (tree : SyntaxTree) (bytes line : List ℕ) {n : ℕ} → IsFaultOf tree.cells bytes (faults.BadLine n)
     → line ≡ numbered_line (codes "refused record BadLine at ") n → HasBadLineAt tree bytes line
 bad_line tree bytes line (lines.HasBadLine n short bad) e = record { n = n; bad = bad; line_is = e }

@@ -16,7 +16,7 @@ use Rattle.work_deques.specs.WorkerEnds.{AreFresh, weight_put, weight_taken}
 use Rattle.work_deques.specs.declared.ends.Ends.{Ends}
 use Rattle.work_deques.specs.declared.tally.Tally.{Tally}
 
--- of two lists, the sums differ as the elements do
+-- where each element gains as much in one count as in the other, so do the sums over a list
 module _ {X : Type 0} (a b : X → ℕ) where
   pub sums_keep : (old new : List X) → length new ≡ length old
       → ((k : ℕ) (d : X) → k < length old → a (get_or new k d) + b (get_or old k d) ≡ a (get_or old k d) + b (get_or new k d))

@@ -44,7 +44,7 @@ one_number : (m n : ℤ) → FitsSigned w64 m → FitsSigned w64 n → signed_de
 one_number m n f g e = signed_decimal_injective m n (let small = f.sfits in omega (arith, small))
     (let small = g.sfits in omega (arith, small)) e
 
--- the trap that a name is
+-- the trap with this name
 abbrev trap_of : List ℕ → Trap_name
 trap_of bs =
     if bytes_eq bs (codes "Overflow") then traps.Overflow else (if bytes_eq bs (codes "DivZero") then traps.DivZero else (

@@ -1,4 +1,4 @@
--- The code of an expression follows it.
+-- The code of an expression does what the expression does.
 use Rattle.std.proofs.Common.{◌≡◌, ℕ, ℤ, pos, negsuc, zero, suc, ◌+◌, ◌<◌, ◌≤◌, List, [], ◌∷◌, ◌++◌, length, Option, Some, None, sym, ap}
 use Rattle.std.proofs.Common.{subst, arith, length-append, Bool, true, false}
 use Rattle.std.specs.Prelude.{slice_get, if◌then◌else◌}

@@ -174,7 +174,7 @@ leaves scope b env after slots now f g =
           ∙ take-append-le (length scope) scope r.0 (omega arith) ∙ take_all (length scope) scope (omega arith);
     }
 
--- the code of a statement follows it, at any index of the code
+-- the code of a statement, from any index on, does what the statement does
 abbrev pub StatementRuns : CodeSetting → (List ℕ → Option CellRange) → ℕ → Statement → Type 0
 StatementRuns p cells turns s = (n at : ℕ) (scope : List (List ℕ)) (env : Environment) (slots : List ℤ)
     (k : Environment → Interaction ColumnEnd)

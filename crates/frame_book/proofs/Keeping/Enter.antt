@@ -200,7 +200,7 @@ module _ {M : Type 0} {Whole : SyntaxTree → M → Type 0} {ReadyAt : SyntaxTre
       let m = row_matches.marks in
       omega (arith, k, l, m)
 
-  -- instances are few
+  -- the iteration has started fewer than 2^31 instances
   pub few : length f.nodes < 2 ^ 31
   few =
       let a = total_at (λ (z : IterationRow M). z.room) b.rows i r at_row in

@@ -1,4 +1,4 @@
--- An instance that was left in its middle keeps the tables of a stopped book.
+-- A stopped book takes back a token whose instance has not ended, and its tables stay those of a book.
 use Rattle.std.proofs.Common.{◌≡◌, ◌≢◌, ℕ, ℤ, zero, suc, ◌+◌, ◌^◌, ◌<◌, ◌≤◌, List, [], ◌∷◌, ◌++◌, length, map, set, get_or, refl, ap, ap₂}
 use Rattle.std.proofs.Common.{sym, ◌∙◌, arith, subst, Bool, true, false, not, Option, Some, None, inl, inr, append_assoc}
 use Rattle.std.proofs.lemmas.Bool.{cases_eq}
@@ -40,7 +40,7 @@ laid_held made made' k (y ∷ ends) n e same none =
     ap₂ (λ a b. a ++ y ∷ b) (same k l) (laid_held made made' (k + 1) ends n q same none)
     ∙ sym (append_assoc (made k) (y ∷ laid_traces made (k + 1) ends) (made' n))
 
--- accesses name nothing
+-- accesses at the end of a list of actions add no stage to it
 nodes_accessed : (xs : List Action) (tr : List Entry) → nodes_in (xs ++ accessed tr) ≡ nodes_in xs
 nodes_accessed [] [] = refl
 nodes_accessed [] (t ∷ tr) = nodes_accessed [] tr
@@ -48,7 +48,7 @@ nodes_accessed (Accessed a ∷ xs) tr = nodes_accessed xs tr
 nodes_accessed (Staged j m ∷ xs) tr = ap (λ l. Rattle.pipe_model.specs.Pipelines.Behaviour.node_of j m ∷ l) (nodes_accessed xs tr)
 nodes_accessed (Ended f ∷ xs) tr = nodes_accessed xs tr
 
--- and end nothing
+-- nor an end of the iteration
 end_accessed : (xs : List Action) (tr : List Entry) → trace_end (xs ++ accessed tr) ≡ trace_end xs
 end_accessed [] [] = refl
 end_accessed [] (t ∷ tr) = end_accessed [] tr
