@@ -31,7 +31,7 @@ use heap_value::kept::Kept;
 use om_shared::writer::OmWriter;
 use pipe_frame::token::FrameToken;
 use std::sync::Wait;
-use std::{hint, thread};
+use std::thread;
 
 /// The book and the shards of a run, each behind a lock.
 #[derive(Drop)]
@@ -47,14 +47,13 @@ pub struct Locks<M: Carrier> {
 pub(crate) const STRIDE: usize = 8;
 
 // How often a thread looks at a lock that is taken before it gives the processor to others between its
-// looks. A lock is held for a microsecond or less, unless its thread was put off the processor.
-const SHORT_LOOKS: u32 = 200;
+// looks. A look takes a nanosecond or two, and a lock is held for a microsecond or less, unless its
+// thread was put off the processor.
+const SHORT_LOOKS: u32 = 4000;
 
 // Pauses for a moment after this number of looks at a lock that is taken.
 fn pause(looks: u32) {
-    if looks < SHORT_LOOKS {
-        hint::spin_loop();
-    } else {
+    if looks >= SHORT_LOOKS {
         thread::yield_now();
     }
 }

@@ -1,13 +1,18 @@
 //! The pauses of a worker that finds nothing to do.
 
-use crossbeam_utils::Backoff;
 use std::sync::Wait;
+use std::sync::atomic::{AtomicBool, Ordering};
 use std::thread::Parker;
 use std::time::Duration;
 
-// How many short pauses come before the long ones. They last some ten microseconds in all, and do
+// How many short pauses come before the long ones. They last some twenty microseconds in all, and do
 // not give the processor to others.
 const SHORT_PAUSES: u32 = 8;
+
+// The turns of the first short pause, and of the longest. A turn takes some 8 nanoseconds.
+const FIRST_TURNS: u32 = 32;
+
+const MOST_TURNS: u32 = 512;
 
 // The microseconds of the first long pause, and of the longest.
 const FIRST_SLEEP: u64 = 25;
@@ -25,8 +30,9 @@ const LONG_LOOKS: u32 = 1;
 /// for others.
 #[derive(Drop)]
 pub(crate) struct Idle {
-    backoff: Backoff,
+    word: AtomicBool,
     pauses: u32,
+    turns: u32,
     micros: u64,
     sleep: Parker,
 }
@@ -35,8 +41,9 @@ impl Idle {
     // Returns the state of a worker that has something to do.
     pub fn new() -> Self {
         Idle {
-            backoff: Backoff::new(),
+            word: AtomicBool::new(false),
             pauses: 0,
+            turns: FIRST_TURNS,
             micros: FIRST_SLEEP,
             sleep: Parker::new(),
         }
@@ -44,8 +51,8 @@ impl Idle {
 
     // The worker has found something.
     pub fn reset(&mut self) {
-        self.backoff.reset();
         self.pauses = 0;
+        self.turns = FIRST_TURNS;
         self.micros = FIRST_SLEEP;
     }
 
@@ -58,11 +65,20 @@ impl Idle {
         }
     }
 
+    // Makes a short pause, of atomic steps on a word that no other thread has: `hint::spin_loop` is no
+    // instruction in this toolchain, so a loop of it, as in `Backoff`, takes no time.
+    fn spin(&self) {
+        for _ in 0..self.turns {
+            let _ = self.word.swap(true, Ordering::SeqCst);
+        }
+    }
+
     // Pauses, longer if the worker has found nothing for long.
     pub fn pause<R: Wait>(&mut self, rt: &R) {
         if self.pauses < SHORT_PAUSES {
             self.pauses += 1;
-            self.backoff.spin();
+            self.spin();
+            self.turns = self.turns.saturating_mul(2).min(MOST_TURNS);
         } else {
             self.sleep
                 .park_timeout(rt, Duration::from_micros(self.micros));
