@@ -72,3 +72,37 @@ first_replaced book tickets n log h less =
     lower : (j : ℕ) → j < n → is_before (ticket_at tickets n) (ticket_at tickets j) ≡ true
     lower j low =
         before_all (ticket_at tickets n) (next_ticket book tickets log) (ticket_at tickets j) less (each_not book tickets n log h j low)
+
+-- ---- the first of the shards, and the book
+
+not_below_least : (a l b : ℕ) → nat_lt a l ≡ false → nat_lt l b ≡ false → nat_lt a b ≡ false
+not_below_least a l b most least = grind (arith, nat_tests)
+
+not_before_least : (a l b : Option ℕ) → is_before a l ≡ false → is_before l b ≡ false → is_before a b ≡ false
+not_before_least None l b most least = refl
+not_before_least (Some a) None b most least = absurd (cc)
+not_before_least (Some a) (Some l) None most least = absurd (cc)
+not_before_least (Some a) (Some l) (Some b) most least = not_below_least a l b most least
+
+not_before_none : (a b : Option ℕ) → is_before a None ≡ false → is_before a b ≡ false
+not_before_none None b none = refl
+not_before_none (Some a) b none = absurd (cc)
+
+-- no shard has an entry left
+pub book_alone : (book : Option ℕ) (tickets : List (Option ℕ)) (n : ℕ) → IsFirst None tickets n Book → IsFirst book tickets n Book
+book_alone book tickets n h j low = not_before_none (ticket_at tickets j) book (h j low)
+
+-- the first shard comes before the book
+pub shard_first : (book : Option ℕ) (tickets : List (Option ℕ)) (n k : ℕ) → IsFirst None tickets n (Shard k)
+    → is_before (ticket_at tickets k) book ≡ true → IsFirst book tickets n (Shard k)
+shard_first book tickets n k h less = record {
+  within = h.within;
+  of_book = less;
+  of_lower = h.of_lower;
+  of_each = h.of_each;
+}
+
+-- the book comes before the first shard, or at the same ticket
+pub book_first : (book : Option ℕ) (tickets : List (Option ℕ)) (n k : ℕ) → IsFirst None tickets n (Shard k)
+    → is_before (ticket_at tickets k) book ≡ false → IsFirst book tickets n Book
+book_first book tickets n k h most j low = not_before_least (ticket_at tickets j) (ticket_at tickets k) book (h.of_each j low) most

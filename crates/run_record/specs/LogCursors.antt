@@ -48,11 +48,12 @@ next_ticket book tickets (Shard k) = ticket_at tickets k
 
 -- ---- cursors
 
--- there is a cursor for each shard, and its ticket is that of the entry at the cursor
+-- there is a cursor for each shard, its ticket is that of the entry at the cursor, and the first of the shards is known
 pub record AreCursors (shards : List (List ShardEntry)) (c : Cursors) : Type 0 where
   pub cursors : length c.shards.items ≡ length shards
   pub tickets : length c.tickets.items ≡ length shards
   pub are : (k : ℕ) → ticket_at c.tickets.items k ≡ shard_ticket (shard_at shards k) (slice_index c.shards.items k)
+  pub first : IsFirst None c.tickets.items (length c.tickets.items) c.first
 
 -- no entry is merged yet
 pub record AreStarts (c : Cursors) : Type 0 where

@@ -1,6 +1,6 @@
 //! How far the logs of a run are merged, and the next event of the merge.
 
-ghost use Rattle.std.specs.Prelude.{◌≡◌, ◌+◌, ◌<◌, [], All, IfOk, IfSome, MatchOption, Some, length};
+ghost use Rattle.std.specs.Prelude.{◌≡◌, ◌+◌, ◌<◌, [], All, IfOk, IfSome, MatchOption, Some, None, length};
 ghost use Rattle.std.specs.Prelude.{slice_get, slice_index, slice_set, vec_len};
 ghost use Rattle.run_record.specs.LogCursors.{AreCursors, AreStarts, IsFirst, IsNext, MergesRest, book_ticket};
 ghost use Rattle.run_record.specs.LogCursors.{entries_left, is_before, shard_ticket};
@@ -24,8 +24,11 @@ pub(crate) struct Cursors {
     book: usize,
     shards: Vec<usize>,
     // The ticket of the next entry of each shard, if one is left. They are next to one another, since
-    // all of them are read for each event.
+    // all of them are read for each access.
     tickets: Vec<Option<u64>>,
+    // The shard with the least of these tickets, or the book if there is none. So an event of the book
+    // needs one comparison.
+    first: NextLog,
 }
 
 fn ticket_in_book(book: &[BookEntry], index: usize) -> Option<u64>
@@ -76,6 +79,23 @@ fn next_log(book: Option<u64>, tickets: &[Option<u64>]) -> NextLog
     log
 }
 
+// Finds the log with the least next ticket, given that of the shards.
+fn next_of_all(book: Option<u64>, tickets: &[Option<u64>], first: NextLog) -> NextLog
+    requires { IsFirst None tickets.now (length tickets.now) first }
+    ensures { IsFirst book tickets.now (length tickets.now) result }
+{
+    match first {
+        NextLog::Book => NextLog::Book,
+        NextLog::Shard(number) => {
+            if is_before(tickets[number], book) {
+                NextLog::Shard(number)
+            } else {
+                NextLog::Book
+            }
+        }
+    }
+}
+
 impl Cursors {
     // The beginnings of all logs.
     pub(crate) fn new(alloc: Global, shards: &[ShardLog]) -> Result<Self, NoMemory>
@@ -87,10 +107,12 @@ impl Cursors {
         for shard in shards {
             tickets.push(ticket_in_shard(shard.as_slice(), 0))?;
         }
+        let first = next_log(None, tickets.as_slice());
         Ok(Cursors {
             book: 0,
             shards: starts,
             tickets,
+            first,
         })
     }
 
@@ -104,10 +126,12 @@ impl Cursors {
         ensures shards { self.new.shards.items ≡ slice_set self.old.shards.items number (slice_index self.old.shards.items number + 1) }
         ensures tickets { self.new.tickets.items
             ≡ slice_set self.old.tickets.items number (shard_ticket shard.now (slice_index self.old.shards.items number + 1)) }
+        ensures first { IsFirst None self.new.tickets.items (length self.new.tickets.items) self.new.first }
     {
         let index = self.shards[number];
         self.shards[number] = index + 1;
         self.tickets[number] = ticket_in_shard(shard, index + 1);
+        self.first = next_log(None, self.tickets.as_slice());
         shard[index]
     }
 
@@ -122,7 +146,8 @@ impl Cursors {
         ensures fewer { IfSome result (λ event. entries_left book.now shards.now self.new < entries_left book.now shards.now self.old) }
     {
         let index = self.book;
-        match next_log(ticket_in_book(book, index), self.tickets.as_slice()) {
+        let ticket = ticket_in_book(book, index);
+        match next_of_all(ticket, self.tickets.as_slice(), self.first) {
             NextLog::Book => {
                 if index < book.len() {
                     self.book = index + 1;

@@ -23,7 +23,7 @@ entry_is : (c : goal.After-result-in-Shard-1)
     → slice_get (shard_at c.args.shards.now c.in-Shard.number) (slice_index c.args.self.now.shards.items c.in-Shard.number)
     ≡ Some c.take-entry.result
 entry_is c =
-    let first = first_of _ _ _ _ (Shard c.in-Shard.number) c.ticket_in_book.ensures c.as_slice.ensures.value c.in-Shard.ensures in
+    let first = first_of _ _ _ _ (Shard c.in-Shard.number) c.ticket_in_book-ticket.ensures c.as_slice.ensures.value c.in-Shard.ensures in
     let tickets = c.requires.cursors.tickets in
     let within = first.within in
     let inside : c.in-Shard.number < length c.args.shards.now = omega (arith, within, tickets) in
@@ -41,14 +41,14 @@ returns-then-index-book-clause-event c =
       refl,
       book_next book c.args.shards.now c.args.self.now.shards.items c.args.self.now.tickets.items i _ c.requires.book c.requires.shards
           c.requires.cursors.are
-          (first_of _ _ _ _ Book c.ticket_in_book.ensures c.as_slice.ensures.value c.in-Book.ensures) at entries merges,
+          (first_of _ _ _ _ Book c.ticket_in_book-ticket.ensures c.as_slice.ensures.value c.in-Book.ensures) at entries merges,
     )
 
 pub returns-else-index-book-clause-event : goal.returns-else-index-book-clause-event
 returns-else-index-book-clause-event c =
     none_next c.args.book.now c.args.shards.now c.args.self.now.shards.items c.args.self.now.tickets.items c.args.self.now.book
     c.requires.cursors.are
-    (first_of _ _ _ _ Book c.ticket_in_book.ensures c.as_slice.ensures.value c.in-Book.ensures)
+    (first_of _ _ _ _ Book c.ticket_in_book-ticket.ensures c.as_slice.ensures.value c.in-Book.ensures)
     (slice_get_past c.args.book.now c.args.self.now.book c.if-index-book.false)
 
 pub returns-in-Shard-clause-event : goal.returns-in-Shard-clause-event
@@ -58,7 +58,7 @@ returns-in-Shard-clause-event c =
     let old = c.args.self.now in
     let new = c.take-entry.new.self in
     let k = c.in-Shard.number in
-    let first = first_of _ _ _ _ (Shard k) c.ticket_in_book.ensures c.as_slice.ensures.value c.in-Shard.ensures in
+    let first = first_of _ _ _ _ (Shard k) c.ticket_in_book-ticket.ensures c.as_slice.ensures.value c.in-Shard.ensures in
     let within = first.within in
     let cursors = c.requires.cursors.cursors in
     let tickets = c.requires.cursors.tickets in
@@ -77,7 +77,7 @@ pub returns-in-Shard-clause-fewer : goal.returns-in-Shard-clause-fewer
 returns-in-Shard-clause-fewer c =
     let old = c.args.self.now in
     let k = c.in-Shard.number in
-    let first = first_of _ _ _ _ (Shard k) c.ticket_in_book.ensures c.as_slice.ensures.value c.in-Shard.ensures in
+    let first = first_of _ _ _ _ (Shard k) c.ticket_in_book-ticket.ensures c.as_slice.ensures.value c.in-Shard.ensures in
     let within = first.within in
     let cursors = c.requires.cursors.cursors in
     let tickets = c.requires.cursors.tickets in
