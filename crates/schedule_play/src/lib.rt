@@ -4,6 +4,7 @@
 mod changes;
 pub mod choices;
 pub mod examples;
+mod insertion_log;
 mod instance;
 mod loop_play;
 mod one_access;

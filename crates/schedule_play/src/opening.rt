@@ -9,9 +9,9 @@ ghost use Rattle.stage_interp.specs.MachineState.{IsMadeFor};
 ghost use Rattle.stage_interp.specs.RemainingBehaviour.{IsCodeOf};
 ghost use Rattle.schedule_play.specs.Openings.{AreNewOrders, no_lists};
 
+use crate::insertion_log::InsertionLog;
 use crate::runner::{PlayedCode, Runner};
 use frame_book::book::Book;
-use om_list::om_list::OmList;
 use order_2d::two_orders::TwoOrders;
 use pipe_check::checked::Checked;
 use pipe_model::list::Numbers;
@@ -41,11 +41,11 @@ fn runners<B: PlayedCode>(
 const MOST_ELEMENTS: u32 = 524_291;
 
 // Returns two order lists with room for each run. The memory that a run does not use is only reserved.
-fn orders(alloc: Global) -> Result<TwoOrders<OmList>, NoMemory>
+fn orders(alloc: Global) -> Result<TwoOrders<InsertionLog>, NoMemory>
     ensures { IfOk result AreNewOrders }
 {
-    let down = OmList::new(alloc, MOST_ELEMENTS)?;
-    let right = OmList::new(alloc, MOST_ELEMENTS)?;
+    let down = InsertionLog::new(alloc, MOST_ELEMENTS)?;
+    let right = InsertionLog::new(alloc, MOST_ELEMENTS)?;
     Ok(TwoOrders::new(down, right))
 }
 
@@ -57,7 +57,7 @@ pub(crate) fn open_book<B: PlayedCode>(
     code: &Code,
     input: &Numbers,
     throttle: u32,
-) -> Result<Book<Runner<B>, OmList>, NoMemory>
+) -> Result<Book<Runner<B>, InsertionLog>, NoMemory>
     requires code { code.now ≡ B.code }
     requires code_of { IsCodeOf (tree_of checked.now) code.now }
     requires served { cell_total (tree_of checked.now).cells + 2 ≤ B.cells }

@@ -23,6 +23,7 @@ ghost use Rattle.schedule_play.specs.RunningIterations.{RunningIterationState};
 ghost use Rattle.schedule_play.specs.PlayStates.{IsPlay, KeepsProgram, pipeline_played, run_state};
 ghost use Rattle.schedule_play.specs.Turns.{turn_event};
 
+use crate::insertion_log::InsertionLog;
 use crate::opening::open_book;
 use crate::runner::{PlayedCode, Runner};
 use crate::running_instance::NextAction;
@@ -31,7 +32,6 @@ use crate::schedule::Schedule;
 use crate::turns::Turn;
 use cell_store::cells::Cells;
 use frame_book::book::Book;
-use om_list::om_list::OmList;
 use pipe_check::checked::Checked;
 use pipe_frame::results::Begun;
 use pipe_model::event::{Event, Events};
@@ -46,7 +46,7 @@ use std::marker::Model;
 /// running instance if there is one, the cells, and the events so far.
 #[derive(Drop)]
 pub struct Player<B: PlayedCode> {
-    book: Book<Runner<B>, OmList>,
+    book: Book<Runner<B>, InsertionLog>,
     schedule: Schedule,
     running: Vec<Option<RunningIteration<B>>>,
     cells: Cells,

@@ -21,11 +21,11 @@ ghost use Rattle.schedule_play.specs.RunningInstances.{next_of};
 ghost use Rattle.schedule_play.specs.Runners.{IsAtInstance, no_tie};
 ghost use Rattle.stage_interp.specs.CellNumbers.{most_cell_ids};
 
+use crate::insertion_log::InsertionLog;
 use crate::runner::{PlayedCode, Runner};
 use crate::running_instance::{NextAction, RunningInstance};
 use cell_store::cells::Cells;
 use frame_book::book::Book;
-use om_list::om_list::OmList;
 use pipe_frame::results::Named;
 use pipe_frame::token::FrameToken;
 use pipe_model::access::Access;
@@ -127,7 +127,7 @@ impl<B: PlayedCode> RunningIteration<B> {
     }
 
     /// Ends the instance, which does so next: the event `Advance` or `Finish` of the book.
-    pub fn end(self, end: StageEnd, book: &mut Book<Runner<B>, OmList>) -> Named
+    pub fn end(self, end: StageEnd, book: &mut Book<Runner<B>, InsertionLog>) -> Named
         requires out { IsOutOf book.old self.token }
         requires ends { self.next ≡ NextAction.End end }
         requires lists { BelongsTo no_tie book.old.lists }
