@@ -1,7 +1,7 @@
 //! The command line, as `clap` is given it.
 
 ghost use Rattle.std.specs.Prelude.{◌≡◌, ◌∷◌, [], IfOk, codes, false};
-ghost use Rattle.clap.specs.Simple.{app_of, shape_of};
+ghost use Rattle.clap.specs.Simple.{app_of, shape_of, with_rule};
 ghost use Rattle.clap.specs.Walk.{rule_of};
 ghost use Rattle.clap.specs.declared.builder.command.Command.TheViews.{out-Command as fields_of};
 ghost use Rattle.cilkp_words.specs.CommandLine.{bare_line, bench_shape, check_record_shape, command_line, file_rule, flag_rule};
@@ -34,93 +34,91 @@ fn flag<'a>(alloc: Global, name: &'static str) -> Arg<'a>
     Arg::new(alloc, name).long(name).action(ArgAction::SetTrue)
 }
 
+// Adds the files of a program and its input.
+fn with_files<'a>(alloc: Global, command: Command<'a>) -> Result<Command<'a>, AllocError>
+    requires { (fields_of command).has_globals ≡ false }
+    ensures app { IfOk result (λ c. app_of c ≡ with_rule (with_rule (app_of command.entry) (file_rule (codes "source")))
+        (file_rule (codes "input"))) }
+    ensures local { IfOk result (λ c. (fields_of c).has_globals ≡ false) }
+{
+    let command = command.arg(file(alloc, "source"))?;
+    command.arg(file(alloc, "input"))
+}
+
+// Adds the number of workers and the throttling limit.
+fn with_limits<'a>(alloc: Global, command: Command<'a>) -> Result<Command<'a>, AllocError>
+    requires { (fields_of command).has_globals ≡ false }
+    ensures app { IfOk result (λ c. app_of c ≡ with_rule (with_rule (app_of command.entry) (option_rule (codes "workers")))
+        (option_rule (codes "throttle"))) }
+    ensures local { IfOk result (λ c. (fields_of c).has_globals ≡ false) }
+{
+    let command = command.arg(option(alloc, "workers"))?;
+    command.arg(option(alloc, "throttle"))
+}
+
 fn run<'a>(alloc: Global) -> Result<Command<'a>, AllocError>
     ensures shape { IfOk result (λ c. shape_of c ≡ run_shape) }
     ensures local { IfOk result (λ c. (fields_of c).has_globals ≡ false) }
 {
-    let command = Command::new(alloc, "run")
-        .arg(file(alloc, "source"))?
-        .arg(file(alloc, "input"))?
-        .arg(option(alloc, "workers"))?
-        .arg(option(alloc, "throttle"))?
-        .arg(flag(alloc, "record"))?;
-    Ok(command)
+    let command = with_files(alloc, Command::new(alloc, "run"))?;
+    let command = with_limits(alloc, command)?;
+    command.arg(flag(alloc, "record"))
 }
 
 fn play<'a>(alloc: Global) -> Result<Command<'a>, AllocError>
     ensures shape { IfOk result (λ c. shape_of c ≡ play_shape) }
     ensures local { IfOk result (λ c. (fields_of c).has_globals ≡ false) }
 {
-    let command = Command::new(alloc, "play")
-        .arg(file(alloc, "source"))?
-        .arg(file(alloc, "input"))?
-        .arg(option(alloc, "workers"))?
-        .arg(option(alloc, "throttle"))?
-        .arg(option(alloc, "seed"))?
-        .arg(flag(alloc, "record"))?;
-    Ok(command)
+    let command = with_files(alloc, Command::new(alloc, "play"))?;
+    let command = with_limits(alloc, command)?;
+    let command = command.arg(option(alloc, "seed"))?;
+    command.arg(flag(alloc, "record"))
 }
 
 fn serial<'a>(alloc: Global) -> Result<Command<'a>, AllocError>
     ensures shape { IfOk result (λ c. shape_of c ≡ serial_shape) }
     ensures local { IfOk result (λ c. (fields_of c).has_globals ≡ false) }
 {
-    let command = Command::new(alloc, "serial")
-        .arg(file(alloc, "source"))?
-        .arg(file(alloc, "input"))?;
-    Ok(command)
+    with_files(alloc, Command::new(alloc, "serial"))
 }
 
 fn format<'a>(alloc: Global) -> Result<Command<'a>, AllocError>
     ensures shape { IfOk result (λ c. shape_of c ≡ format_shape) }
     ensures local { IfOk result (λ c. (fields_of c).has_globals ≡ false) }
 {
-    let command = Command::new(alloc, "format").arg(file(alloc, "source"))?;
-    Ok(command)
+    Command::new(alloc, "format").arg(file(alloc, "source"))
 }
 
 fn bench<'a>(alloc: Global) -> Result<Command<'a>, AllocError>
     ensures shape { IfOk result (λ c. shape_of c ≡ bench_shape) }
     ensures local { IfOk result (λ c. (fields_of c).has_globals ≡ false) }
 {
-    let command = Command::new(alloc, "bench")
-        .arg(option(alloc, "seed"))?
-        .arg(option(alloc, "size"))?;
-    Ok(command)
+    let command = Command::new(alloc, "bench").arg(option(alloc, "seed"))?;
+    command.arg(option(alloc, "size"))
 }
 
 fn check_record<'a>(alloc: Global) -> Result<Command<'a>, AllocError>
     ensures shape { IfOk result (λ c. shape_of c ≡ check_record_shape) }
     ensures local { IfOk result (λ c. (fields_of c).has_globals ≡ false) }
 {
-    let command = Command::new(alloc, "check-record")
-        .arg(file(alloc, "source"))?
-        .arg(file(alloc, "input"))?
-        .arg(file(alloc, "record"))?
-        .arg(option(alloc, "throttle"))?;
-    Ok(command)
+    let command = with_files(alloc, Command::new(alloc, "check-record"))?;
+    let command = command.arg(file(alloc, "record"))?;
+    command.arg(option(alloc, "throttle"))
 }
 
 fn wave<'a>(alloc: Global) -> Result<Command<'a>, AllocError>
     ensures shape { IfOk result (λ c. shape_of c ≡ wave_shape) }
     ensures local { IfOk result (λ c. (fields_of c).has_globals ≡ false) }
 {
-    let command = Command::new(alloc, "wave")
-        .arg(file(alloc, "source"))?
-        .arg(file(alloc, "input"))?
-        .arg(option(alloc, "workers"))?
-        .arg(option(alloc, "throttle"))?;
-    Ok(command)
+    let command = with_files(alloc, Command::new(alloc, "wave"))?;
+    with_limits(alloc, command)
 }
 
 fn span<'a>(alloc: Global) -> Result<Command<'a>, AllocError>
     ensures shape { IfOk result (λ c. shape_of c ≡ span_shape) }
     ensures local { IfOk result (λ c. (fields_of c).has_globals ≡ false) }
 {
-    let command = Command::new(alloc, "span")
-        .arg(file(alloc, "source"))?
-        .arg(file(alloc, "input"))?;
-    Ok(command)
+    with_files(alloc, Command::new(alloc, "span"))
 }
 
 // The command line without its subcommands.

@@ -4,4 +4,3 @@ pub mod StartedInstances
 pub mod Actions
 pub mod Conditions
 pub mod Keeping
-mod CopiedStatements

@@ -32,7 +32,6 @@ ghost use Rattle.frame_book.specs.CallEffects.{with_entered, after_enter, after_
 ghost use Rattle.frame_book.specs.CallEffects.{with_resumed, after_leave_ready, IsReady, kept_folded, stage_end};
 ghost use Rattle.frame_book.specs.GivenTokens.{IsGivenBeside, IsGivenBy, IsOutOf, IsPayloadOf};
 
-use crate::copy::{copy_numbers, copy_program};
 use crate::folding::{count_of, fold_left, lets_enter, needs_left};
 use crate::ledger::Tickets;
 use crate::payload::Payload;
@@ -55,6 +54,7 @@ use pipe_model::stage::StageEnd;
 use pipe_model::status::Status;
 use pipe_model::ticket::{BookEntry, BookLog, Trace};
 use pipe_model::tree::Program;
+use program_copy::copy::{copy_numbers, copy_program};
 use std::alloc::Global;
 use std::marker::Model;
 use throttle::pool::Pool;

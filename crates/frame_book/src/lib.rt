@@ -5,7 +5,6 @@
 #![tactic(auto)]
 
 pub mod book;
-mod copy;
 mod folding;
 pub mod law;
 mod ledger;

@@ -2,7 +2,6 @@
 //! wait for each row.
 #![tactic(auto)]
 
-mod copy;
 pub mod fault;
 mod form;
 mod lower;

@@ -9,12 +9,12 @@ ghost use Rattle.pipe_model.specs.Language.SyntaxTree.{statement_of, statements_
 ghost use Rattle.wave_laws.specs.Waves.LoweredLoops.{counts_row, lowered_body, lowered_test, lowered_turn, waits_for_left};
 ghost use Rattle.wave_laws.specs.Waves.WaveLoops as rows;
 
-use crate::copy::copy_statement;
 use crate::form::ROW;
 use pipe_model::memory::NoMemory;
 use pipe_model::name::Name;
 use pipe_model::operator_codes::{AT_LEAST, LESS, NEGATIVE, PLUS};
 use pipe_model::tree::{Block, Expr, Stmt};
+use program_copy::copy::copy_statement;
 use std::alloc::Global;
 
 // Returns the expression `row`.

@@ -10,13 +10,13 @@ ghost use Rattle.wave_laws.specs.Waves.WaveFaults.{first_stage, marks_before_bod
 ghost use Rattle.wave_laws.specs.Waves.WaveLoops.{IsWave};
 ghost use Rattle.wave_lower.specs.FirstFaults.{IsFirstFault};
 
-use crate::copy::{copy_block, copy_declarations};
 use crate::fault::WaveFault;
 use crate::form::{begins_with_row, is_number};
 use crate::lower::{lowered_body, lowered_test};
 use crate::search::find_in_block;
 use pipe_model::memory::NoMemory;
 use pipe_model::tree::Program;
+use program_copy::copy::{copy_block, copy_declarations};
 use std::alloc::Global;
 
 // Returns the number of marks before the body, or the number of the first stage statement.

@@ -1,7 +1,7 @@
 use Rattle.std.proofs.Common.{◌≤◌, ◌∙◌, ◌++◌, append-nil, ap, arith, length, map, sym}
 use Rattle.std.proofs.lemmas.List.{drop_all}
 use Rattle.pipe_model.specs.Language.SyntaxTree.{statement_of}
-use Rattle.wave_lower.proofs.CopiedStatements.{turn_is}
+use Rattle.wave_lower.proofs.LoweredTurns.{turn_is}
 use Rattle.wave_lower.proofs.lower.lowered_turn.Goals as goal
 
 pub returns : goal.returns

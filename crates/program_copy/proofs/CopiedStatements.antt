@@ -7,11 +7,12 @@ use Rattle.pipe_model.specs.declared.tree.Stmt.TheVariants as stmts
 use Rattle.pipe_model.specs.Language.SyntaxTree.{Statement, Statements, Empty, Then, If, While, expression_of, statement_of, statements_of}
 use Rattle.pipe_model.proofs.NestedBlocks.{if_seen, while_seen}
 
-abbrev in_order : List Statement → Statements
+-- statements in order, as one tree
+abbrev pub in_order : List Statement → Statements
 in_order [] = Empty
 in_order (s ∷ ss) = Then s (in_order ss)
 
-in_order_is : (ss : List Stmt) → in_order (map statement_of ss) ≡ statements_of ss
+pub in_order_is : (ss : List Stmt) → in_order (map statement_of ss) ≡ statements_of ss
 in_order_is [] = refl
 in_order_is (s ∷ ss) = ap (Then (statement_of s)) (in_order_is ss)
 

@@ -1,4 +1,4 @@
-//! Copies of programs and inputs.
+//! Copies of programs, of parts of them, and of inputs.
 
 ghost use Rattle.std.specs.Prelude.{◌≡◌, IfOk};
 ghost use Rattle.pipe_model.specs.Language.SyntaxTree.{expression_of, stage_statement, statement_of, statements_of, tree_of};
@@ -59,8 +59,9 @@ fn copy_stage(alloc: Global, number: &Option<Expr>) -> Result<Option<Expr>, NoMe
     }
 }
 
+/// Returns a copy of a statement. Returns an error only if memory runs out.
 #[cycle(copy)]
-fn copy_statement(alloc: Global, s: &Stmt) -> Result<Stmt, NoMemory>
+pub fn copy_statement(alloc: Global, s: &Stmt) -> Result<Stmt, NoMemory>
     ensures { IfOk result (λ copy. statement_of copy ≡ statement_of s.now) }
 {
     match s {
@@ -92,8 +93,9 @@ fn copy_statement(alloc: Global, s: &Stmt) -> Result<Stmt, NoMemory>
     }
 }
 
+/// Returns a copy of a block. Returns an error only if memory runs out.
 #[cycle(copy)]
-fn copy_block(alloc: Global, block: &Block) -> Result<Block, NoMemory>
+pub fn copy_block(alloc: Global, block: &Block) -> Result<Block, NoMemory>
     ensures { IfOk result (λ copy. statements_of copy.statements.items ≡ statements_of block.now.statements.items) }
 {
     let mut statements = Vec::new(alloc);
@@ -113,7 +115,8 @@ fn copy_declaration(alloc: Global, cell: &Declaration) -> Result<Declaration, No
     })
 }
 
-fn copy_declarations(alloc: Global, cells: &Declarations) -> Result<Declarations, NoMemory>
+/// Returns a copy of the declared cells. Returns an error only if memory runs out.
+pub fn copy_declarations(alloc: Global, cells: &Declarations) -> Result<Declarations, NoMemory>
     ensures { IfOk result (λ copy. copy ≡ cells.now) }
 {
     let mut copy = Declarations::new(alloc);

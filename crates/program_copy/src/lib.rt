@@ -1,0 +1,4 @@
+//! Copies of the syntax trees of programs.
+#![tactic(auto)]
+
+pub mod copy;
