@@ -35,6 +35,10 @@ pub(crate) struct Idle {
     turns: u32,
     micros: u64,
     sleep: Parker,
+    // Whether the book had nothing when it was asked last, or before an iteration was left to others.
+    waits: bool,
+    // Whether an iteration was left to others when the book was asked last.
+    left: bool,
 }
 
 impl Idle {
@@ -46,6 +50,8 @@ impl Idle {
             turns: FIRST_TURNS,
             micros: FIRST_SLEEP,
             sleep: Parker::new(),
+            waits: false,
+            left: false,
         }
     }
 
@@ -54,10 +60,33 @@ impl Idle {
         self.pauses = 0;
         self.turns = FIRST_TURNS;
         self.micros = FIRST_SLEEP;
+        self.waits = false;
+        self.left = false;
     }
 
-    // Returns how often the worker is to look for a task before it asks the book again.
-    pub fn looks(&self) -> u32 {
+    // Returns whether the worker may begin an iteration that the book lets begin. The worker of the last
+    // iteration does so itself as a rule, a moment later. So one that waits leaves it to that one at
+    // first, and begins it if the book says so twice.
+    pub fn may_begin(&self) -> bool {
+        !self.waits || self.left
+    }
+
+    // The book had nothing to do. Returns how often the worker is to look for a task before it asks the
+    // book again.
+    pub fn after_nothing(&mut self) -> u32 {
+        self.waits = true;
+        self.left = false;
+        self.looks()
+    }
+
+    // An iteration was left to others. Returns how often the worker is to look for a task before it asks
+    // the book again.
+    pub fn after_offer(&mut self) -> u32 {
+        self.left = true;
+        self.looks()
+    }
+
+    fn looks(&self) -> u32 {
         if self.pauses < SHORT_PAUSES {
             SHORT_LOOKS
         } else {

@@ -39,6 +39,8 @@ enum Rescued {
     Worked,
     // There is nothing to do now.
     Nothing,
+    // The next iteration may begin, and the worker left that to others.
+    Left,
     // The run is finished or stopped.
     Over,
 }
@@ -259,7 +261,7 @@ impl<M: Runs + Drop, Q: WorkTest<M>> Worker<M, Q> {
         }
     }
 
-    // Asks the book for something to do, and does it.
+    // Asks the book for something to do, and does it. Begins an iteration only if it `may_begin` one.
     fn rescue<R: Wait, H: Hall<M>, G: Gate>(
         &mut self,
         rt: &R,
@@ -267,6 +269,7 @@ impl<M: Runs + Drop, Q: WorkTest<M>> Worker<M, Q> {
         input: &Numbers,
         hall: &mut H,
         gate: &G,
+        may_begin: bool,
     ) -> Rescued
         requires named { H.named hall.old ≡ Q.named }
         requires drives { CanDrive M.code Q.named code.now input.now }
@@ -281,6 +284,9 @@ impl<M: Runs + Drop, Q: WorkTest<M>> Worker<M, Q> {
                 Rescued::Worked
             }
             Rescue::MayBegin => {
+                if !may_begin {
+                    return Rescued::Left;
+                }
                 self.begin(rt, code, input, hall, gate);
                 Rescued::Worked
             }
@@ -324,9 +330,10 @@ impl<M: Runs + Drop, Q: WorkTest<M>> Worker<M, Q> {
                 looks -= 1;
                 idle.pause(rt);
             } else {
-                match self.rescue(rt, code, input, hall, gate) {
+                match self.rescue(rt, code, input, hall, gate, idle.may_begin()) {
                     Rescued::Worked => idle.reset(),
-                    Rescued::Nothing => looks = idle.looks(),
+                    Rescued::Nothing => looks = idle.after_nothing(),
+                    Rescued::Left => looks = idle.after_offer(),
                     Rescued::Over => return,
                 }
             }
