@@ -65,16 +65,39 @@ fn listed(alloc: Global, input: &[u8]) -> Result<String, NoMemory> {
     Ok(text)
 }
 
+// Fails the test unless an input has these numbers, or this fault.
+fn check_input(alloc: Global, input: &[u8], wanted: &str) -> Result<(), Fail> {
+    let found = listed(alloc, input)?;
+    if found.as_str() == wanted {
+        return Ok(());
+    }
+    Err(Fail::new(format_args!("{found}, and not {wanted}")))
+}
+
 #[test]
 fn inputs_have_their_numbers(rt: HostRuntime) -> Result<(), Fail> {
-    for (input, expected) in INPUTS {
-        assert_eq!(rt; listed(rt.alloc(), input)?.as_str(), expected);
+    for (input, wanted) in &INPUTS {
+        check_input(rt.alloc(), input, wanted)?;
     }
     Ok(())
 }
 
-// The text of `count` zeros, each with a space after it, and then another text.
-fn zeros(alloc: Global, count: usize, last: &[u8]) -> Result<Vec<u8>, NoMemory> {
+// A number of zeros, each with a space after it, then another text, and how many numbers or what fault
+// there is in all of it.
+const ZEROS: [(usize, &[u8], Result<usize, InputFault>); 4] = [
+    // The most numbers are read, and number 1,048,577 is one too many.
+    (MOST_NUMBERS, b"", Ok(MOST_NUMBERS)),
+    (MOST_NUMBERS + 1, b"", Err(InputFault::TooMany(2_097_152))),
+    // One number too many counts before its width, but a bare minus sign is no number.
+    (
+        MOST_NUMBERS,
+        b"99999999999999999999",
+        Err(InputFault::TooMany(2_097_152)),
+    ),
+    (MOST_NUMBERS, b"-", Err(InputFault::BadByte(2_097_153))),
+];
+
+fn zeros(alloc: Global, count: usize, last: &[u8]) -> Result<Vec<u8>, InputFault> {
     let mut input = Vec::new(alloc);
     for _ in 0..count {
         input.extend_from_slice(b"0 ")?;
@@ -83,36 +106,29 @@ fn zeros(alloc: Global, count: usize, last: &[u8]) -> Result<Vec<u8>, NoMemory> 
     Ok(input)
 }
 
-// The most numbers are read, and number 1,048,577 is one too many.
-#[test]
-fn numbers_are_counted(rt: HostRuntime) -> Result<(), Fail> {
-    let input = zeros(rt.alloc(), MOST_NUMBERS + 1, b"")?;
-    let fault = numbers(rt.alloc(), input.as_slice()).err();
-    assert_eq!(rt; fault, Some(InputFault::TooMany(2_097_152)));
-    let found = numbers(rt.alloc(), &input[2..])?;
-    assert_eq!(rt; found.len(), MOST_NUMBERS);
-    Ok(())
+// How many numbers these zeros and the text are.
+fn zero_count(alloc: Global, count: usize, last: &[u8]) -> Result<usize, InputFault> {
+    let input = zeros(alloc, count, last)?;
+    Ok(numbers(alloc, input.as_slice())?.len())
 }
 
-// One number too many counts before its width, but a bare minus sign is no number.
 #[test]
-fn too_many_is_reported_first(rt: HostRuntime) -> Result<(), Fail> {
-    let wide = zeros(rt.alloc(), MOST_NUMBERS, b"99999999999999999999")?;
-    let fault = numbers(rt.alloc(), wide.as_slice()).err();
-    assert_eq!(rt; fault, Some(InputFault::TooMany(2_097_152)));
-    let bare = zeros(rt.alloc(), MOST_NUMBERS, b"-")?;
-    let fault = numbers(rt.alloc(), bare.as_slice()).err();
-    assert_eq!(rt; fault, Some(InputFault::BadByte(2_097_153)));
-    Ok(())
+fn numbers_are_counted(rt: HostRuntime) {
+    for (count, last, wanted) in &ZEROS {
+        let found = zero_count(rt.alloc(), *count, last);
+        assert!(rt; found == *wanted, "{found:?}, and not {wanted:?}");
+    }
+}
+
+// How many numbers an input of spaces has.
+fn space_count(alloc: Global, count: usize) -> Result<usize, InputFault> {
+    let input = Vec::from_elem(alloc, b' ', count)?;
+    Ok(numbers(alloc, input.as_slice())?.len())
 }
 
 // The longest input is read, and one more byte is too long.
 #[test]
-fn bytes_are_counted(rt: HostRuntime) -> Result<(), Fail> {
-    let input = vec![in rt.alloc(); b' '; LONGEST_INPUT + 1]?;
-    let fault = numbers(rt.alloc(), input.as_slice()).err();
-    assert_eq!(rt; fault, Some(InputFault::TooLong));
-    let found = numbers(rt.alloc(), &input[1..])?;
-    assert!(rt; found.is_empty());
-    Ok(())
+fn bytes_are_counted(rt: HostRuntime) {
+    assert!(rt; space_count(rt.alloc(), LONGEST_INPUT) == Ok(0));
+    assert!(rt; space_count(rt.alloc(), LONGEST_INPUT + 1) == Err(InputFault::TooLong));
 }
