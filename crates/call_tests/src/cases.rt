@@ -11,18 +11,42 @@ use std::sync::Wait;
 use std::test::Fail;
 use std::thread::Threads;
 
-// The files of a call: the source `a.pipe`, the input `a.in` and the record `a.log`.
-fn files(alloc: Global, case: &Case<'_>) -> Result<Vec<(String, Bytes)>, NoMemory> {
-    let mut files = Vec::new(alloc);
-    for (name, text) in [
-        ("a.pipe", case.source),
-        ("a.in", case.input),
-        ("a.log", case.record),
-    ] {
-        let bytes = Bytes::from_vec(text.to_vec(alloc)?);
-        files.push((String::from_str(alloc, name)?, bytes))?;
+// The words of calls. With one worker, `run` makes the serial run.
+pub const RUN: &[&str] = &["run", "a.pipe", "a.in", "--workers", "1"];
+
+pub const RUN_BY_FOUR: &[&str] = &["run", "a.pipe", "a.in", "--workers", "4", "--throttle", "8"];
+
+pub const SERIAL: &[&str] = &["serial", "a.pipe", "a.in"];
+
+pub const FORMAT: &[&str] = &["format", "a.pipe"];
+
+// The limits and the rest of a source, and the status and text of its call.
+pub type Row<'a> = ([u32; 4], &'a str, u8, &'a str);
+
+// A source of `rest` after these limits.
+pub fn source(alloc: Global, limits: [u32; 4], rest: &str) -> Result<String, NoMemory> {
+    let [iterations, stages, steps, emits] = limits;
+    Ok(format!(in alloc;
+        "limits iterations {iterations}, stages {stages}, steps {steps}, emits {emits}; {rest}"
+    )?)
+}
+
+// A text `count` times.
+pub fn repeated(alloc: Global, text: &str, count: usize) -> Result<String, NoMemory> {
+    let mut all = String::new(alloc);
+    for _ in 0..count {
+        all.push_str(text)?;
     }
-    Ok(files)
+    Ok(all)
+}
+
+// Declarations of `count` locals.
+pub fn locals(alloc: Global, count: usize) -> Result<String, NoMemory> {
+    let mut text = String::new(alloc);
+    for k in 0..count {
+        write!(text, "let a{k} = 1; ")?;
+    }
+    Ok(text)
 }
 
 fn words(alloc: Global, texts: &[&str]) -> Result<Vec<String>, NoMemory> {
@@ -33,109 +57,124 @@ fn words(alloc: Global, texts: &[&str]) -> Result<Vec<String>, NoMemory> {
     Ok(words)
 }
 
+fn push_file(
+    files: &mut Vec<(String, Bytes)>,
+    alloc: Global,
+    name: &str,
+    text: &str,
+) -> Result<(), NoMemory> {
+    let bytes = Bytes::from_vec(text.as_bytes().to_vec(alloc)?);
+    files.push((String::from_str(alloc, name)?, bytes))?;
+    Ok(())
+}
+
 fn numbers(alloc: Global, number: Option<u32>) -> Result<Vec<u32>, NoMemory> {
     let mut numbers = Vec::new(alloc);
-    for n in number {
-        numbers.push(n)?;
+    if let Some(number) = number {
+        numbers.push(number)?;
     }
     Ok(numbers)
 }
 
-// A call to test. Its files serve seven bytes a call, and its sink takes two.
+// A call to test: its words, the texts of the source `a.pipe`, the input `a.in` and the record `a.log`,
+// and the numbers of a read and of a write that fail. Its files serve seven bytes a read, and its sink
+// takes two a write.
 #[derive(Clone, Copy)]
 pub struct Case<'a> {
-    pub words: &'a [&'a str],
-    pub source: &'a [u8],
-    pub input: &'a [u8],
-    pub record: &'a [u8],
-    pub read_fails: Option<u32>,
-    pub write_fails: Option<u32>,
+    words: &'a [&'a str],
+    source: &'a str,
+    input: &'a str,
+    record: &'a str,
+    read_fails: Option<u32>,
+    write_fails: Option<u32>,
 }
 
 impl<'a> Case<'a> {
-    // A run with one worker, which makes the serial run.
-    pub fn of(source: &'a [u8]) -> Self {
+    // A run with one worker.
+    pub fn of(source: &'a str) -> Self {
         Case {
-            words: &["run", "a.pipe", "a.in", "--workers", "1"],
+            words: RUN,
             source,
-            input: b"",
-            record: b"",
+            input: "",
+            record: "",
             read_fails: None,
             write_fails: None,
         }
     }
 
-    // The same call with four workers.
-    pub fn with_four_workers(self) -> Self {
+    pub fn with_words(self, words: &'a [&'a str]) -> Self {
+        Case { words, ..self }
+    }
+
+    pub fn with_input(self, input: &'a str) -> Self {
+        Case { input, ..self }
+    }
+
+    pub fn with_record(self, record: &'a str) -> Self {
+        Case { record, ..self }
+    }
+
+    pub fn with_read_fault(self, read_fails: Option<u32>) -> Self {
+        Case { read_fails, ..self }
+    }
+
+    pub fn with_write_fault(self, write_fails: Option<u32>) -> Self {
         Case {
-            words: &["run", "a.pipe", "a.in", "--workers", "4", "--throttle", "8"],
+            write_fails,
             ..self
         }
     }
 
-    // The call that runs the serial elision alone.
-    pub fn serial(source: &'a [u8]) -> Self {
-        Case {
-            words: &["serial", "a.pipe", "a.in"],
-            ..Case::of(source)
-        }
+    fn files(self, alloc: Global) -> Result<Vec<(String, Bytes)>, NoMemory> {
+        let mut files = Vec::new(alloc);
+        push_file(&mut files, alloc, "a.pipe", self.source)?;
+        push_file(&mut files, alloc, "a.in", self.input)?;
+        push_file(&mut files, alloc, "a.log", self.record)?;
+        Ok(files)
     }
 
-    // The call that prints work, span and the heaviest path of the serial elision.
-    pub fn span(source: &'a [u8]) -> Self {
-        Case {
-            words: &["span", "a.pipe", "a.in"],
-            ..Case::of(source)
-        }
-    }
-
-    // The call that prints the canonical text of the source's program.
-    pub fn format(source: &'a [u8]) -> Self {
-        Case {
-            words: &["format", "a.pipe"],
-            ..Case::of(source)
-        }
-    }
-
-    // The call that checks the record.
-    pub fn check_record(source: &'a [u8], record: &'a [u8]) -> Self {
-        Case {
-            words: &["check-record", "a.pipe", "a.in", "a.log"],
-            record,
-            ..Case::of(source)
-        }
-    }
-
-    // The call that runs a wave loop with eight workers.
-    pub fn wave(source: &'a [u8]) -> Self {
-        Case {
-            words: &["wave", "a.pipe", "a.in", "--workers", "8"],
-            ..Case::of(source)
-        }
-    }
-
-    // Builds the files, the words and the sink, without making the call.
-    pub fn set_up(self, alloc: Global) -> Result<Call, NoMemory> {
+    fn mem_files(self, alloc: Global) -> Result<MemFiles, NoMemory> {
         let fails = numbers(alloc, self.read_fails)?;
-        Ok(Call {
-            words: words(alloc, self.words)?,
-            files: MemFiles::new(files(alloc, &self)?, 7, fails),
-            sink: MemSink::new(alloc, 2, numbers(alloc, self.write_fails)?),
-        })
+        Ok(MemFiles::new(self.files(alloc)?, 7, fails))
     }
 
-    // Makes the call, and returns its result and what the sink took.
-    pub fn run(
+    // Makes the files, the words and the sink, but not the call.
+    pub fn set_up(self, alloc: Global) -> Result<Call, NoMemory> {
+        let sink = MemSink::new(alloc, 2, numbers(alloc, self.write_fails)?);
+        let words = words(alloc, self.words)?;
+        let files = self.mem_files(alloc)?;
+        Ok(Call { words, files, sink })
+    }
+
+    // Makes the call.
+    pub fn end(self, rt: &(impl Threads + Wait + Sync), alloc: Global) -> Result<Ended, NoMemory> {
+        self.end_at(rt, alloc, &OpenGate)
+    }
+
+    // Makes the call, with a gate for its workers.
+    pub fn end_at<G: Gate + Sync>(
         self,
         rt: &(impl Threads + Wait + Sync),
         alloc: Global,
-    ) -> Result<(Ended, Vec<u8>), NoMemory> {
-        let mut call = self.set_up(alloc)?;
-        let ended = call.make(rt, alloc)?;
-        Ok((ended, call.sink.taken().as_slice().to_vec(alloc)?))
+        gate: &G,
+    ) -> Result<Ended, NoMemory> {
+        self.set_up(alloc)?.make(rt, alloc, gate)
     }
 
-    // Fails the test if the status or the text differs.
+    // Makes the call. Returns its status and how many bytes it has written, unless it ends with this
+    // status and this text.
+    pub fn other_end<G: Gate + Sync>(
+        self,
+        rt: &(impl Threads + Wait + Sync),
+        alloc: Global,
+        gate: &G,
+        status: u8,
+        text: &str,
+    ) -> Result<Option<(u8, u64)>, NoMemory> {
+        self.set_up(alloc)?.other_end(rt, alloc, gate, status, text)
+    }
+
+    // Fails the test unless the call ends with this status and this text.
     pub fn check(
         self,
         rt: &(impl Threads + Wait + Sync),
@@ -144,17 +183,12 @@ impl<'a> Case<'a> {
         status: u8,
         text: &str,
     ) -> Result<(), Fail> {
-        let (ended, taken) = self.run(rt, alloc)?;
-        if ended.status != status
-            || ended.written != text.len() as u64
-            || taken.as_slice() != text.as_bytes()
-        {
-            return Err(Fail::new(format_args!(
-                "{name}: status {}, {} bytes",
-                ended.status, ended.written
-            )));
+        match self.other_end(rt, alloc, &OpenGate, status, text)? {
+            None => Ok(()),
+            Some((other, written)) => Err(Fail::new(format_args!(
+                "{name}: status {other}, {written} bytes"
+            ))),
         }
-        Ok(())
     }
 }
 
@@ -163,20 +197,12 @@ impl<'a> Case<'a> {
 pub struct Call {
     words: Vec<String>,
     files: MemFiles,
-    pub sink: MemSink,
+    sink: MemSink,
 }
 
 impl Call {
-    pub fn make(
-        &mut self,
-        rt: &(impl Threads + Wait + Sync),
-        alloc: Global,
-    ) -> Result<Ended, NoMemory> {
-        self.make_at(rt, alloc, &OpenGate)
-    }
-
     // Makes the call, with a gate for its workers.
-    pub fn make_at<G: Gate + Sync>(
+    pub fn make<G: Gate + Sync>(
         &mut self,
         rt: &(impl Threads + Wait + Sync),
         alloc: Global,
@@ -191,12 +217,70 @@ impl Call {
             gate,
         )
     }
+
+    // Makes the call. Returns its status.
+    pub fn status(
+        &mut self,
+        rt: &(impl Threads + Wait + Sync),
+        alloc: Global,
+    ) -> Result<u8, NoMemory> {
+        Ok(self.make(rt, alloc, &OpenGate)?.status)
+    }
+
+    // What the sink took.
+    pub fn taken(&self) -> &[u8] {
+        self.sink.taken().as_slice()
+    }
+
+    fn other_end<G: Gate + Sync>(
+        &mut self,
+        rt: &(impl Threads + Wait + Sync),
+        alloc: Global,
+        gate: &G,
+        status: u8,
+        text: &str,
+    ) -> Result<Option<(u8, u64)>, NoMemory> {
+        let Ended {
+            status: other,
+            run_log: _,
+            reports: _,
+            written,
+        } = self.make(rt, alloc, gate)?;
+        if other == status && written == text.len() as u64 && self.taken() == text.as_bytes() {
+            return Ok(None);
+        }
+        Ok(Some((other, written)))
+    }
 }
 
-// A source of `rest` after these limits.
-pub fn source(alloc: Global, limits: [u32; 4], rest: &str) -> Result<String, NoMemory> {
-    let [iterations, stages, steps, emits] = limits;
-    Ok(format!(in alloc;
-        "limits iterations {iterations}, stages {stages}, steps {steps}, emits {emits}; {rest}"
-    )?)
+// Fails the test unless the call with these words, over the source of the row, ends as the row says.
+pub fn check_words(
+    rt: &(impl Threads + Wait + Sync),
+    alloc: Global,
+    words: &[&str],
+    row: &Row<'_>,
+) -> Result<(), Fail> {
+    let (limits, rest, status, text) = *row;
+    let source = source(alloc, limits, rest)?;
+    let case = Case::of(source.as_str()).with_words(words);
+    case.check(rt, alloc, rest, status, text)
+}
+
+// The same for `run` with one worker.
+pub fn check_run(
+    rt: &(impl Threads + Wait + Sync),
+    alloc: Global,
+    row: &Row<'_>,
+) -> Result<(), Fail> {
+    check_words(rt, alloc, RUN, row)
+}
+
+// The same for `run` and for `serial`.
+pub fn check_both(
+    rt: &(impl Threads + Wait + Sync),
+    alloc: Global,
+    row: &Row<'_>,
+) -> Result<(), Fail> {
+    check_words(rt, alloc, RUN, row)?;
+    check_words(rt, alloc, SERIAL, row)
 }

@@ -1,90 +1,111 @@
 // Rows for each form of the language, with the text and the status that its definition gives,
 // computed by hand.
 
-use crate::cases::{Case, source};
-use crate::row_tests::Row;
+use crate::cases::{Case, Row, check_both, check_run, repeated};
 use pipe_model::memory::NoMemory;
 use std::alloc::Global;
 use std::sync::Wait;
 use std::test::Fail;
 use std::thread::Threads;
 
-// The limit on emits, what is inserted into `init`, the loop and `final` of the program of `traps`,
+// The limit on emits, what is inserted into `init`, the loop and `final` of the program of `check_trap`,
 // and its text. Each part emits its number before that.
-const TRAPS: [(u32, [&str; 3], &str); 18] = [
+type TrapRow<'a> = (u32, &'a str, &'a str, &'a str, &'a str);
+
+const TRAPS: [TrapRow<'static>; 18] = [
     (
         9,
-        ["let x = 9223372036854775807 + 1;", "", ""],
+        "let x = 9223372036854775807 + 1;",
+        "",
+        "",
         "1\ntrap Overflow in init\n",
     ),
     (
         9,
-        ["", "n = n * 9223372036854775807 * 2;", ""],
+        "",
+        "n = n * 9223372036854775807 * 2;",
+        "",
         "1\n2\ntrap Overflow at 0/0\n",
     ),
     (
         9,
-        ["", "", "emit -(-9223372036854775807 - 1);"],
+        "",
+        "",
+        "emit -(-9223372036854775807 - 1);",
         "1\n2\n3\ntrap Overflow in final\n",
     ),
-    (9, ["emit 1 / 0;", "", ""], "1\ntrap DivZero in init\n"),
+    (9, "emit 1 / 0;", "", "", "1\ntrap DivZero in init\n"),
     (
         9,
-        ["", "emit 1 % (n - 1);", ""],
+        "",
+        "emit 1 % (n - 1);",
+        "",
         "1\n2\ntrap DivZero at 0/0\n",
     ),
+    (9, "", "", "emit 0 / 0;", "1\n2\n3\ntrap DivZero in final\n"),
+    (9, "a[2] = 1;", "", "", "1\ntrap Index in init\n"),
+    (9, "", "emit a[-1];", "", "1\n2\ntrap Index at 0/0\n"),
     (
         9,
-        ["", "", "emit 0 / 0;"],
-        "1\n2\n3\ntrap DivZero in final\n",
-    ),
-    (9, ["a[2] = 1;", "", ""], "1\ntrap Index in init\n"),
-    (9, ["", "emit a[-1];", ""], "1\n2\ntrap Index at 0/0\n"),
-    (
-        9,
-        ["", "", "emit a[n + 1];"],
+        "",
+        "",
+        "emit a[n + 1];",
         "1\n2\n3\ntrap Index in final\n",
     ),
-    (9, ["while (1) { }", "", ""], "1\ntrap Budget in init\n"),
+    (9, "while (1) { }", "", "", "1\ntrap Budget in init\n"),
     (
         9,
-        ["", "while (n) { n = -n; }", ""],
+        "",
+        "while (n) { n = -n; }",
+        "",
         "1\n2\ntrap Budget at 0/0\n",
     ),
     (
         9,
-        ["", "", "while (!0) { }"],
+        "",
+        "",
+        "while (!0) { }",
         "1\n2\n3\ntrap Budget in final\n",
     ),
-    (9, ["emit take();", "", ""], "1\ntrap InputEnd in init\n"),
-    (9, ["", "emit take();", ""], "1\n2\ntrap InputEnd at 0/0\n"),
+    (9, "emit take();", "", "", "1\ntrap InputEnd in init\n"),
+    (9, "", "emit take();", "", "1\n2\ntrap InputEnd at 0/0\n"),
     (
         9,
-        ["", "", "emit take();"],
+        "",
+        "",
+        "emit take();",
         "1\n2\n3\ntrap InputEnd in final\n",
     ),
-    (1, ["emit 7;", "", ""], "1\ntrap OutputLimit in init\n"),
-    (2, ["", "emit 7;", ""], "1\n2\ntrap OutputLimit at 0/0\n"),
-    (
-        3,
-        ["", "", "emit 7;"],
-        "1\n2\n3\ntrap OutputLimit in final\n",
-    ),
+    (1, "emit 7;", "", "", "1\ntrap OutputLimit in init\n"),
+    (2, "", "emit 7;", "", "1\n2\ntrap OutputLimit at 0/0\n"),
+    (3, "", "", "emit 7;", "1\n2\n3\ntrap OutputLimit in final\n"),
 ];
 
 // A trap in `init` leaves out the loop and `final`, and a trap in the loop leaves out `final`.
-fn traps(rt: &(impl Threads + Wait + Sync), alloc: Global) -> Result<(), Fail> {
-    for (emits, [init, body, last], text) in TRAPS {
-        let source = format!(in alloc;
-            "limits iterations 1, stages 1, steps 50, emits {emits}; cell a[2] = 0; cell n = 0; init {{ emit 1; {init} }} pipe_while (n < 1) {{ n = 1; emit 2; {body} }} final {{ emit 3; {last} }}"
-        )?;
-        Case::of(source.as_bytes()).check(rt, alloc, text, 3, text)?;
+fn check_trap(
+    rt: &(impl Threads + Wait + Sync),
+    alloc: Global,
+    row: &TrapRow<'_>,
+) -> Result<(), Fail> {
+    let (emits, init, body, last, text) = *row;
+    let source = format!(in alloc;
+        "limits iterations 1, stages 1, steps 50, emits {emits}; cell a[2] = 0; cell n = 0; init {{ emit 1; {init} }} pipe_while (n < 1) {{ n = 1; emit 2; {body} }} final {{ emit 3; {last} }}"
+    )?;
+    Case::of(source.as_str()).check(rt, alloc, text, 3, text)
+}
+
+#[test]
+fn traps_leave_out_later_parts(rt: HostRuntime) -> Result<(), Fail> {
+    for row in &TRAPS {
+        check_trap(&rt, rt.alloc(), row)?;
     }
     Ok(())
 }
 
 // A statement, its steps, and what it emits.
-const COSTS: [(&str, u32, &str); 20] = [
+type CostRow<'a> = (&'a str, u32, &'a str);
+
+const COSTS: [CostRow<'static>; 20] = [
     ("let x = 1;", 2, ""),
     ("n = n;", 2, ""),
     ("a[1] = 2;", 3, ""),
@@ -110,16 +131,37 @@ const COSTS: [(&str, u32, &str); 20] = [
     ("while (!n) { if (1) { n = 1; } }", 10, ""),
 ];
 
-// Each statement with a budget that is exact, and with one step too few.
-fn costs(rt: &(impl Threads + Wait + Sync), alloc: Global) -> Result<(), Fail> {
-    for (statement, cost, text) in COSTS {
-        let rest = format!(in alloc;
-            "cell a[2] = 7; cell n = 0; init {{ {statement} }} pipe_while (0) {{ }}"
-        )?;
-        let exact = source(alloc, [1, 1, cost, 1], rest.as_str())?;
-        Case::of(exact.as_bytes()).check(rt, alloc, statement, 0, text)?;
-        let less = source(alloc, [1, 1, cost.saturating_sub(1), 1], rest.as_str())?;
-        Case::of(less.as_bytes()).check(rt, alloc, statement, 3, "trap Budget in init\n")?;
+// Fails the test unless a program with the statement in its `init` ends like this with so many steps.
+fn check_steps(
+    rt: &(impl Threads + Wait + Sync),
+    alloc: Global,
+    statement: &str,
+    steps: u32,
+    status: u8,
+    text: &str,
+) -> Result<(), Fail> {
+    let source = format!(in alloc;
+        "limits iterations 1, stages 1, steps {steps}, emits 1; cell a[2] = 7; cell n = 0; init {{ {statement} }} pipe_while (0) {{ }}"
+    )?;
+    Case::of(source.as_str()).check(rt, alloc, statement, status, text)
+}
+
+// The statement with a budget that is exact, and with one step too few.
+fn check_cost(
+    rt: &(impl Threads + Wait + Sync),
+    alloc: Global,
+    row: &CostRow<'_>,
+) -> Result<(), Fail> {
+    let (statement, cost, text) = *row;
+    check_steps(rt, alloc, statement, cost, 0, text)?;
+    let less = cost.saturating_sub(1);
+    check_steps(rt, alloc, statement, less, 3, "trap Budget in init\n")
+}
+
+#[test]
+fn statements_have_their_costs(rt: HostRuntime) -> Result<(), Fail> {
+    for row in &COSTS {
+        check_cost(&rt, rt.alloc(), row)?;
     }
     Ok(())
 }
@@ -201,22 +243,44 @@ const VALUES: [(&str, &str); 68] = [
 const EDGES: &str =
     "cell h = 9223372036854775807; cell l = 0; cell a[3] = 0; init { l = -h - 1; a[0] = 4; a[1] = 2; a[2] = 6;";
 
-// A program that evaluates all expressions of `VALUES`, without its limits, and what it prints.
-fn program_of_values(alloc: Global) -> Result<(String, String), NoMemory> {
-    let mut program = String::from_str(alloc, EDGES)?;
-    let mut wanted = String::new(alloc);
-    for (expression, value) in VALUES {
-        write!(program, " emit {expression};")?;
-        write!(wanted, "{value}\n")?;
-    }
-    program.push_str(" } pipe_while (0) { }")?;
-    Ok((program, wanted))
+// Appends a statement that emits an expression, and the line of its value.
+fn push_value(
+    program: &mut String,
+    wanted: &mut String,
+    expression: &str,
+    value: &str,
+) -> Result<(), NoMemory> {
+    write!(program, " emit {expression};")?;
+    writeln!(wanted, "{value}")?;
+    Ok(())
 }
 
-fn values(rt: &(impl Threads + Wait + Sync), alloc: Global) -> Result<(), Fail> {
-    let (program, wanted) = program_of_values(alloc)?;
-    let source = source(alloc, [1, 1, 1000, 100], program.as_str())?;
-    Case::of(source.as_bytes()).check(rt, alloc, "values", 0, wanted.as_str())
+// The end of a program that evaluates all expressions of `VALUES`, and what it prints.
+fn emits_of_values(alloc: Global) -> Result<(String, String), NoMemory> {
+    let mut emits = String::new(alloc);
+    let mut wanted = String::new(alloc);
+    for (expression, value) in &VALUES {
+        push_value(&mut emits, &mut wanted, expression, value)?;
+    }
+    Ok((emits, wanted))
+}
+
+fn check_values(
+    rt: &(impl Threads + Wait + Sync),
+    alloc: Global,
+    emits: &str,
+    wanted: &str,
+) -> Result<(), Fail> {
+    let source = format!(in alloc;
+        "limits iterations 1, stages 1, steps 1000, emits 100; {EDGES}{emits} }} pipe_while (0) {{ }}"
+    )?;
+    Case::of(source.as_str()).check(rt, alloc, "values", 0, wanted)
+}
+
+#[test]
+fn expressions_have_their_values(rt: HostRuntime) -> Result<(), Fail> {
+    let (emits, wanted) = emits_of_values(rt.alloc())?;
+    check_values(&rt, rt.alloc(), emits.as_str(), wanted.as_str())
 }
 
 // Expressions over `h` and `l` that trap, and their traps.
@@ -235,32 +299,41 @@ const EDGE_TRAPS: [(&str, &str); 12] = [
     ("1 && 0 / 0", "DivZero"),
 ];
 
-fn edge_traps(rt: &(impl Threads + Wait + Sync), alloc: Global) -> Result<(), Fail> {
-    for (expression, trap) in EDGE_TRAPS {
-        let rest = format!(in alloc; "{EDGES} emit {expression}; }} pipe_while (0) {{ }}")?;
-        let source = source(alloc, [1, 1, 50, 1], rest.as_str())?;
-        let text = format!(in alloc; "trap {trap} in init\n")?;
-        Case::of(source.as_bytes()).check(rt, alloc, expression, 3, text.as_str())?;
+fn check_edge_trap(
+    rt: &(impl Threads + Wait + Sync),
+    alloc: Global,
+    expression: &str,
+    trap: &str,
+) -> Result<(), Fail> {
+    let source = format!(in alloc;
+        "limits iterations 1, stages 1, steps 50, emits 1; {EDGES} emit {expression}; }} pipe_while (0) {{ }}"
+    )?;
+    let text = format!(in alloc; "trap {trap} in init\n")?;
+    Case::of(source.as_str()).check(rt, alloc, expression, 3, text.as_str())
+}
+
+#[test]
+fn expressions_trap_at_their_edges(rt: HostRuntime) -> Result<(), Fail> {
+    for (expression, trap) in &EDGE_TRAPS {
+        check_edge_trap(&rt, rt.alloc(), expression, trap)?;
     }
     Ok(())
 }
 
 // An expression of 251 symbols that keeps 100 operands while the last one is evaluated.
-fn deepest(rt: &(impl Threads + Wait + Sync), alloc: Global) -> Result<(), Fail> {
-    let mut expression = String::new(alloc);
-    for _ in 0..25 {
-        expression.push_str("0 == 3 < 2 + 1 * (")?;
-    }
-    expression.push_str("1")?;
-    for _ in 0..25 {
-        expression.push_str(")")?;
-    }
-    let rest = format!(in alloc; "init {{ emit {expression}; }} pipe_while (0) {{ }}")?;
-    let source = source(alloc, [1, 1, 202, 1], rest.as_str())?;
-    Case::of(source.as_bytes()).check(rt, alloc, "an expression", 0, "1\n")
+fn deepest(alloc: Global) -> Result<String, NoMemory> {
+    let operands = repeated(alloc, "0 == 3 < 2 + 1 * (", 25)?;
+    let ends = repeated(alloc, ")", 25)?;
+    Ok(format!(in alloc; "init {{ emit {operands}1{ends}; }} pipe_while (0) {{ }}")?)
 }
 
-const ROWS: [Row; 45] = [
+#[test]
+fn deepest_expressions_are_evaluated(rt: HostRuntime) -> Result<(), Fail> {
+    let rest = deepest(rt.alloc())?;
+    check_run(&rt, rt.alloc(), &([1, 1, 202, 1], rest.as_str(), 0, "1\n"))
+}
+
+const ROWS: [Row<'static>; 45] = [
     // `init`, the loop and `final` have a budget each, and share the cells and the output.
     (
         [1, 1, 4, 9],
@@ -541,8 +614,16 @@ const ROWS: [Row; 45] = [
     ),
 ];
 
+#[test]
+fn each_form_has_its_result(rt: HostRuntime) -> Result<(), Fail> {
+    for row in &ROWS {
+        check_run(&rt, rt.alloc(), row)?;
+    }
+    Ok(())
+}
+
 // Pipelines whose stages depend on the iteration, `init`, `final` and traps, by `run` and by `serial`.
-const PIPELINES: [Row; 17] = [
+const PIPELINES: [Row<'static>; 17] = [
     // Stage 1 reads the counter, which stage 0 of the next iteration writes.
     (
         [8, 4, 100, 8],
@@ -657,25 +738,10 @@ const PIPELINES: [Row; 17] = [
     ),
 ];
 
-fn pipelines(rt: &(impl Threads + Wait + Sync), alloc: Global) -> Result<(), Fail> {
-    for (limits, rest, status, text) in PIPELINES {
-        let source = source(alloc, limits, rest)?;
-        Case::of(source.as_bytes()).check(rt, alloc, rest, status, text)?;
-        Case::serial(source.as_bytes()).check(rt, alloc, rest, status, text)?;
+#[test]
+fn pipelines_have_their_results(rt: HostRuntime) -> Result<(), Fail> {
+    for row in &PIPELINES {
+        check_both(&rt, rt.alloc(), row)?;
     }
     Ok(())
-}
-
-#[test]
-fn rows_of_the_language(rt: HostRuntime) -> Result<(), Fail> {
-    for (limits, rest, status, text) in ROWS {
-        let source = source(rt.alloc(), limits, rest)?;
-        Case::of(source.as_bytes()).check(&rt, rt.alloc(), rest, status, text)?;
-    }
-    pipelines(&rt, rt.alloc())?;
-    traps(&rt, rt.alloc())?;
-    costs(&rt, rt.alloc())?;
-    values(&rt, rt.alloc())?;
-    edge_traps(&rt, rt.alloc())?;
-    deepest(&rt, rt.alloc())
 }

@@ -2,7 +2,11 @@
 #![tactic(auto)]
 
 #[cfg(test)]
+mod call_rows;
+#[cfg(test)]
 mod cases;
+#[cfg(test)]
+mod event_rows;
 #[cfg(test)]
 mod language_rows;
 #[cfg(test)]

@@ -2,7 +2,8 @@
 // offset of the refusal, and is not part of the source. The crate `language_tests` has more sources
 // that are refused.
 
-use crate::cases::Case;
+use crate::cases::{Case, FORMAT, locals, repeated};
+use pipe_model::memory::NoMemory;
 use std::alloc::Global;
 use std::sync::Wait;
 use std::test::Fail;
@@ -39,35 +40,58 @@ const REFUSED: [(&str, &str); 12] = [
 ];
 
 // Fails the test unless `format` and `run` refuse the source with this line.
-fn expect_line(
+fn check_line(
     rt: &(impl Threads + Wait + Sync),
     alloc: Global,
     source: &str,
     line: &str,
 ) -> Result<(), Fail> {
-    Case::format(source.as_bytes()).check(rt, alloc, line, 1, line)?;
-    Case::of(source.as_bytes()).check(rt, alloc, line, 1, line)
+    let run = Case::of(source);
+    let format = run.with_words(FORMAT);
+    format.check(rt, alloc, line, 1, line)?;
+    run.check(rt, alloc, line, 1, line)
+}
+
+// Fails the test unless the source of two parts after its limits is refused at the offset of the second.
+fn check_offset(
+    rt: &(impl Threads + Wait + Sync),
+    alloc: Global,
+    kind: &str,
+    before: &str,
+    after: &str,
+) -> Result<(), Fail> {
+    let source = format!(in alloc; "{LIMITS}{before}{after}")?;
+    let offset = LIMITS.len() + before.len();
+    let line = format!(in alloc; "refused {kind} at {offset}\n")?;
+    check_line(rt, alloc, source.as_str(), line.as_str())
 }
 
 // Fails the test unless the source after its limits is refused at the offset of the `@`.
-fn expect_refusal(
+fn check_refusal(
     rt: &(impl Threads + Wait + Sync),
     alloc: Global,
     kind: &str,
     rest: &str,
 ) -> Result<(), Fail> {
-    let Some((before, after)) = rest.split_once('@') else {
-        return Err(Fail::new(format_args!("{rest}: no offset")));
-    };
-    let source = format!(in alloc; "{LIMITS}{before}{after}")?;
-    let offset = LIMITS.len() + before.len();
-    let line = format!(in alloc; "refused {kind} at {offset}\n")?;
-    expect_line(rt, alloc, source.as_str(), line.as_str())
+    match rest.split_once('@') {
+        Some((before, after)) => check_offset(rt, alloc, kind, before, after),
+        None => Err(Fail::new(format_args!("{rest}: no offset"))),
+    }
+}
+
+#[test]
+fn sources_are_refused(rt: HostRuntime) -> Result<(), Fail> {
+    for (kind, rest) in &REFUSED {
+        check_refusal(&rt, rt.alloc(), kind, rest)?;
+    }
+    Ok(())
 }
 
 // Limits, and the number of the one that is out of range; the fault precedes that of the unknown
 // name.
-const RANGES: [([i64; 4], u32); 6] = [
+type RangeRow = ([i64; 4], u32);
+
+const RANGES: [RangeRow; 6] = [
     ([0, 1, 1, 0], 1),
     ([9_223_372_036_854_775_807, 4097, 1, 0], 1),
     ([1, 4097, 1, 0], 2),
@@ -76,57 +100,78 @@ const RANGES: [([i64; 4], u32); 6] = [
     ([1, 1, 1, 1_048_577], 5),
 ];
 
-fn limits_refused(rt: &(impl Threads + Wait + Sync), alloc: Global) -> Result<(), Fail> {
-    for ([iterations, stages, steps, emits], which) in RANGES {
-        let source = format!(in alloc;
-            "limits iterations {iterations}, stages {stages}, steps {steps}, emits {emits}; pipe_while (x) {{ }}"
-        )?;
-        let line = format!(in alloc; "refused check LimitOut {which}\n")?;
-        expect_line(rt, alloc, source.as_str(), line.as_str())?;
+fn check_limits(
+    rt: &(impl Threads + Wait + Sync),
+    alloc: Global,
+    row: &RangeRow,
+) -> Result<(), Fail> {
+    let ([iterations, stages, steps, emits], which) = *row;
+    let source = format!(in alloc;
+        "limits iterations {iterations}, stages {stages}, steps {steps}, emits {emits}; pipe_while (x) {{ }}"
+    )?;
+    let line = format!(in alloc; "refused check LimitOut {which}\n")?;
+    check_line(rt, alloc, source.as_str(), line.as_str())
+}
+
+#[test]
+fn limits_out_of_range_are_refused(rt: HostRuntime) -> Result<(), Fail> {
+    for row in &RANGES {
+        check_limits(&rt, rt.alloc(), row)?;
     }
     Ok(())
 }
 
-fn repeated(alloc: Global, text: &str, n: usize) -> Result<String, Fail> {
-    let mut all = String::new(alloc);
-    for _ in 0..n {
-        all.push_str(text)?;
-    }
-    Ok(all)
+// At most 64 brackets are open at once.
+fn too_deep(alloc: Global) -> Result<String, NoMemory> {
+    let brackets = repeated(alloc, "(", 64)?;
+    Ok(format!(in alloc; "pipe_while {brackets}@(")?)
 }
 
-// At most 64 brackets are open at once, an expression has at most 256 symbols, a part 64 locals,
-// and a source 1,048,576 bytes.
-fn bounds(rt: &(impl Threads + Wait + Sync), alloc: Global) -> Result<(), Fail> {
-    let brackets = repeated(alloc, "(", 64)?;
-    let deep = format!(in alloc; "pipe_while {brackets}@(")?;
-    expect_refusal(rt, alloc, "source TooDeep", deep.as_str())?;
+// An expression has at most 256 symbols.
+fn too_long(alloc: Global) -> Result<String, NoMemory> {
     let sum = repeated(alloc, "1+", 128)?;
-    let long = format!(in alloc; "pipe_while ({sum}@1) {{ }}")?;
-    expect_refusal(rt, alloc, "source TooLong", long.as_str())?;
-    let mut locals = String::new(alloc);
-    for k in 0..64 {
-        write!(locals, "let a{k} = 1; ")?;
-    }
-    let many = format!(in alloc; "pipe_while (0) {{ {locals}let @b = 1; }}")?;
-    expect_refusal(rt, alloc, "check TooManyLocals", many.as_str())?;
-    let blank = repeated(alloc, " ", 1_048_576)?;
-    expect_line(
-        rt,
-        alloc,
-        blank.as_str(),
-        "refused source Unexpected at 1048576\n",
-    )?;
-    let longer = format!(in alloc; "{blank} ")?;
-    expect_line(rt, alloc, longer.as_str(), "refused source SourceTooLong\n")
+    Ok(format!(in alloc; "pipe_while ({sum}@1) {{ }}")?)
+}
+
+// A part has at most 64 locals.
+fn too_many_locals(alloc: Global) -> Result<String, NoMemory> {
+    let locals = locals(alloc, 64)?;
+    Ok(format!(in alloc; "pipe_while (0) {{ {locals}let @b = 1; }}")?)
 }
 
 #[test]
-fn sources_are_refused(rt: HostRuntime) -> Result<(), Fail> {
-    for (kind, rest) in REFUSED {
-        expect_refusal(&rt, rt.alloc(), kind, rest)?;
-    }
-    expect_line(&rt, rt.alloc(), "", "refused source Unexpected at 0\n")?;
-    limits_refused(&rt, rt.alloc())?;
-    bounds(&rt, rt.alloc())
+fn bounds_are_kept(rt: HostRuntime) -> Result<(), Fail> {
+    let alloc = rt.alloc();
+    check_refusal(&rt, alloc, "source TooDeep", too_deep(alloc)?.as_str())?;
+    check_refusal(&rt, alloc, "source TooLong", too_long(alloc)?.as_str())?;
+    check_refusal(
+        &rt,
+        alloc,
+        "check TooManyLocals",
+        too_many_locals(alloc)?.as_str(),
+    )
+}
+
+// Fails the test unless a source of so many blanks is refused with this line.
+fn check_blanks(
+    rt: &(impl Threads + Wait + Sync),
+    alloc: Global,
+    count: usize,
+    line: &str,
+) -> Result<(), Fail> {
+    let source = repeated(alloc, " ", count)?;
+    check_line(rt, alloc, source.as_str(), line)
+}
+
+// A source has at most 1,048,576 bytes.
+#[test]
+fn longest_sources_are_read(rt: HostRuntime) -> Result<(), Fail> {
+    check_blanks(&rt, rt.alloc(), 0, "refused source Unexpected at 0\n")?;
+    check_blanks(
+        &rt,
+        rt.alloc(),
+        1_048_576,
+        "refused source Unexpected at 1048576\n",
+    )?;
+    check_blanks(&rt, rt.alloc(), 1_048_577, "refused source SourceTooLong\n")
 }

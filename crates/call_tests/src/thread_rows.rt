@@ -1,9 +1,9 @@
 // Runs by several workers, and instances that overlap.
 
-use crate::cases::{Case, source};
-use cilkp_program::call::Ended;
+use crate::cases::Case;
 use pipe_model::column::ColumnEnd;
 use pipe_model::event::{Event, RunLog};
+use pipe_model::memory::NoMemory;
 use pipe_model::node::NodeId;
 use pipe_worker::hold::HoldGate;
 use std::alloc::Global;
@@ -13,11 +13,40 @@ use std::thread::Threads;
 
 // Prefix sums: the last stage runs in the order of the iterations.
 const PREFIX_SUMS: &str =
-    "cell n = 0; cell s = 0; pipe_while (n < 3) { n = n + 1; let t = n; pipe_wait(1); s = s + t; emit s; }";
+    "limits iterations 8, stages 4, steps 100, emits 8; cell n = 0; cell s = 0; pipe_while (n < 3) { n = n + 1; let t = n; pipe_wait(1); s = s + t; emit s; }";
+
+// Fails the test unless four workers print the sums.
+fn check_sums(
+    rt: &(impl Threads + Wait + Sync),
+    alloc: Global,
+    throttle: &str,
+) -> Result<(), Fail> {
+    let words = [
+        "run",
+        "a.pipe",
+        "a.in",
+        "--workers",
+        "4",
+        "--throttle",
+        throttle,
+    ];
+    let case = Case::of(PREFIX_SUMS).with_words(&words);
+    case.check(rt, alloc, "prefix sums", 0, "1\n3\n6\n")
+}
+
+// One iteration is alive, or eight.
+#[test]
+fn four_workers_keep_the_order(rt: HostRuntime) -> Result<(), Fail> {
+    check_sums(&rt, rt.alloc(), "1")?;
+    check_sums(&rt, rt.alloc(), "8")
+}
+
+// The words of runs with two workers.
+const RUN_BY_TWO: &[&str] = &["run", "a.pipe", "a.in", "--workers", "2", "--throttle", "2"];
 
 // Two iterations whose last stages wait for nothing.
 const TWO_ITERATIONS: &str =
-    "cell n = 0; pipe_while (n < 2) { n = n + 1; let t = n; pipe_continue(1); t = t + 1; }";
+    "limits iterations 2, stages 2, steps 50, emits 2; cell n = 0; pipe_while (n < 2) { n = n + 1; let t = n; pipe_continue(1); t = t + 1; }";
 
 const TURNS: u64 = 10_000_000;
 
@@ -39,91 +68,85 @@ fn place_of(log: &RunLog, event: Event) -> usize {
     log.events.len()
 }
 
-// Four workers, one iteration alive or eight.
-fn prefix_sums(rt: &(impl Threads + Wait + Sync), alloc: Global) -> Result<(), Fail> {
-    let source = source(alloc, [8, 4, 100, 8], PREFIX_SUMS)?;
-    for throttle in ["1", "8"] {
-        let words = [
-            "run",
-            "a.pipe",
-            "a.in",
-            "--workers",
-            "4",
-            "--throttle",
-            throttle,
-        ];
-        let case = Case {
-            words: &words,
-            ..Case::of(source.as_bytes())
-        };
-        case.check(rt, alloc, "prefix sums", 0, "1\n3\n6\n")?;
+// Whether the last stage of one iteration is entered before another iteration ends.
+fn enters_before_end(log: &Option<RunLog>, enters: u32, ends: u32) -> bool {
+    match log {
+        Some(log) => {
+            place_of(log, Event::Enter(enters)) < place_of(log, Event::Finish(ends, ColumnEnd::End))
+        }
+        None => false,
     }
-    Ok(())
 }
 
-// Runs the two iterations with a gate that holds one last stage until the other is at it. Fails the
-// test unless the two met. Returns the log.
+// Runs the two iterations with a gate. Returns the status, and whether the last stage of `other` is entered
+// before `held` ends.
+fn gated_run(
+    rt: &(impl Threads + Wait + Sync),
+    alloc: Global,
+    gate: &HoldGate,
+    held: u32,
+    other: u32,
+) -> Result<(u8, bool), NoMemory> {
+    let case = Case::of(TWO_ITERATIONS).with_words(RUN_BY_TWO);
+    let ended = case.end_at(rt, alloc, gate)?;
+    Ok((ended.status, enters_before_end(&ended.run_log, other, held)))
+}
+
+// Holds the last stage of one iteration until the other is at its own. Returns the status, whether the two
+// met, and whether the other is entered before the held iteration ends.
 fn held_run(
     rt: &(impl Threads + Wait + Sync),
     alloc: Global,
-    held: NodeId,
-    until: NodeId,
-) -> Result<RunLog, Fail> {
-    let source = source(alloc, [2, 2, 50, 2], TWO_ITERATIONS)?;
-    let case = Case {
-        words: &["run", "a.pipe", "a.in", "--workers", "2", "--throttle", "2"],
-        ..Case::of(source.as_bytes())
-    };
-    let gate = HoldGate::new(held, until, TURNS);
-    let Ended {
-        status,
-        run_log,
-        reports: _,
-        written: _,
-    } = case.set_up(alloc)?.make_at(rt, alloc, &gate)?;
-    if status != 0 || !gate.met() {
-        return Err(Fail::new(format_args!("status {status}, met {}", gate.met())));
-    }
-    match run_log {
-        Some(log) => Ok(log),
-        None => Err(Fail::new(format_args!("no run log"))),
+    held: u32,
+    other: u32,
+) -> Result<(u8, bool, bool), NoMemory> {
+    let gate = HoldGate::new(last_stage(held), last_stage(other), TURNS);
+    let (status, overlap) = gated_run(rt, alloc, &gate, held, other)?;
+    Ok((status, gate.met(), overlap))
+}
+
+// Fails the test unless the two met, so that they overlap.
+fn check_overlap(
+    rt: &(impl Threads + Wait + Sync),
+    alloc: Global,
+    held: u32,
+    other: u32,
+) -> Result<(), Fail> {
+    match held_run(rt, alloc, held, other)? {
+        (0, true, true) => Ok(()),
+        (status, met, overlap) => Err(Fail::new(format_args!(
+            "status {status}, met {met}, overlap {overlap}"
+        ))),
     }
 }
 
-// The last stage of iteration 0 is held until an instance that never comes: it goes on after its turns.
-fn starved_run(rt: &(impl Threads + Wait + Sync), alloc: Global) -> Result<(), Fail> {
-    let source = source(alloc, [8, 4, 100, 8], PREFIX_SUMS)?;
-    let case = Case {
-        words: &["run", "a.pipe", "a.in", "--workers", "2", "--throttle", "2"],
-        ..Case::of(source.as_bytes())
-    };
+// Each iteration is in its last stage before the other ends. One thread could not pass both gates.
+#[test]
+fn workers_overlap(rt: HostRuntime) -> Result<(), Fail> {
+    check_overlap(&rt, rt.alloc(), 0, 1)?;
+    check_overlap(&rt, rt.alloc(), 1, 0)
+}
+
+// Holds the last stage of iteration 0 until an instance that never comes. Returns how the run ends, unless it
+// prints the sums, and whether the instance came.
+fn starved_run(
+    rt: &(impl Threads + Wait + Sync),
+    alloc: Global,
+) -> Result<(Option<(u8, u64)>, bool), NoMemory> {
     let never = NodeId {
         iteration: 5,
         index: 0,
     };
     let gate = HoldGate::new(last_stage(0), never, 1000);
-    let mut call = case.set_up(alloc)?;
-    let status = call.make_at(rt, alloc, &gate)?.status;
-    if status != 0 || gate.met() || call.sink.taken().as_slice() != b"1\n3\n6\n".as_slice() {
-        return Err(Fail::new(format_args!("status {status}, met {}", gate.met())));
-    }
-    Ok(())
+    let case = Case::of(PREFIX_SUMS).with_words(RUN_BY_TWO);
+    let other = case.other_end(rt, alloc, &gate, 0, "1\n3\n6\n")?;
+    Ok((other, gate.met()))
 }
 
+// The run goes on after the turns of its gate.
 #[test]
 fn a_held_instance_goes_on(rt: HostRuntime) -> Result<(), Fail> {
-    starved_run(&rt, rt.alloc())
-}
-
-#[test]
-fn workers_overlap(rt: HostRuntime) -> Result<(), Fail> {
-    prefix_sums(&rt, rt.alloc())?;
-    // Iteration 1 is in its last stage before iteration 0 ends. One thread could not pass both gates.
-    let log = held_run(&rt, rt.alloc(), last_stage(0), last_stage(1))?;
-    let enters = place_of(&log, Event::Enter(1));
-    let finishes = place_of(&log, Event::Finish(0, ColumnEnd::End));
-    assert!(rt; enters < finishes);
-    let other = held_run(&rt, rt.alloc(), last_stage(1), last_stage(0))?;
-    assert!(rt; place_of(&other, Event::Enter(0)) < other.events.len());
+    let (other, met) = starved_run(&rt, rt.alloc())?;
+    assert!(rt; other.is_none() && !met, "{other:?}, met {met}");
     Ok(())
 }
