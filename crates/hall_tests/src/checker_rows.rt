@@ -2,57 +2,132 @@
 //! throttling limit 1.
 
 ghost use Rattle.std.specs.Prelude.{◌≡◌};
+ghost use Rattle.hall_tests.specs.PreparedPrograms.{IsPrepared};
+ghost use Rattle.pipe_model.specs.Language.SyntaxTree.{tree_of};
 
 use crate::checker::{Verdict, check};
-use crate::sources::prepare;
+use crate::sources::{Prepared, prepare};
 use pipe_model::access::{Access, AccessKind, CellId};
 use pipe_model::column::ColumnEnd::{Closed, End};
 use pipe_model::event::Event;
+use pipe_model::memory::NoMemory;
 use pipe_model::node::Kind;
-use std::test::Fail;
+use std::alloc::Global;
 
 // Counts to 1.
 const COUNTING: &str = "limits iterations 1, stages 2, steps 50, emits 0; \
     cell n = 0; pipe_while (n < 1) { n = 1; }";
 
-// An access of an iteration to `n`.
-fn of_n(iteration: u32, kind: AccessKind, value: i64) -> Event {
-    let cell = CellId(2);
-    Event::Access(iteration, Access { cell, kind, value })
+// The cell `n`.
+const N: CellId = CellId(2);
+
+const READ_0: Access = Access {
+    cell: N,
+    kind: AccessKind::Read,
+    value: 0,
+};
+
+const READ_1: Access = Access {
+    cell: N,
+    kind: AccessKind::Read,
+    value: 1,
+};
+
+const READ_5: Access = Access {
+    cell: N,
+    kind: AccessKind::Read,
+    value: 5,
+};
+
+const WRITE_0: Access = Access {
+    cell: N,
+    kind: AccessKind::Write,
+    value: 0,
+};
+
+const WRITE_1: Access = Access {
+    cell: N,
+    kind: AccessKind::Write,
+    value: 1,
+};
+
+const WRITE_3: Access = Access {
+    cell: N,
+    kind: AccessKind::Write,
+    value: 3,
+};
+
+const EVENTS: [Event; 7] = [
+    Event::Begin(0),
+    Event::Access(0, READ_0),
+    Event::Access(0, WRITE_1),
+    Event::Finish(0, End),
+    Event::Begin(1),
+    Event::Access(1, READ_1),
+    Event::Finish(1, Closed),
+];
+
+// An index, the event that is put there, and the verdict.
+const ROWS: [(usize, Event, Verdict); 9] = [
+    (0, Event::Begin(0), Verdict::Finished),
+    (0, Event::Begin(1), Verdict::Control(0)),
+    (1, Event::Access(0, READ_5), Verdict::Value(1)),
+    (1, Event::Access(0, WRITE_0), Verdict::Program(0)),
+    (2, Event::Access(0, WRITE_3), Verdict::Value(5)),
+    (2, Event::Access(1, WRITE_1), Verdict::Control(2)),
+    (3, Event::Advance(0, Kind::Wait, 1), Verdict::Control(4)),
+    (3, Event::Stop, Verdict::Control(4)),
+    (6, Event::Finish(1, End), Verdict::Control(7)),
+];
+
+// The events with another one at this index.
+fn changed(index: usize, event: Event) -> [Event; 7] {
+    let mut events = EVENTS;
+    if index < events.len() {
+        events[index] = event;
+    }
+    events
+}
+
+// The verdict on them.
+fn verdict_of(
+    alloc: Global,
+    prepared: &Prepared,
+    index: usize,
+    event: Event,
+) -> Result<Verdict, NoMemory>
+    requires { IsPrepared (tree_of prepared.now.checked) prepared.now.code }
+{
+    check(alloc, prepared, 1, changed(index, event).as_slice())
+}
+
+// The first row for which the verdict is another one, with that verdict.
+fn first_other(
+    alloc: Global,
+    prepared: &Prepared,
+    rows: &[(usize, Event, Verdict)],
+) -> Result<Option<(usize, Verdict)>, NoMemory>
+    requires { IsPrepared (tree_of prepared.now.checked) prepared.now.code }
+{
+    for (row, (index, event, verdict)) in rows.iter().enumerate() {
+        let found = verdict_of(alloc, prepared, *index, *event)?;
+        if found != *verdict {
+            return Ok(Some((row, found)));
+        }
+    }
+    Ok(None)
+}
+
+// The same for all rows; nothing if the source is refused or memory runs out.
+fn first_other_of_all(alloc: Global) -> Option<Option<(usize, Verdict)>> {
+    match prepare(alloc, COUNTING) {
+        Some(prepared) => first_other(alloc, &prepared, &ROWS).ok(),
+        None => None,
+    }
 }
 
 #[test]
-fn wrong_logs_are_rejected(rt: HostRuntime) -> Result<(), Fail> {
-    let alloc = rt.alloc();
-    let prepared = prepare(alloc, COUNTING)?;
-    let events = [
-        Event::Begin(0),
-        of_n(0, AccessKind::Read, 0),
-        of_n(0, AccessKind::Write, 1),
-        Event::Finish(0, End),
-        Event::Begin(1),
-        of_n(1, AccessKind::Read, 1),
-        Event::Finish(1, Closed),
-    ];
-    let rows = [
-        (0, Event::Begin(0), Verdict::Finished),
-        (0, Event::Begin(1), Verdict::Control(0)),
-        (1, of_n(0, AccessKind::Read, 5), Verdict::Value(1)),
-        (1, of_n(0, AccessKind::Write, 0), Verdict::Program(0)),
-        (2, of_n(0, AccessKind::Write, 3), Verdict::Value(5)),
-        (2, of_n(1, AccessKind::Write, 1), Verdict::Control(2)),
-        (3, Event::Advance(0, Kind::Wait, 1), Verdict::Control(4)),
-        (3, Event::Stop, Verdict::Control(4)),
-        (6, Event::Finish(1, End), Verdict::Control(7)),
-    ];
-    for (index, event, verdict) in rows {
-        let mut changed = events;
-        changed[index] = event;
-        assert_eq!(rt;
-            check(alloc, &prepared, 1, &changed[..])?,
-            verdict,
-            "{index} {event:?}"
-        );
-    }
-    Ok(())
+fn wrong_logs_are_rejected(rt: HostRuntime) {
+    let other = first_other_of_all(rt.alloc());
+    assert!(rt; other == Some(None), "{other:?}");
 }

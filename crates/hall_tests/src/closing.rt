@@ -12,7 +12,7 @@ use pipe_hall::shard::Shard;
 use pipe_model::access::CellId;
 use pipe_model::event::Event;
 use pipe_model::memory::NoMemory;
-use pipe_model::ticket::{BookLog, ShardLog};
+use pipe_model::ticket::{BookLog, ShardEntry, ShardLog};
 use std::alloc::Global;
 use std::sync::Wait;
 
@@ -45,6 +45,22 @@ fn logs_of(alloc: Global, shards: Vec<Shard>) -> Result<Vec<ShardLog>, NoMemory>
     Ok(logs)
 }
 
+// The logs of a book and of its shards.
+fn logs_with(alloc: Global, book: BookLog, shards: Vec<Shard>) -> Result<Logs, NoMemory>
+    requires book { BookRises book }
+    requires shards { All (λ shard. ShardRises shard.log) shards.items }
+    ensures book { IfOk result (λ logs. BookRises logs.book) }
+    ensures shards { IfOk result (λ logs. All ShardRises logs.shards.items) }
+{
+    let found = found_in(alloc, shards.as_slice())?;
+    let shards = logs_of(alloc, shards)?;
+    Ok(Logs {
+        book,
+        shards,
+        found,
+    })
+}
+
 /// Closes the hall that the key belongs to. Returns an error only if memory runs out.
 pub fn close_logs<R: Wait, B: RunCode>(
     rt: &R,
@@ -57,26 +73,46 @@ pub fn close_logs<R: Wait, B: RunCode>(
     ensures shards { IfOk result (λ logs. All ShardRises logs.shards.items) }
 {
     let HallEnd { book, shards } = close(rt, alloc, hall, key)?;
-    let found = found_in(alloc, shards.as_slice())?;
-    let shards = logs_of(alloc, shards)?;
-    let book = book.into_log();
-    Ok(Logs {
-        book,
-        shards,
-        found,
-    })
+    logs_with(alloc, book.into_log(), shards)
+}
+
+// Whether the entries have these tickets.
+fn are_tickets(entries: &[ShardEntry], tickets: &[u64]) -> bool {
+    for (index, entry) in entries.iter().enumerate() {
+        if tickets.get(index) != Some(&entry.ticket) {
+            return false;
+        }
+    }
+    entries.len() == tickets.len()
 }
 
 impl Logs {
-    /// Returns the tickets of the accesses to the cells of a shard.
-    pub fn tickets_of_shard(&self, alloc: Global, number: usize) -> Result<Vec<u64>, NoMemory> {
-        let mut tickets = Vec::new(alloc);
-        if let Some(log) = self.shards.get(number) {
-            for entry in log.as_slice() {
-                tickets.push(entry.ticket)?;
+    // Whether the accesses to the cells of a shard have these tickets.
+    fn has_tickets(&self, number: usize, tickets: &[u64]) -> bool {
+        match self.shards.get(number) {
+            Some(log) => are_tickets(log.as_slice(), tickets),
+            None => false,
+        }
+    }
+
+    /// Returns whether for each row, of a shard and tickets, the accesses to the cells of the shard have
+    /// these tickets.
+    pub fn have_tickets(&self, rows: &[(usize, &[u64])]) -> bool {
+        for (number, tickets) in rows {
+            if !self.has_tickets(*number, *tickets) {
+                return false;
             }
         }
-        Ok(tickets)
+        true
+    }
+
+    /// Returns the cell of the race, if just one race was found.
+    pub fn racing_cell(&self) -> Option<CellId> {
+        if self.found.len() != 1 {
+            return None;
+        }
+        let (cell, _race) = self.found.first()?;
+        Some(*cell)
     }
 
     /// Returns whether the last event of the book is a stop.

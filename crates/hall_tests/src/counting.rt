@@ -7,6 +7,7 @@ use pipe_frame::results::{Begun, Next, Reply, Rescue};
 use pipe_frame::stands::Stands;
 use pipe_frame::token::FrameToken;
 use pipe_model::access::CellId;
+use pipe_model::memory::NoMemory;
 use pipe_model::stage::StageEnd;
 use pipe_model::ticket::Trace;
 use std::sync::Wait;
@@ -24,10 +25,10 @@ pub struct Calls {
 /// A hall whose calls are counted. It passes each call on.
 #[derive(Drop)]
 pub struct Counting<H> {
-    pub hall: H,
-    pub calls: Calls,
-    /// Whether an access was refused, as memory ran out.
-    pub stopped: bool,
+    hall: H,
+    calls: Calls,
+    // Whether an access was refused, as memory ran out.
+    stopped: bool,
 }
 
 impl<H> Counting<H> {
@@ -46,6 +47,16 @@ impl<H> Counting<H> {
             hall,
             calls,
             stopped: false,
+        }
+    }
+
+    /// Returns how often each call was made. Returns an error if an access was refused, as memory ran
+    /// out.
+    pub fn counted(&self) -> Result<Calls, NoMemory> {
+        if self.stopped {
+            Err(NoMemory)
+        } else {
+            Ok(self.calls)
         }
     }
 }

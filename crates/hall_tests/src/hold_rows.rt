@@ -3,7 +3,6 @@
 use pipe_model::node::NodeId;
 use pipe_worker::gate::Gate;
 use pipe_worker::hold::HoldGate;
-use std::test::Fail;
 use std::thread::join;
 
 const HELD: NodeId = NodeId {
@@ -17,15 +16,14 @@ const UNTIL: NodeId = NodeId {
 };
 
 #[test]
-fn an_instance_is_held_until_another_comes(rt: HostRuntime) -> Result<(), Fail> {
+fn an_instance_is_held_until_another_comes(rt: HostRuntime) {
     let gate = HoldGate::new(HELD, UNTIL, u64::MAX);
     join(&rt, || gate.at(&rt, 0, HELD), || gate.at(&rt, 1, UNTIL));
     assert!(rt; gate.met());
-    Ok(())
 }
 
 #[test]
-fn an_instance_is_let_go_after_its_turns(rt: HostRuntime) -> Result<(), Fail> {
+fn an_instance_is_let_go_after_its_turns(rt: HostRuntime) {
     let gate = HoldGate::new(HELD, UNTIL, 3);
     gate.at(&rt, 0, HELD);
     assert!(rt; !gate.met());
@@ -33,5 +31,4 @@ fn an_instance_is_let_go_after_its_turns(rt: HostRuntime) -> Result<(), Fail> {
     assert!(rt; !gate.met());
     gate.at(&rt, 0, HELD);
     assert!(rt; gate.met());
-    Ok(())
 }

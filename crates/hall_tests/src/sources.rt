@@ -1,6 +1,6 @@
 //! Sources, as programs with their code.
 
-ghost use Rattle.std.specs.Prelude.{◌≡◌, ◌≤◌, ◌+◌, IfOk};
+ghost use Rattle.std.specs.Prelude.{◌≡◌, ◌≤◌, ◌+◌, IfSome};
 ghost use Rattle.hall_tests.specs.PreparedPrograms.{IsPrepared};
 ghost use Rattle.pipe_worker.specs.Machines.{cells_of};
 ghost use Rattle.pipe_model.specs.declared.bounds.TheConstants.{MOST_CELLS};
@@ -15,7 +15,6 @@ use pipe_parser::parse::parse;
 use stage_code::code::Code;
 use stage_code::lower::lower;
 use std::alloc::Global;
-use std::test::Fail;
 
 /// Counts in stage 0, and adds up in stage 1, which waits. Cell 2 is `n`.
 pub const PREFIX_SUMS: &str = "limits iterations 8, stages 4, steps 100, emits 8; \
@@ -43,37 +42,46 @@ pub struct Prepared {
     pub input: Numbers,
 }
 
-fn refused() -> Fail {
-    Fail::new(format_args!("the source is refused"))
-}
-
-// Returns the program of a source, or fails the test if the source is refused.
-fn accepted(alloc: Global, source: &[u8]) -> Result<Checked, Fail>
-    ensures { IfOk result (λ checked. BreaksNoRule (tree_of checked)) }
+// Returns the program of a source, or nothing if the source is refused or memory runs out.
+fn accepted(alloc: Global, source: &[u8]) -> Option<Checked>
+    ensures { IfSome result (λ checked. BreaksNoRule (tree_of checked)) }
 {
     let Ok(tokens) = tokens(alloc, source) else {
-        return Err(refused());
+        return None;
     };
     let Ok(parsed) = parse(alloc, source, &tokens) else {
-        return Err(refused());
+        return None;
     };
     let Ok(checked) = check(alloc, parsed.program) else {
-        return Err(refused());
+        return None;
     };
-    Ok(checked)
+    Some(checked)
 }
 
-/// Returns the program of a source with its code, or fails the test if the source is refused.
-pub fn prepare(alloc: Global, source: &str) -> Result<Prepared, Fail>
-    ensures { IfOk result (λ prepared. IsPrepared (tree_of prepared.checked) prepared.code) }
+// Returns an accepted program with its code.
+fn with_code(alloc: Global, checked: Checked) -> Option<Prepared>
+    requires { BreaksNoRule (tree_of checked) }
+    ensures { IfSome result (λ prepared. IsPrepared (tree_of prepared.checked) prepared.code) }
 {
-    let checked = accepted(alloc, source.as_bytes())?;
-    let code = lower(alloc, &checked)?;
-    Ok(Prepared {
-        checked,
-        code,
-        input: Numbers::new(alloc),
-    })
+    match lower(alloc, &checked) {
+        Ok(code) => Some(Prepared {
+            checked,
+            code,
+            input: Numbers::new(alloc),
+        }),
+        Err(_) => None,
+    }
+}
+
+/// Returns the program of a source with its code, or nothing if the source is refused or memory runs
+/// out.
+pub fn prepare(alloc: Global, source: &str) -> Option<Prepared>
+    ensures { IfSome result (λ prepared. IsPrepared (tree_of prepared.checked) prepared.code) }
+{
+    match accepted(alloc, source.as_bytes()) {
+        Some(checked) => with_code(alloc, checked),
+        None => None,
+    }
 }
 
 impl Prepared {

@@ -98,50 +98,43 @@ impl<'a, B: RunCode> Worker<'a, B> {
     }
 
     // Runs the instance of the token, and ends it.
-    fn run<R: Wait>(self, alloc: Global, rt: &R, code: &Code, input: &Numbers) -> (Self, Seen)
-        requires drives { CanDrive B.code (hall_name self.seat.hall) code.now input.now }
-        requires given { IsWorkerOf B.code (hall_name self.seat.hall) self.seat self.token }
-        ensures { IsWorkerOf B.code (hall_name self.entry.seat.hall) result.0.seat result.0.token }
+    fn run<R: Wait>(&mut self, alloc: Global, rt: &R, code: &Code, input: &Numbers) -> Seen
+        requires drives { CanDrive B.code (hall_name self.old.seat.hall) code.now input.now }
+        requires given { IsWorkerOf B.code (hall_name self.old.seat.hall) self.old.seat self.old.token }
+        ensures { IsWorkerOf B.code (hall_name self.old.seat.hall) self.new.seat self.new.token }
     {
-        let Worker { mut seat, token } = self;
-        let Some(token) = token else {
-            return (Worker { seat, token: None }, Seen::Refused);
+        let Some(token) = self.token.take() else {
+            return Seen::Refused;
         };
-        let (next, _end) = run_and_advance(alloc, rt, code, input, &mut seat, token);
+        let (next, _end) = run_and_advance(alloc, rt, code, input, &mut self.seat, token);
         match next {
-            Next::Go(token) => {
-                let seen = Seen::Token(token.iteration, token.index);
-                let token = Some(token);
-                (Worker { seat, token }, seen)
-            }
-            Next::Suspended => (Worker { seat, token: None }, Seen::Suspended),
-            Next::Ended => (Worker { seat, token: None }, Seen::Ended),
-            Next::Stopped => (Worker { seat, token: None }, Seen::Stopped),
+            Next::Go(token) => self.hold(token),
+            Next::Suspended => Seen::Suspended,
+            Next::Ended => Seen::Ended,
+            Next::Stopped => Seen::Stopped,
         }
     }
 
-    /// Makes a call, and returns the worker and the result.
+    /// Makes a call, and returns the result.
     pub fn make<R: Wait>(
-        self,
+        &mut self,
         alloc: Global,
         rt: &R,
         code: &Code,
         input: &Numbers,
         call: Call,
-    ) -> (Self, Seen)
-        requires drives { CanDrive B.code (hall_name self.seat.hall) code.now input.now }
-        requires given { IsWorkerOf B.code (hall_name self.seat.hall) self.seat self.token }
-        ensures { IsWorkerOf B.code (hall_name self.entry.seat.hall) result.0.seat result.0.token }
+    ) -> Seen
+        requires drives { CanDrive B.code (hall_name self.old.seat.hall) code.now input.now }
+        requires given { IsWorkerOf B.code (hall_name self.old.seat.hall) self.old.seat self.old.token }
+        ensures { IsWorkerOf B.code (hall_name self.old.seat.hall) self.new.seat self.new.token }
     {
-        let mut worker = self;
-        let seen = match call {
-            Call::Begin => worker.begin(rt),
-            Call::Run => return worker.run(alloc, rt, code, input),
-            Call::CheckRight(iteration) => worker.check_right(rt, iteration),
-            Call::LeaveReady => worker.leave_ready(rt),
-            Call::Rescue => worker.rescue(rt),
-        };
-        (worker, seen)
+        match call {
+            Call::Begin => self.begin(rt),
+            Call::Run => self.run(alloc, rt, code, input),
+            Call::CheckRight(iteration) => self.check_right(rt, iteration),
+            Call::LeaveReady => self.leave_ready(rt),
+            Call::Rescue => self.rescue(rt),
+        }
     }
 }
 
@@ -168,9 +161,7 @@ pub fn work<'a, R: Wait, B: RunCode>(
     let mut worker = Worker { seat, token: None };
     let mut seen = Seen::Nothing;
     for _ in rt.forever() {
-        let (after, result) = worker.make(alloc, rt, code, input, next_call(seen));
-        worker = after;
-        seen = result;
+        seen = worker.make(alloc, rt, code, input, next_call(seen));
         match seen {
             Seen::Finished | Seen::Stopped => return worker.seat,
             Seen::Nothing => yield_now(),

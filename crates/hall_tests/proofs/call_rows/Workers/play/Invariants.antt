@@ -5,5 +5,5 @@ use Rattle.hall_tests.proofs.call_rows.Workers.play.Given as goal
 abbrev pub invariant-loop-index : goal.invariant-loop-index
 invariant-loop-index g l =
     let h = hall_name l.fn.self.first.seat.hall in
-    IsWorkerOf g.B.RunCode.code h l.workers.first.seat l.workers.first.token
-    × IsWorkerOf g.B.RunCode.code h l.workers.second.seat l.workers.second.token
+    IsWorkerOf g.B.RunCode.code h l.self.first.seat l.self.first.token
+    × IsWorkerOf g.B.RunCode.code h l.self.second.seat l.self.second.token
