@@ -1,8 +1,8 @@
 //! The greatest bracket depth, the longest expression and the most locals, and one more of each.
 
-use crate::faults_found::{LIMITS, expect_accepted, expect_fault};
-use std::alloc::{AllocError, Global};
-use std::test::Fail;
+use crate::faults_found::{LIMITS, has_fault, is_accepted};
+use pipe_model::memory::NoMemory;
+use std::alloc::Global;
 
 const BODY: &str = "cell n = 0; cell a[2] = 0; pipe_while (0) { ";
 
@@ -11,7 +11,7 @@ const FINAL: &str = "pipe_while (0) { } final { ";
 // Texts, each repeated.
 type Parts = &'static [(&'static str, usize)];
 
-fn joined(alloc: Global, parts: Parts) -> Result<String, AllocError> {
+fn joined(alloc: Global, parts: Parts) -> Result<String, NoMemory> {
     let mut source = String::from_str(alloc, LIMITS)?;
     for (text, times) in parts {
         for _ in 0..*times {
@@ -134,32 +134,78 @@ const LONGEST: [Parts; 12] = [
     &[("pipe_while (0) { } // ", 1), ("{([", 1_000)],
 ];
 
-fn expect_each(alloc: Global, kind: &str, rows: &[Parts]) -> Result<(), Fail> {
-    for parts in rows {
-        expect_fault(alloc, kind, joined(alloc, *parts)?.as_str())?;
+const NAMES_TOO_LONG: [Parts; 1] = [&[(BODY, 1), ("let @", 1), ("a", 65)]];
+
+// Whether the source of the parts has the fault.
+fn parts_have_fault(alloc: Global, kind: &str, parts: Parts) -> Result<bool, NoMemory> {
+    let source = joined(alloc, parts)?;
+    has_fault(alloc, kind, source.as_str())
+}
+
+// The first source that does not have the fault.
+fn first_other_row(alloc: Global, kind: &str, rows: &[Parts]) -> Result<Option<usize>, NoMemory> {
+    for (index, parts) in rows.iter().enumerate() {
+        if !parts_have_fault(alloc, kind, *parts)? {
+            return Ok(Some(index));
+        }
     }
-    Ok(())
+    Ok(None)
+}
+
+// Sources, by the kind of their fault.
+const FAULTY: [(&str, &[Parts]); 4] = [
+    ("TooDeep", &TOO_DEEP),
+    ("TooLong", &TOO_LONG),
+    ("Unexpected", &UNFINISHED),
+    ("NameTooLong", &NAMES_TOO_LONG),
+];
+
+// Where the first source is that does not have its fault: the number of its kind, and of its row.
+fn first_other(
+    alloc: Global,
+    kinds: &[(&str, &[Parts])],
+) -> Result<Option<(usize, usize)>, NoMemory> {
+    for (number, (kind, rows)) in kinds.iter().enumerate() {
+        if let Some(row) = first_other_row(alloc, kind, rows)? {
+            return Ok(Some((number, row)));
+        }
+    }
+    Ok(None)
+}
+
+// Whether the parts are a program that breaks no rule.
+fn are_accepted(alloc: Global, parts: Parts) -> Result<bool, NoMemory> {
+    let source = joined(alloc, parts)?;
+    Ok(is_accepted(alloc, source.as_str()))
+}
+
+fn first_refused(alloc: Global, rows: &[Parts]) -> Result<Option<usize>, NoMemory> {
+    for (index, parts) in rows.iter().enumerate() {
+        if !are_accepted(alloc, *parts)? {
+            return Ok(Some(index));
+        }
+    }
+    Ok(None)
+}
+
+fn first_other_of_faulty(alloc: Global) -> Result<Option<(usize, usize)>, NoMemory> {
+    first_other(alloc, &FAULTY)
+}
+
+fn first_refused_of_longest(alloc: Global) -> Result<Option<usize>, NoMemory> {
+    first_refused(alloc, &LONGEST)
 }
 
 #[test]
-fn brackets_and_expressions_are_bounded(rt: HostRuntime) -> Result<(), Fail> {
-    let alloc = rt.alloc();
-    expect_each(alloc, "TooDeep", &TOO_DEEP)?;
-    expect_each(alloc, "TooLong", &TOO_LONG)?;
-    expect_each(alloc, "Unexpected", &UNFINISHED)?;
-    expect_each(
-        alloc,
-        "NameTooLong",
-        &[&[(BODY, 1), ("let @", 1), ("a", 65)]],
-    )?;
-    for parts in LONGEST {
-        expect_accepted(alloc, joined(alloc, parts)?.as_str())?;
-    }
-    Ok(())
+fn brackets_and_expressions_are_bounded(rt: HostRuntime) {
+    let other = first_other_of_faulty(rt.alloc());
+    assert!(rt; other == Ok(None), "{other:?}");
+    let refused = first_refused_of_longest(rt.alloc());
+    assert!(rt; refused == Ok(None), "{refused:?}");
 }
 
 // n `let` statements, of different names.
-fn locals(alloc: Global, n: u32) -> Result<String, AllocError> {
+fn locals(alloc: Global, n: u32) -> Result<String, NoMemory> {
     let mut text = String::new(alloc);
     for k in 0..n {
         write!(text, "let a{k} = 1; ")?;
@@ -167,32 +213,70 @@ fn locals(alloc: Global, n: u32) -> Result<String, AllocError> {
     Ok(text)
 }
 
-// Each part has at most 64 locals; a name that is taken counts before one local too many.
-#[test]
-fn locals_are_bounded(rt: HostRuntime) -> Result<(), Fail> {
-    let alloc = rt.alloc();
-    let most = locals(alloc, 64)?;
-    let fine = format!(in alloc;
-        "{LIMITS}init {{ {most}}} pipe_while (0) {{ {most}}} final {{ {most}}}"
+// Whether each part of a program may have these `let` statements.
+fn are_in_each_part(alloc: Global, locals: &str) -> Result<bool, NoMemory> {
+    let source = format!(in alloc;
+        "{LIMITS}init {{ {locals}}} pipe_while (0) {{ {locals}}} final {{ {locals}}}"
     )?;
-    expect_accepted(alloc, fine.as_str())?;
-    for (kind, name) in [("TooManyLocals", "b"), ("Twice", "a0")] {
-        let source = format!(in alloc; "{LIMITS}pipe_while (0) {{ {most}let @{name} = 1; }}")?;
-        expect_fault(alloc, kind, source.as_str())?;
-    }
-    Ok(())
+    Ok(is_accepted(alloc, source.as_str()))
 }
 
-// The most cells, one declaration each.
+// Whether a program with these `let` statements and a further one has this fault there.
+fn one_more_has_fault(
+    alloc: Global,
+    locals: &str,
+    kind: &str,
+    name: &str,
+) -> Result<bool, NoMemory> {
+    let source = format!(in alloc; "{LIMITS}pipe_while (0) {{ {locals}let @{name} = 1; }}")?;
+    has_fault(alloc, kind, source.as_str())
+}
+
+// Whether each part may have these `let` statements, and whether a further one is one too many, and has
+// a name that is taken.
+fn bounds_of_locals(alloc: Global, locals: &str) -> Result<[bool; 3], NoMemory> {
+    let fit = are_in_each_part(alloc, locals)?;
+    let too_many = one_more_has_fault(alloc, locals, "TooManyLocals", "b")?;
+    let twice = one_more_has_fault(alloc, locals, "Twice", "a0")?;
+    Ok([fit, too_many, twice])
+}
+
+// The same for 64 of them.
+fn bounds_of_most(alloc: Global) -> Result<[bool; 3], NoMemory> {
+    let most = locals(alloc, 64)?;
+    bounds_of_locals(alloc, most.as_str())
+}
+
+// Each part has at most 64 locals; a name that is taken counts before one local too many.
 #[test]
-fn cells_are_bounded(rt: HostRuntime) -> Result<(), Fail> {
-    let alloc = rt.alloc();
+fn locals_are_bounded(rt: HostRuntime) {
+    let bounds = bounds_of_most(rt.alloc());
+    assert!(rt; bounds == Ok([true; 3]), "{bounds:?}");
+}
+
+// A program of 20,000 cells, one declaration each, and of a further declaration.
+fn many_cells(alloc: Global, last: &str) -> Result<String, NoMemory> {
     let mut source = String::from_str(alloc, LIMITS)?;
     for k in 0..20_000 {
         write!(source, "cell a{k} = 1; ")?;
     }
-    let fine = format!(in alloc; "{source}cell b[45536] = 0; pipe_while (1) {{ }}")?;
-    expect_accepted(alloc, fine.as_str())?;
-    let more = format!(in alloc; "{source}cell @b[45537] = 0; pipe_while (1) {{ }}")?;
-    expect_fault(alloc, "TooManyCells", more.as_str())
+    write!(source, "{last} pipe_while (1) {{ }}")?;
+    Ok(source)
+}
+
+fn many_are_accepted(alloc: Global, last: &str) -> Result<bool, NoMemory> {
+    let source = many_cells(alloc, last)?;
+    Ok(is_accepted(alloc, source.as_str()))
+}
+
+fn are_too_many(alloc: Global, last: &str) -> Result<bool, NoMemory> {
+    let source = many_cells(alloc, last)?;
+    has_fault(alloc, "TooManyCells", source.as_str())
+}
+
+// The most cells.
+#[test]
+fn cells_are_bounded(rt: HostRuntime) {
+    assert!(rt; many_are_accepted(rt.alloc(), "cell b[45536] = 0;") == Ok(true));
+    assert!(rt; are_too_many(rt.alloc(), "cell @b[45537] = 0;") == Ok(true));
 }

@@ -3,9 +3,10 @@
 use crate::faults_found::LIMITS;
 use pipe_format::program::format;
 use pipe_lexer::scan::tokens;
+use pipe_model::memory::NoMemory;
+use pipe_model::tree::Program;
 use pipe_parser::parse::parse;
 use std::alloc::Global;
-use std::test::Fail;
 
 // The lines that are the same in each row.
 const FIRST_LINE: &str = "limits iterations 1, stages 1, steps 1, emits 1;\n";
@@ -66,10 +67,11 @@ const PROGRAMS: [(&str, &str); 14] = [
 
 // A program with each part, and its text, which has the limits and the initial values as they were
 // given.
-const WHOLE: (&str, &str) = (
-    "limits iterations 8, stages 4, steps 100, emits 0; cell a[3] = -1; cell n = 9223372036854775807; init { a[0] = 5; } pipe_while (more()) { let t = take(); if (a[0] < 1) { while (n) { } } else { if (n) { } pipe_wait(); } n = -((n + t) * iter()); } final { emit !n; }",
-    "limits iterations 8, stages 4, steps 100, emits 0;\ncell a[3] = -1;\ncell n = 9223372036854775807;\ninit {\n  a[0] = 5;\n}\npipe_while (more()) {\n  let t = take();\n  if (a[0] < 1) {\n    while (n) {\n    }\n  } else {\n    if (n) {\n    }\n    pipe_wait();\n  }\n  n = -((n + t) * iter());\n}\nfinal {\n  emit !n;\n}\n",
-);
+const WHOLE: &str =
+    "limits iterations 8, stages 4, steps 100, emits 0; cell a[3] = -1; cell n = 9223372036854775807; init { a[0] = 5; } pipe_while (more()) { let t = take(); if (a[0] < 1) { while (n) { } } else { if (n) { } pipe_wait(); } n = -((n + t) * iter()); } final { emit !n; }";
+
+const TEXT_OF_WHOLE: &str =
+    "limits iterations 8, stages 4, steps 100, emits 0;\ncell a[3] = -1;\ncell n = 9223372036854775807;\ninit {\n  a[0] = 5;\n}\npipe_while (more()) {\n  let t = take();\n  if (a[0] < 1) {\n    while (n) {\n    }\n  } else {\n    if (n) {\n    }\n    pipe_wait();\n  }\n  n = -((n + t) * iter());\n}\nfinal {\n  emit !n;\n}\n";
 
 // Expressions and their texts. Operators of one level group from the left, and brackets are printed
 // only if the grouping needs them.
@@ -111,74 +113,159 @@ const OPERATORS: [(&str, u32); 13] = [
     ("%", 6),
 ];
 
-// Fails the test unless the source is a program of this text.
-fn expect_text(alloc: Global, source: &str, text: &str) -> Result<(), Fail> {
-    let bytes = source.as_bytes();
-    let tokens = tokens(alloc, bytes)?;
-    let program = parse(alloc, bytes, &tokens)?.program;
-    if format(alloc, &program)?.as_slice() == text.as_bytes() {
-        return Ok(());
-    }
-    Err(Fail::new(format_args!("{source}: another text")))
-}
-
-fn expect_canonical(alloc: Global, source: &str, text: &str) -> Result<(), Fail> {
-    expect_text(alloc, source, text)?;
-    expect_text(alloc, text, text)
-}
-
-fn expect_expression(alloc: Global, expression: &str, text: &str) -> Result<(), Fail> {
-    let source = format!(in alloc; "{LIMITS}pipe_while(0){{emit {expression};}}")?;
-    let text = format!(in alloc; "{FIRST_LINE}pipe_while (0) {{\n  emit {text};\n}}\n")?;
-    expect_canonical(alloc, source.as_str(), text.as_str())
-}
-
-#[test]
-fn programs_have_canonical_texts(rt: HostRuntime) -> Result<(), Fail> {
-    let alloc = rt.alloc();
-    expect_canonical(alloc, WHOLE.0, WHOLE.1)?;
-    for (source, text) in PROGRAMS {
-        let source = format!(in alloc; "{LIMITS}{source}")?;
-        let text = format!(in alloc; "{FIRST_LINE}{text}")?;
-        expect_canonical(alloc, source.as_str(), text.as_str())?;
-    }
-    for (expression, text) in EXPRESSIONS {
-        expect_expression(alloc, expression, text)?;
-    }
-    Ok(())
-}
-
-// `a other b` as an operand of another operator: on the left it has brackets if its level is lower,
-// and on the right if it is lower or the same.
-fn expect_operands(alloc: Global, outer: (&str, u32), inner: (&str, u32)) -> Result<(), Fail> {
-    let (sign, level) = outer;
-    let (other, other_level) = inner;
-    let plain = format!(in alloc; "a {other} b")?;
-    let bracketed = format!(in alloc; "({plain})")?;
-    let left = if other_level < level {
-        &bracketed
-    } else {
-        &plain
+// The program of a source, if it is one.
+fn program_of(alloc: Global, source: &[u8]) -> Option<Program> {
+    let Ok(tokens) = tokens(alloc, source) else {
+        return None;
     };
-    let source = format!(in alloc; "{bracketed} {sign} c")?;
-    let text = format!(in alloc; "{left} {sign} c")?;
-    expect_expression(alloc, source.as_str(), text.as_str())?;
-    let right = if other_level <= level {
-        &bracketed
-    } else {
-        &plain
-    };
-    let source = format!(in alloc; "c {sign} {bracketed}")?;
-    let text = format!(in alloc; "c {sign} {right}")?;
-    expect_expression(alloc, source.as_str(), text.as_str())
+    match parse(alloc, source, &tokens) {
+        Ok(parsed) => Some(parsed.program),
+        Err(_) => None,
+    }
 }
 
-#[test]
-fn operands_have_the_brackets_that_they_need(rt: HostRuntime) -> Result<(), Fail> {
-    for outer in OPERATORS {
-        for inner in OPERATORS {
-            expect_operands(rt.alloc(), outer, inner)?;
+fn is_text(alloc: Global, program: &Program, text: &str) -> Result<bool, NoMemory> {
+    Ok(format(alloc, program)?.as_slice() == text.as_bytes())
+}
+
+// Whether the source is a program of this text.
+fn has_text(alloc: Global, source: &str, text: &str) -> Result<bool, NoMemory> {
+    match program_of(alloc, source.as_bytes()) {
+        Some(program) => is_text(alloc, &program, text),
+        None => Ok(false),
+    }
+}
+
+// Whether the source is a program of this text, and the text too.
+fn is_canonical(alloc: Global, source: &str, text: &str) -> Result<bool, NoMemory> {
+    Ok(has_text(alloc, source, text)? && has_text(alloc, text, text)?)
+}
+
+// The same, where these follow the limits.
+fn is_program(alloc: Global, source: &str, text: &str) -> Result<bool, NoMemory> {
+    let source = format!(in alloc; "{LIMITS}{source}")?;
+    let text = format!(in alloc; "{FIRST_LINE}{text}")?;
+    is_canonical(alloc, source.as_str(), text.as_str())
+}
+
+// The same for an expression and its text.
+fn is_expression(alloc: Global, expression: &str, text: &str) -> Result<bool, NoMemory> {
+    let source = format!(in alloc; "pipe_while(0){{emit {expression};}}")?;
+    let text = format!(in alloc; "pipe_while (0) {{\n  emit {text};\n}}\n")?;
+    is_program(alloc, source.as_str(), text.as_str())
+}
+
+// The first row that is no program of its text.
+fn first_other_program(alloc: Global, rows: &[(&str, &str)]) -> Result<Option<usize>, NoMemory> {
+    for (index, (source, text)) in rows.iter().enumerate() {
+        if !is_program(alloc, source, text)? {
+            return Ok(Some(index));
         }
     }
-    Ok(())
+    Ok(None)
+}
+
+// The first row that is no expression of its text.
+fn first_other_expression(alloc: Global, rows: &[(&str, &str)]) -> Result<Option<usize>, NoMemory> {
+    for (index, (expression, text)) in rows.iter().enumerate() {
+        if !is_expression(alloc, expression, text)? {
+            return Ok(Some(index));
+        }
+    }
+    Ok(None)
+}
+
+fn whole_is_canonical(alloc: Global) -> Result<bool, NoMemory> {
+    is_canonical(alloc, WHOLE, TEXT_OF_WHOLE)
+}
+
+fn first_other_of_programs(alloc: Global) -> Result<Option<usize>, NoMemory> {
+    first_other_program(alloc, &PROGRAMS)
+}
+
+fn first_other_of_expressions(alloc: Global) -> Result<Option<usize>, NoMemory> {
+    first_other_expression(alloc, &EXPRESSIONS)
+}
+
+#[test]
+fn programs_have_canonical_texts(rt: HostRuntime) {
+    assert!(rt; whole_is_canonical(rt.alloc()) == Ok(true));
+    let program = first_other_of_programs(rt.alloc());
+    assert!(rt; program == Ok(None), "{program:?}");
+    let expression = first_other_of_expressions(rt.alloc());
+    assert!(rt; expression == Ok(None), "{expression:?}");
+}
+
+// `a other b` in brackets, between two texts. Whether the canonical text keeps the brackets exactly if
+// it needs them.
+fn has_brackets(
+    alloc: Global,
+    before: &str,
+    other: &str,
+    after: &str,
+    needs: bool,
+) -> Result<bool, NoMemory> {
+    let source = format!(in alloc; "{before}(a {other} b){after}")?;
+    if needs {
+        return is_expression(alloc, source.as_str(), source.as_str());
+    }
+    let text = format!(in alloc; "{before}a {other} b{after}")?;
+    is_expression(alloc, source.as_str(), text.as_str())
+}
+
+// On the left of an operator, `a other b` has brackets if its level is lower.
+fn has_left_brackets(
+    alloc: Global,
+    outer: (&str, u32),
+    inner: (&str, u32),
+) -> Result<bool, NoMemory> {
+    let after = format!(in alloc; " {} c", outer.0)?;
+    has_brackets(alloc, "", inner.0, after.as_str(), inner.1 < outer.1)
+}
+
+// On the right it has them if its level is lower or the same.
+fn has_right_brackets(
+    alloc: Global,
+    outer: (&str, u32),
+    inner: (&str, u32),
+) -> Result<bool, NoMemory> {
+    let before = format!(in alloc; "c {} ", outer.0)?;
+    has_brackets(alloc, before.as_str(), inner.0, "", inner.1 <= outer.1)
+}
+
+// The first operator that has other brackets as an operand of `outer`.
+fn first_other_operand(
+    alloc: Global,
+    outer: (&str, u32),
+    operators: &[(&str, u32)],
+) -> Result<Option<usize>, NoMemory> {
+    for (index, inner) in operators.iter().enumerate() {
+        if !has_left_brackets(alloc, outer, *inner)? || !has_right_brackets(alloc, outer, *inner)? {
+            return Ok(Some(index));
+        }
+    }
+    Ok(None)
+}
+
+// The first pair of an operator and another one in its operand that has other brackets.
+fn first_other_pair(
+    alloc: Global,
+    operators: &[(&str, u32)],
+) -> Result<Option<(usize, usize)>, NoMemory> {
+    for (index, outer) in operators.iter().enumerate() {
+        if let Some(inner) = first_other_operand(alloc, *outer, operators)? {
+            return Ok(Some((index, inner)));
+        }
+    }
+    Ok(None)
+}
+
+fn first_other_of_operators(alloc: Global) -> Result<Option<(usize, usize)>, NoMemory> {
+    first_other_pair(alloc, &OPERATORS)
+}
+
+#[test]
+fn operands_have_the_brackets_that_they_need(rt: HostRuntime) {
+    let other = first_other_of_operators(rt.alloc());
+    assert!(rt; other == Ok(None), "{other:?}");
 }

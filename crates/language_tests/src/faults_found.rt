@@ -1,72 +1,108 @@
 //! The first fault of a source, and the comparison with the fault of a row.
 
+ghost use Rattle.pipe_model.specs.Language.Tokens.{IsLexed};
+
+use pipe_check::fault::CheckFault;
 use pipe_check::program::check;
+use pipe_lexer::fault::LexFault;
 use pipe_lexer::scan::tokens;
 use pipe_model::list::Numbers;
 use pipe_model::memory::NoMemory;
-use pipe_parser::parse::{Parsed, parse};
+use pipe_model::token::Tokens;
+use pipe_parser::parse::{ParseFault, Parsed, parse};
 use std::alloc::Global;
-use std::test::Fail;
 
 /// Limits in their ranges, 49 bytes.
 pub const LIMITS: &str = "limits iterations 1, stages 1, steps 1, emits 1; ";
 
-// The first fault of a source as `Debug` prints it, empty for a program that breaks no rule, and
-// the offsets of the marks if the source is a program.
+/// A fault of a source.
+#[derive(Clone, Copy)]
+pub enum SourceFault {
+    /// Its bytes are no tokens.
+    Lexical(LexFault),
+    /// Its tokens are no program.
+    Syntactic(ParseFault),
+    /// Its program breaks a rule.
+    Broken(CheckFault),
+}
+
+// The first fault of a source, if it has one, and the offsets of the marks if the source is a program.
 #[derive(Drop)]
 struct FoundFault {
-    fault: String,
+    fault: Option<SourceFault>,
     places: Numbers,
 }
 
-fn find_fault(alloc: Global, source: &[u8]) -> Result<FoundFault, NoMemory> {
-    let mut fault = String::new(alloc);
-    let mut places = Numbers::new(alloc);
-    match tokens(alloc, source) {
-        Err(lexical) => write!(fault, "{lexical:?}")?,
-        Ok(tokens) => match parse(alloc, source, &tokens) {
-            Err(syntactic) => write!(fault, "{syntactic:?}")?,
-            Ok(parsed) => {
-                places = parsed.places;
-                if let Err(broken) = check(alloc, parsed.program) {
-                    write!(fault, "{broken:?}")?;
-                }
-            }
+// The first fault of a program that was parsed.
+fn find_in_program(alloc: Global, source: &[u8], tokens: &Tokens) -> FoundFault
+    requires { IsLexed source.now tokens.now }
+{
+    match parse(alloc, source, tokens) {
+        Err(fault) => FoundFault {
+            fault: Some(SourceFault::Syntactic(fault)),
+            places: Numbers::new(alloc),
         },
+        Ok(parsed) => {
+            let Parsed { program, places } = parsed;
+            let fault = match check(alloc, program) {
+                Ok(_) => None,
+                Err(fault) => Some(SourceFault::Broken(fault)),
+            };
+            FoundFault { fault, places }
+        }
     }
-    Ok(FoundFault { fault, places })
 }
 
-/// Returns the first fault of a source as `Debug` prints it, empty for a program that breaks no
-/// rule. Returns an error only if memory runs out.
-pub fn first_fault(alloc: Global, source: &str) -> Result<String, NoMemory> {
-    Ok(find_fault(alloc, source.as_bytes())?.fault)
-}
-
-/// Fails the test unless the source is a program that breaks no rule.
-pub fn expect_accepted(alloc: Global, source: &str) -> Result<(), Fail> {
-    let fault = first_fault(alloc, source)?;
-    if fault.is_empty() {
-        return Ok(());
+fn find_fault(alloc: Global, source: &[u8]) -> FoundFault {
+    match tokens(alloc, source) {
+        Err(fault) => FoundFault {
+            fault: Some(SourceFault::Lexical(fault)),
+            places: Numbers::new(alloc),
+        },
+        Ok(tokens) => find_in_program(alloc, source, &tokens),
     }
-    Err(Fail::new(format_args!("{source}: {fault}")))
 }
 
-/// Fails the test unless the source without its first `@` has this fault at the offset of that `@`.
-pub fn expect_fault(alloc: Global, kind: &str, source: &str) -> Result<(), Fail> {
-    let Some((before, after)) = source.split_once('@') else {
-        return Err(Fail::new(format_args!("{source}: no offset")));
+/// Returns the first fault of a source, if it has one.
+pub fn first_fault(alloc: Global, source: &str) -> Option<SourceFault> {
+    find_fault(alloc, source.as_bytes()).fault
+}
+
+/// Returns whether the source is a program that breaks no rule.
+pub fn is_accepted(alloc: Global, source: &str) -> bool {
+    first_fault(alloc, source).is_none()
+}
+
+// The fault as `Debug` prints it.
+fn printed(alloc: Global, fault: SourceFault) -> Result<String, NoMemory> {
+    Ok(match fault {
+        SourceFault::Lexical(fault) => format!(in alloc; "{fault:?}")?,
+        SourceFault::Syntactic(fault) => format!(in alloc; "{fault:?}")?,
+        SourceFault::Broken(fault) => format!(in alloc; "{fault:?}")?,
+    })
+}
+
+// Whether this is the fault of a kind at an offset, or at a mark.
+fn is_fault(
+    alloc: Global,
+    fault: Option<SourceFault>,
+    kind: &str,
+    number: usize,
+) -> Result<bool, NoMemory> {
+    let Some(fault) = fault else {
+        return Ok(false);
     };
-    let source = format!(in alloc; "{before}{after}")?;
-    let found = find_fault(alloc, source.as_bytes())?;
+    let found = printed(alloc, fault)?;
+    let expected = format!(in alloc; "{kind}({number})")?;
+    Ok(found == expected)
+}
+
+// Whether the source has this fault at this offset.
+fn has_fault_at(alloc: Global, kind: &str, source: &[u8], offset: usize) -> Result<bool, NoMemory> {
+    let found = find_fault(alloc, source);
     // The fault of a rule has the number of the mark, counted from 0.
-    let offset = before.len();
     let mark = number_of_mark(found.places.as_slice(), offset);
-    let expected = format!(in alloc; "{kind}({})", mark.unwrap_or(offset))?;
-    if found.fault == expected {
-        return Ok(());
-    }
-    Err(Fail::new(format_args!("{source}: {} for {expected}", found.fault)))
+    is_fault(alloc, found.fault, kind, mark.unwrap_or(offset))
 }
 
 fn number_of_mark(places: &[i64], offset: usize) -> Option<usize> {
@@ -75,18 +111,46 @@ fn number_of_mark(places: &[i64], offset: usize) -> Option<usize> {
         .position(|place| i128::from(*place) == offset as i128)
 }
 
-/// Fails the test unless each source `before`, row, `after` has the fault, at the offset of its
-/// first `@`.
-pub fn expect_faults(
-    alloc: Global,
-    kind: &str,
-    before: &str,
-    rows: &[&str],
-    after: &str,
-) -> Result<(), Fail> {
-    for row in rows {
-        let source = format!(in alloc; "{before}{row}{after}")?;
-        expect_fault(alloc, kind, source.as_str())?;
+/// Returns whether the source without its first `@` has this fault at the offset of that `@`.
+pub fn has_fault(alloc: Global, kind: &str, source: &str) -> Result<bool, NoMemory> {
+    let Some((before, after)) = source.split_once('@') else {
+        return Ok(false);
+    };
+    let source = format!(in alloc; "{before}{after}")?;
+    has_fault_at(alloc, kind, source.as_bytes(), before.len())
+}
+
+/// Sources of one kind of fault. Each is `before`, a row and `after`, and has the fault at the offset of
+/// its first `@`, without that `@`.
+pub struct Faulty {
+    pub kind: &'static str,
+    pub before: &'static str,
+    pub rows: &'static [&'static str],
+    pub after: &'static str,
+}
+
+// Whether the source of a row has the fault.
+fn row_has_fault(alloc: Global, sources: &Faulty, row: &str) -> Result<bool, NoMemory> {
+    let source = format!(in alloc; "{}{row}{}", sources.before, sources.after)?;
+    has_fault(alloc, sources.kind, source.as_str())
+}
+
+// The first row whose source does not have the fault.
+fn first_other_row(alloc: Global, sources: &Faulty) -> Result<Option<usize>, NoMemory> {
+    for (index, row) in sources.rows.iter().enumerate() {
+        if !row_has_fault(alloc, sources, row)? {
+            return Ok(Some(index));
+        }
     }
-    Ok(())
+    Ok(None)
+}
+
+/// Returns where the first source is that does not have its fault: the number of its kind, and of its row.
+pub fn first_other(alloc: Global, kinds: &[Faulty]) -> Result<Option<(usize, usize)>, NoMemory> {
+    for (number, sources) in kinds.iter().enumerate() {
+        if let Some(row) = first_other_row(alloc, sources)? {
+            return Ok(Some((number, row)));
+        }
+    }
+    Ok(None)
 }

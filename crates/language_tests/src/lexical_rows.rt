@@ -1,12 +1,11 @@
 //! Sources with their tokens or their first lexical fault.
 
-use crate::faults_found::{LIMITS, expect_faults};
+use crate::faults_found::{Faulty, LIMITS, first_other, has_fault};
 use pipe_lexer::fault::LexFault;
 use pipe_lexer::scan::tokens;
 use pipe_model::memory::NoMemory;
-use pipe_model::token::TokenKind;
+use pipe_model::token::{Token, TokenKind};
 use std::alloc::Global;
-use std::test::Fail;
 
 const LONGEST_SOURCE: usize = 1_048_576;
 
@@ -63,86 +62,154 @@ const TOKENS: [(&[u8], &str); 36] = [
     (&[b'_'; 100], "NameTooLong(0)"),
 ];
 
-// The tokens of a source, or its fault.
-fn listed(alloc: Global, source: &[u8]) -> Result<String, NoMemory> {
+// Tokens as text.
+fn listed(alloc: Global, tokens: &[Token]) -> Result<String, NoMemory> {
     let mut text = String::new(alloc);
-    match tokens(alloc, source) {
-        Err(fault) => write!(text, "{fault:?}")?,
-        Ok(tokens) => {
-            for token in tokens.as_slice() {
-                write!(text, "{:?} {}+{}; ", token.kind, token.place, token.length)?;
-            }
-        }
+    for token in tokens {
+        write!(text, "{:?} {}+{}; ", token.kind, token.place, token.length)?;
     }
     Ok(text)
 }
 
-#[test]
-fn sources_have_their_tokens(rt: HostRuntime) -> Result<(), Fail> {
-    for (source, expected) in TOKENS {
-        assert_eq!(rt; listed(rt.alloc(), source)?.as_str(), expected);
+// The tokens of a source, or its fault.
+fn scanned(alloc: Global, source: &[u8]) -> Result<String, NoMemory> {
+    match tokens(alloc, source) {
+        Err(fault) => Ok(format!(in alloc; "{fault:?}")?),
+        Ok(tokens) => listed(alloc, tokens.as_slice()),
     }
-    Ok(())
+}
+
+fn is_scanned(alloc: Global, source: &[u8], expected: &str) -> Result<bool, NoMemory> {
+    Ok(scanned(alloc, source)?.as_str() == expected)
+}
+
+// The first row with other tokens, or another fault.
+fn first_other_row(alloc: Global, rows: &[(&[u8], &str)]) -> Result<Option<usize>, NoMemory> {
+    for (index, (source, expected)) in rows.iter().enumerate() {
+        if !is_scanned(alloc, source, expected)? {
+            return Ok(Some(index));
+        }
+    }
+    Ok(None)
+}
+
+fn first_other_of_tokens(alloc: Global) -> Result<Option<usize>, NoMemory> {
+    first_other_row(alloc, &TOKENS)
+}
+
+#[test]
+fn sources_have_their_tokens(rt: HostRuntime) {
+    let other = first_other_of_tokens(rt.alloc());
+    assert!(rt; other == Ok(None), "{other:?}");
 }
 
 const WORDS: &str =
     "version limits iterations stages steps emits cell init pipe_while pipe_wait pipe_continue final let if else while emit more take iter input output";
 
-// A reserved word is a token of its own kind, and no name.
-#[test]
-fn reserved_words_are_no_names(rt: HostRuntime) -> Result<(), Fail> {
-    let found = tokens(rt.alloc(), WORDS.as_bytes())?;
-    assert_eq!(rt; found.len(), 22);
-    for (number, token) in found.as_slice().iter().enumerate() {
-        assert!(rt; token.kind == TokenKind::Word(number as u8), "{number}");
+// Whether a token is the reserved word of this number.
+fn is_word(token: &Token, number: usize) -> bool {
+    match token.kind {
+        TokenKind::Word(word) => usize::from(word) == number,
+        _ => false,
     }
-    for word in WORDS.split(' ') {
-        let before = format!(in rt.alloc(); "{LIMITS}pipe_while (0) {{ let ")?;
-        let row = format!(in rt.alloc(); "@{word}")?;
-        expect_faults(
-            rt.alloc(),
-            "Unexpected",
-            before.as_str(),
-            &[row.as_str()],
-            " = 1; }",
-        )?;
-    }
-    Ok(())
 }
 
-// A lexical fault counts before each fault of the syntax, even if it comes later in the text.
+// Whether these are the tokens of all reserved words, in the order of their numbers.
+fn are_all_words(tokens: &[Token]) -> bool {
+    for (number, token) in tokens.iter().enumerate() {
+        if !is_word(token, number) {
+            return false;
+        }
+    }
+    tokens.len() == 22
+}
+
+fn are_words(alloc: Global, source: &str) -> bool {
+    match tokens(alloc, source.as_bytes()) {
+        Ok(found) => are_all_words(found.as_slice()),
+        Err(_) => false,
+    }
+}
+
+// Whether no local may have this name.
+fn is_no_name(alloc: Global, word: &str) -> Result<bool, NoMemory> {
+    let source = format!(in alloc; "{LIMITS}pipe_while (0) {{ let @{word} = 1; }}")?;
+    has_fault(alloc, "Unexpected", source.as_str())
+}
+
+// The first of some words, with blanks between them, that may be a name.
+fn first_name(alloc: Global, words: &str) -> Result<Option<usize>, NoMemory> {
+    for (index, word) in words.split(' ').enumerate() {
+        if !is_no_name(alloc, word)? {
+            return Ok(Some(index));
+        }
+    }
+    Ok(None)
+}
+
+// Whether all words are tokens of their own kinds, and the first word that may be a name.
+fn words(alloc: Global) -> Result<(bool, Option<usize>), NoMemory> {
+    Ok((are_words(alloc, WORDS), first_name(alloc, WORDS)?))
+}
+
+// A reserved word is a token of its own kind, and no name.
 #[test]
-fn lexical_faults_come_first(rt: HostRuntime) -> Result<(), Fail> {
-    let alloc = rt.alloc();
-    expect_faults(alloc, "BadByte", "", &["version @#", "// x\n@#"], "")?;
-    expect_faults(
-        alloc,
-        "BadByte",
-        LIMITS,
-        &[
+fn reserved_words_are_no_names(rt: HostRuntime) {
+    let words = words(rt.alloc());
+    assert!(rt; words == Ok((true, None)), "{words:?}");
+}
+
+const LEXICAL: [Faulty; 3] = [
+    Faulty {
+        kind: "BadByte",
+        before: "",
+        rows: &["version @#", "// x\n@#"],
+        after: "",
+    },
+    Faulty {
+        kind: "BadByte",
+        before: LIMITS,
+        rows: &[
             "pipe_while (@$) { }",
             "pipe_while (1 @& 1) { }",
             "pipe_while (0) { } @#",
         ],
-        "",
-    )?;
-    expect_faults(
-        alloc,
-        "TooWide",
-        "",
-        &[
+        after: "",
+    },
+    Faulty {
+        kind: "TooWide",
+        before: "",
+        rows: &[
             "limits iterations @9223372036854775808",
             "cell n = -@9223372036854775808;",
         ],
-        "",
-    )
+        after: "",
+    },
+];
+
+fn first_other_of_lexical(alloc: Global) -> Result<Option<(usize, usize)>, NoMemory> {
+    first_other(alloc, &LEXICAL)
+}
+
+// A lexical fault counts before each fault of the syntax, even if it comes later in the text.
+#[test]
+fn lexical_faults_come_first(rt: HostRuntime) {
+    let other = first_other_of_lexical(rt.alloc());
+    assert!(rt; other == Ok(None), "{other:?}");
+}
+
+// The number of tokens of a source that repeats a byte, or its fault.
+fn repeated(alloc: Global, byte: u8, count: usize) -> Result<Result<usize, LexFault>, NoMemory> {
+    let source = Vec::from_elem(alloc, byte, count)?;
+    match tokens(alloc, source.as_slice()) {
+        Ok(found) => Ok(Ok(found.len())),
+        Err(fault) => Ok(Err(fault)),
+    }
 }
 
 #[test]
-fn the_longest_source_has_2_to_the_20_bytes(rt: HostRuntime) -> Result<(), Fail> {
-    let blanks = vec![in rt.alloc(); b' '; LONGEST_SOURCE]?;
-    assert!(rt; tokens(rt.alloc(), &blanks)?.is_empty());
-    let longer = vec![in rt.alloc(); b'@'; LONGEST_SOURCE + 1]?;
-    assert!(rt; tokens(rt.alloc(), &longer).err() == Some(LexFault::SourceTooLong));
-    Ok(())
+fn the_longest_source_has_2_to_the_20_bytes(rt: HostRuntime) {
+    assert!(rt; repeated(rt.alloc(), b' ', LONGEST_SOURCE) == Ok(Ok(0)));
+    let longer = repeated(rt.alloc(), b'@', LONGEST_SOURCE + 1);
+    assert!(rt; longer == Ok(Err(LexFault::SourceTooLong)));
 }

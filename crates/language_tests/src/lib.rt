@@ -15,6 +15,8 @@ mod operator_rows;
 #[cfg(test)]
 mod rule_rows;
 #[cfg(test)]
+mod sources;
+#[cfg(test)]
 mod stopped_instances;
 #[cfg(test)]
 mod stopping_memory;

@@ -1,6 +1,7 @@
 //! Operators in their table.
 
 use op_table::operators::OPS;
+use op_table::table::OpTable;
 
 // Bytes, and the symbol and the level of the longest operator with which they begin; a greater
 // level binds more tightly. No operator has the code 0.
@@ -19,18 +20,37 @@ const PREFIXES: [(&str, &str, Option<u8>); 12] = [
     (" +", "", None),
 ];
 
+// Whether these are the symbol and the level of the longest operator of a table with which the bytes
+// begin.
+fn is_prefix(table: &OpTable<13>, bytes: &str, symbol: &str, level: Option<u8>) -> bool {
+    let code = table.find(bytes.as_bytes()).unwrap_or(0);
+    match table.row(code) {
+        Some(row) => row.text() == symbol.as_bytes() && Some(row.level) == level,
+        None => symbol.is_empty() && level.is_none(),
+    }
+}
+
+// The first row that has another operator.
+fn first_other(table: &OpTable<13>, rows: &[(&str, &str, Option<u8>)]) -> Option<usize> {
+    for (index, (bytes, symbol, level)) in rows.iter().enumerate() {
+        if !is_prefix(table, bytes, symbol, *level) {
+            return Some(index);
+        }
+    }
+    None
+}
+
+fn first_other_of_all() -> Option<usize> {
+    first_other(&OPS, &PREFIXES)
+}
+
 #[test]
 fn bytes_begin_with_operators(rt: HostRuntime) {
-    let table = OPS;
-    for (bytes, symbol, level) in PREFIXES {
-        let code = table.find(bytes.as_bytes()).unwrap_or(0);
-        let row = table.row(code);
-        assert_eq!(rt; row.map(|row| row.level), level, "{bytes}");
-        assert_eq!(rt;
-            row.map_or(b"".as_slice(), |row| row.text()),
-            symbol.as_bytes(),
-            "{bytes}"
-        );
-    }
-    assert!(rt; table.row(14).is_none() && table.row(255).is_none());
+    let other = first_other_of_all();
+    assert!(rt; other.is_none(), "{other:?}");
+    assert!(rt; !is_code(14) && !is_code(255));
+}
+
+fn is_code(code: u8) -> bool {
+    OPS.row(code).is_some()
 }

@@ -1,11 +1,9 @@
 //! Sources with the first rule that they break, and what is known of a program that breaks none.
 
-use crate::faults_found::{LIMITS, expect_faults};
-use pipe_check::program::check;
-use pipe_lexer::scan::tokens;
-use pipe_parser::parse::parse;
+use crate::faults_found::{Faulty, LIMITS, first_other};
+use crate::sources::accepted;
+use pipe_model::memory::NoMemory;
 use std::alloc::Global;
-use std::test::Fail;
 
 const UNKNOWN: [&str; 13] = [
     "pipe_while (@x < 3) { }",
@@ -58,33 +56,72 @@ const NEEDS_INDEX: [&str; 2] = [
     "cell a[2] = 0; pipe_while (0) { @a = 1; }",
 ];
 
+const BROKEN: [Faulty; 7] = [
+    Faulty {
+        kind: "Unknown",
+        before: LIMITS,
+        rows: &UNKNOWN,
+        after: "",
+    },
+    Faulty {
+        kind: "Twice",
+        before: LIMITS,
+        rows: &TWICE,
+        after: "",
+    },
+    Faulty {
+        kind: "PipeOutside",
+        before: LIMITS,
+        rows: &PIPE_OUTSIDE,
+        after: "",
+    },
+    Faulty {
+        kind: "TooManyCells",
+        before: LIMITS,
+        rows: &TOO_MANY_CELLS,
+        after: "",
+    },
+    Faulty {
+        kind: "NotAnArray",
+        before: LIMITS,
+        rows: &NOT_AN_ARRAY,
+        after: "",
+    },
+    Faulty {
+        kind: "NeedsIndex",
+        before: LIMITS,
+        rows: &NEEDS_INDEX,
+        after: "",
+    },
+    Faulty {
+        kind: "ZeroSize",
+        before: LIMITS,
+        rows: &["cell @a[0] = 0; pipe_while (0) { }"],
+        after: "",
+    },
+];
+
+fn first_other_of_broken(alloc: Global) -> Result<Option<(usize, usize)>, NoMemory> {
+    first_other(alloc, &BROKEN)
+}
+
 #[test]
-fn broken_rules_have_their_marks(rt: HostRuntime) -> Result<(), Fail> {
-    let alloc = rt.alloc();
-    expect_faults(alloc, "Unknown", LIMITS, &UNKNOWN, "")?;
-    expect_faults(alloc, "Twice", LIMITS, &TWICE, "")?;
-    expect_faults(alloc, "PipeOutside", LIMITS, &PIPE_OUTSIDE, "")?;
-    expect_faults(alloc, "TooManyCells", LIMITS, &TOO_MANY_CELLS, "")?;
-    expect_faults(alloc, "NotAnArray", LIMITS, &NOT_AN_ARRAY, "")?;
-    expect_faults(alloc, "NeedsIndex", LIMITS, &NEEDS_INDEX, "")?;
-    expect_faults(
-        alloc,
-        "ZeroSize",
-        LIMITS,
-        &["cell @a[0] = 0; pipe_while (0) { }"],
-        "",
-    )
+fn broken_rules_have_their_marks(rt: HostRuntime) {
+    let other = first_other_of_broken(rt.alloc());
+    assert!(rt; other == Ok(None), "{other:?}");
 }
 
 const CELLS: &[u8] =
     b"limits iterations 1, stages 1, steps 1, emits 1; cell n = 0; cell a[3] = 0; pipe_while (n) { a[n] = 1; }";
 
+// The number of cells of the program, and that of its declarations.
+fn counted(alloc: Global) -> Option<(u32, usize)> {
+    let checked = accepted(alloc, CELLS)?;
+    Some((checked.cell_count(), checked.program().cells.len()))
+}
+
 // `input`, `output`, n and the three elements of a.
 #[test]
-fn cells_are_counted(rt: HostRuntime) -> Result<(), Fail> {
-    let tokens = tokens(rt.alloc(), CELLS)?;
-    let checked = check(rt.alloc(), parse(rt.alloc(), CELLS, &tokens)?.program)?;
-    assert_eq!(rt; checked.cell_count(), 6);
-    assert_eq!(rt; checked.program().cells.len(), 2);
-    Ok(())
+fn cells_are_counted(rt: HostRuntime) {
+    assert!(rt; counted(rt.alloc()) == Some((6, 2)));
 }

@@ -1,22 +1,24 @@
 //! A stage instance that is stopped before an access, and goes on with it.
 
-ghost use Rattle.std.specs.Prelude.{◌≡◌, IfOk, None};
+ghost use Rattle.std.specs.Prelude.{◌≡◌, ◌≤◌, None, length};
 ghost use Rattle.pipe_model.specs.Language.CheckingRules.{fault_of};
 ghost use Rattle.pipe_model.specs.Language.SyntaxTree.{tree_of};
+ghost use Rattle.pipe_model.specs.Pipelines.Behaviour.{Behaviour};
+ghost use Rattle.stage_interp.specs.CellNumbers.{most_cell_ids};
+ghost use Rattle.stage_interp.specs.RemainingBehaviour.{Represents};
 
+use crate::sources::accepted;
 use crate::stopping_memory::StoppingMemory;
 use pipe_check::checked::Checked;
-use pipe_check::program::check;
-use pipe_lexer::scan::tokens;
 use pipe_model::access::{Access, AccessKind, CellId};
 use pipe_model::list::Numbers;
+use pipe_model::memory::NoMemory;
 use pipe_model::stage::StageEnd;
-use pipe_parser::parse::parse;
+use stage_code::code::Code;
 use stage_code::instr::Part;
 use stage_code::lower::lower;
 use stage_interp::machine::Machine;
 use std::alloc::Global;
-use std::test::Fail;
 
 const SOURCE: &str = "limits iterations 8, stages 4, steps 100, emits 8; cell n = 0; cell s = 0; \
     pipe_while (n < 3) { n = n + 1; let t = n; pipe_wait(1); s = s + t; emit s; }";
@@ -24,52 +26,70 @@ const SOURCE: &str = "limits iterations 8, stages 4, steps 100, emits 8; cell n 
 // The cell `n`.
 const N: CellId = CellId(2);
 
-fn refused() -> Fail {
-    Fail::new(format_args!("the source is refused"))
-}
+// Accesses to `n`.
+const READ: Access = Access {
+    cell: N,
+    kind: AccessKind::Read,
+    value: 0,
+};
 
-fn accepted(alloc: Global, source: &[u8]) -> Result<Checked, Fail>
-    ensures { IfOk result (λ checked. fault_of (tree_of checked) ≡ None) }
+const WRITE: Access = Access {
+    cell: N,
+    kind: AccessKind::Write,
+    value: 1,
+};
+
+const READ_AGAIN: Access = Access {
+    cell: N,
+    kind: AccessKind::Read,
+    value: 1,
+};
+
+// Runs an instance until it is stopped, and then lets it make two accesses more. Returns its end, or
+// nothing if it was not stopped after two reads.
+fn end_after_stop(
+    machine: &mut Machine,
+    code: &Code,
+    input: &Numbers,
+    memory: &mut StoppingMemory,
+) -> Option<StageEnd>
+    requires before { (t : Behaviour) × Represents code.now (length memory.old.values.items) input.now machine.old.run t }
+    requires bounded { length memory.old.values.items ≤ most_cell_ids }
 {
-    let Ok(tokens) = tokens(alloc, source) else {
-        return Err(refused());
+    let end = machine.run_stage(code, input, memory);
+    let StageEnd::Stopped = end else {
+        return None;
     };
-    let Ok(parsed) = parse(alloc, source, &tokens) else {
-        return Err(refused());
-    };
-    let Ok(checked) = check(alloc, parsed.program) else {
-        return Err(refused());
-    };
-    Ok(checked)
+    if memory.made.as_slice() != &[READ, READ][..] {
+        return None;
+    }
+    memory.left = 2;
+    Some(machine.go_on(code, input, memory))
 }
 
-fn access(kind: AccessKind, value: i64) -> Access {
-    let cell = N;
-    Access { cell, kind, value }
-}
-
-#[test]
-fn a_stopped_instance_goes_on(rt: HostRuntime) -> Result<(), Fail> {
-    let alloc = rt.alloc();
-    let checked = accepted(alloc, SOURCE.as_bytes())?;
-    let code = lower(alloc, &checked)?;
+// Runs the first instance of the loop, which is stopped after two accesses. Returns its end, and whether
+// it has made its four accesses.
+fn first_instance(alloc: Global, checked: &Checked) -> Result<(Option<StageEnd>, bool), NoMemory>
+    requires accepted { fault_of (tree_of checked.now) ≡ None }
+{
+    let code = lower(alloc, checked)?;
     let input = Numbers::new(alloc);
     let mut memory = StoppingMemory::new(alloc, checked.cell_count(), 2)?;
     let mut machine = Machine::new(alloc, &code)?;
     machine.reset(Part::Pipe, 0);
+    let end = end_after_stop(&mut machine, &code, &input, &mut memory);
+    let accesses = [READ, READ, WRITE, READ_AGAIN];
+    Ok((end, memory.made.as_slice() == accesses.as_slice()))
+}
 
-    let read = access(AccessKind::Read, 0);
-    let end = machine.run_stage(&code, &input, &mut memory);
-    assert_eq!(rt; memory.made.as_slice(), &[read, read][..]);
-    let StageEnd::Stopped = end else {
-        return Err(Fail::new(format_args!("it is not stopped")));
-    };
+// The same for the program of the source; nothing if it is refused or memory runs out.
+fn stopped_instance(alloc: Global) -> Option<(Option<StageEnd>, bool)> {
+    let checked = accepted(alloc, SOURCE.as_bytes())?;
+    first_instance(alloc, &checked).ok()
+}
 
-    memory.left = 2;
-    let end = machine.go_on(&code, &input, &mut memory);
-    assert_eq!(rt; end, StageEnd::Wait(1));
-    let write = access(AccessKind::Write, 1);
-    let again = access(AccessKind::Read, 1);
-    assert_eq!(rt; memory.made.as_slice(), &[read, read, write, again][..]);
-    Ok(())
+#[test]
+fn a_stopped_instance_goes_on(rt: HostRuntime) {
+    let found = stopped_instance(rt.alloc());
+    assert!(rt; found == Some((Some(StageEnd::Wait(1)), true)), "{found:?}");
 }

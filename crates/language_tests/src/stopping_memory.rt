@@ -22,11 +22,12 @@ impl StoppingMemory {
     pub fn new(alloc: Global, cells: u32, left: u32) -> Result<Self, NoMemory>
         ensures { IfOk result (λ memory. length memory.values.items ≡ cells) }
     {
+        let values = vec![in alloc; 0; cells as usize]?;
         Ok(StoppingMemory {
             left,
             made: Vec::new(alloc),
             stopped: false,
-            values: vec![in alloc; 0; cells as usize]?,
+            values,
         })
     }
 

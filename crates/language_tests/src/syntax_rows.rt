@@ -1,11 +1,14 @@
 //! Sources with their first fault of the syntax, and sources that are programs.
 
-use crate::faults_found::{LIMITS, expect_accepted, expect_fault, expect_faults, first_fault};
+use crate::faults_found::SourceFault::Syntactic;
+use crate::faults_found::{Faulty, LIMITS, first_fault, first_other, has_fault, is_accepted};
+use pipe_model::memory::NoMemory;
+use pipe_parser::parse::ParseFault;
 use std::alloc::Global;
-use std::test::Fail;
 
-// Declares what the rows of statements use.
-const CELLS: &str = "cell n = 0; cell m = 0; cell a[2] = 0; pipe_while (0) { ";
+// Limits, and declarations of what the rows of statements use.
+const DECLARED: &str = "limits iterations 1, stages 1, steps 1, emits 1; \
+    cell n = 0; cell m = 0; cell a[2] = 0; pipe_while (0) { ";
 
 const LIMITS_LINES: [&str; 11] = [
     "@",
@@ -104,44 +107,106 @@ const ACCEPTED: [&str; 20] = [
     "init { let x = 1; } pipe_while (0) { let x = 2; } final { let x = 3; }",
 ];
 
-#[test]
-fn syntax_faults_have_their_offsets(rt: HostRuntime) -> Result<(), Fail> {
-    let alloc = rt.alloc();
-    expect_faults(alloc, "Unexpected", "", &LIMITS_LINES, "")?;
-    expect_faults(alloc, "Unexpected", LIMITS, &PARTS, "")?;
-    let before = format!(in alloc; "{LIMITS}{CELLS}")?;
-    expect_faults(alloc, "Unexpected", before.as_str(), &STATEMENTS, "}")?;
-    expect_faults(alloc, "Unexpected", before.as_str(), &EXPRESSIONS, "}")
+const UNEXPECTED: [Faulty; 4] = [
+    Faulty {
+        kind: "Unexpected",
+        before: "",
+        rows: &LIMITS_LINES,
+        after: "",
+    },
+    Faulty {
+        kind: "Unexpected",
+        before: LIMITS,
+        rows: &PARTS,
+        after: "",
+    },
+    Faulty {
+        kind: "Unexpected",
+        before: DECLARED,
+        rows: &STATEMENTS,
+        after: "}",
+    },
+    Faulty {
+        kind: "Unexpected",
+        before: DECLARED,
+        rows: &EXPRESSIONS,
+        after: "}",
+    },
+];
+
+fn first_other_of_unexpected(alloc: Global) -> Result<Option<(usize, usize)>, NoMemory> {
+    first_other(alloc, &UNEXPECTED)
 }
 
 #[test]
-fn programs_are_accepted(rt: HostRuntime) -> Result<(), Fail> {
-    for row in ACCEPTED {
-        let source = format!(in rt.alloc(); "{LIMITS}{row}")?;
-        expect_accepted(rt.alloc(), source.as_str())?;
+fn syntax_faults_have_their_offsets(rt: HostRuntime) {
+    let other = first_other_of_unexpected(rt.alloc());
+    assert!(rt; other == Ok(None), "{other:?}");
+}
+
+// Whether the limits and the row are a program that breaks no rule.
+fn row_is_accepted(alloc: Global, row: &str) -> Result<bool, NoMemory> {
+    let source = format!(in alloc; "{LIMITS}{row}")?;
+    Ok(is_accepted(alloc, source.as_str()))
+}
+
+fn first_refused(alloc: Global, rows: &[&str]) -> Result<Option<usize>, NoMemory> {
+    for (index, row) in rows.iter().enumerate() {
+        if !row_is_accepted(alloc, row)? {
+            return Ok(Some(index));
+        }
     }
-    Ok(())
+    Ok(None)
+}
+
+fn first_refused_of_all(alloc: Global) -> Result<Option<usize>, NoMemory> {
+    first_refused(alloc, &ACCEPTED)
+}
+
+#[test]
+fn programs_are_accepted(rt: HostRuntime) {
+    let refused = first_refused_of_all(rt.alloc());
+    assert!(rt; refused == Ok(None), "{refused:?}");
 }
 
 const COUNTING: &str =
     "limits iterations 2, stages 1, steps 50, emits 2; cell n = 0; pipe_while (n < 3) { n = n + 1; emit n; }";
 
+// Whether the source has a token that may not come there, or ends too early.
+fn is_unexpected(alloc: Global, source: &str) -> bool {
+    match first_fault(alloc, source) {
+        Some(Syntactic(ParseFault::Unexpected(_))) => true,
+        _ => false,
+    }
+}
+
+// The length of the first proper prefix that is not refused for that.
+fn first_other_prefix(alloc: Global, source: &str) -> Option<usize> {
+    for end in 0..source.len() {
+        let Some(prefix) = source.get(..end) else {
+            return Some(end);
+        };
+        if !is_unexpected(alloc, prefix) {
+            return Some(end);
+        }
+    }
+    None
+}
+
+// Whether the program is accepted, and its first proper prefix that is not refused for that.
+fn prefixes(alloc: Global) -> (bool, Option<usize>) {
+    (
+        is_accepted(alloc, COUNTING),
+        first_other_prefix(alloc, COUNTING),
+    )
+}
+
 // A proper prefix of a program is no program: it ends too early, at a token that the rest would
 // make longer or at its end.
 #[test]
-fn proper_prefixes_are_refused(rt: HostRuntime) -> Result<(), Fail> {
-    let alloc = rt.alloc();
-    expect_accepted(alloc, COUNTING)?;
-    for end in 0..COUNTING.len() {
-        let Some(prefix) = COUNTING.get(..end) else {
-            return Err("not a prefix")?;
-        };
-        let fault = first_fault(alloc, prefix)?;
-        assert!(rt; fault.starts_with("Unexpected("), "{prefix}: {fault}");
-    }
-    expect_fault(
-        alloc,
-        "Unexpected",
-        "limits iterations 2, stages 1, steps 5@",
-    )
+fn proper_prefixes_are_refused(rt: HostRuntime) {
+    let prefixes = prefixes(rt.alloc());
+    assert!(rt; prefixes == (true, None), "{prefixes:?}");
+    let short = "limits iterations 2, stages 1, steps 5@";
+    assert!(rt; has_fault(rt.alloc(), "Unexpected", short) == Ok(true));
 }

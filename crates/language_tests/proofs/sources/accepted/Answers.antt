@@ -1,5 +1,5 @@
 use Rattle.language_laws.proofs.SpellablePrograms.{spelled_is_spellable}
-use Rattle.language_tests.proofs.stopped_instances.accepted.Goals as goal
+use Rattle.language_tests.proofs.sources.accepted.Goals as goal
 
 pub check-requires : goal.check-requires
 check-requires c =

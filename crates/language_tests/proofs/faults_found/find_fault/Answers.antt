@@ -1,5 +1,0 @@
-use Rattle.language_tests.proofs.SpelledSources.{parsed_is_spellable}
-use Rattle.language_tests.proofs.faults_found.find_fault.Goals as goal
-
-pub check-requires : goal.check-requires
-check-requires c = record { spellable = parsed_is_spellable _ _ _ c.in-Ok.ensures.tokens c.in-Ok-parse.ensures.program }
