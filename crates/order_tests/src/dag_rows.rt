@@ -202,7 +202,8 @@ const ACCESSES: [(u32, u32, u32, AccessKind); 15] = [
 
 fn accesses(alloc: Global) -> Result<ListOf<NodeAccess>, Fail> {
     let mut accesses = ListOf::new(alloc);
-    for (iteration, index, cell, kind) in ACCESSES {
+    for row in &ACCESSES {
+        let (iteration, index, cell, kind) = *row;
         let access = Access {
             cell: CellId(cell),
             kind,

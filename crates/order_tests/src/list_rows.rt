@@ -38,10 +38,10 @@ fn are_in_order(list: &OmList, elements: &[u32]) -> bool {
 
 #[test]
 fn logs_make_their_lists(rt: HostRuntime) -> Result<(), Fail> {
-    for (log, elements) in LISTS {
-        let list = list_of(rt.alloc(), &log)?;
+    for (log, elements) in &LISTS {
+        let list = list_of(rt.alloc(), log)?;
         assert_eq!(rt; list.len(), 9);
-        assert!(rt; are_in_order(&list, &elements), "{log:?}");
+        assert!(rt; are_in_order(&list, elements), "{log:?}");
     }
     Ok(())
 }

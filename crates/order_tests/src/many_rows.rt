@@ -84,7 +84,8 @@ fn list_with(alloc: Global, pattern: Pattern) -> Result<OmList, NoMemory> {
 
 #[test]
 fn labels_rise(rt: HostRuntime) -> Result<(), Fail> {
-    for pattern in PATTERNS {
+    for pattern in &PATTERNS {
+        let pattern = *pattern;
         let list = list_with(rt.alloc(), pattern)?;
         for sample in 0..2000 {
             let n = 1000 * sample;

@@ -42,7 +42,8 @@ const ROWS: [(&[i64], i64, u32, Option<u32>); 4] = [
 
 #[test]
 fn left_parents_are_found(rt: HostRuntime) -> Result<(), Fail> {
-    for (numbers, s, joined, parent) in ROWS {
+    for row in &ROWS {
+        let (numbers, s, joined, parent) = *row;
         assert!(rt; are_rising(numbers) && numbers.len() < 10);
         assert_eq!(rt; find(numbers, s, joined), parent, "{s} {joined}");
     }

@@ -50,8 +50,8 @@ fn fault_of(alloc: Global, body: &str) -> Result<Option<WaveFault>, Fail> {
 
 #[test]
 fn first_faults_are_found(rt: HostRuntime) -> Result<(), Fail> {
-    for (body, fault) in ROWS {
-        assert!(rt; fault_of(rt.alloc(), body)? == Some(fault), "{body}");
+    for (body, fault) in &ROWS {
+        assert!(rt; fault_of(rt.alloc(), body)? == Some(*fault), "{body}");
     }
     Ok(())
 }

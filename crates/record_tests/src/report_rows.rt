@@ -50,8 +50,8 @@ const LINES: &str = "race input write 0/3 write 1/4\nrace output write 0/3 read 
 
 fn reports(alloc: Global) -> Result<Reports, NoMemory> {
     let mut reports = Reports::new(alloc);
-    for (cell, earlier_kind, later_kind) in RACES {
-        reports.push(report(cell, earlier_kind, later_kind))?;
+    for (cell, earlier_kind, later_kind) in &RACES {
+        reports.push(report(*cell, *earlier_kind, *later_kind))?;
     }
     Ok(reports)
 }
