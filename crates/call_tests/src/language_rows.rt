@@ -131,7 +131,7 @@ const COSTS: [CostRow<'static>; 20] = [
     ("while (!n) { if (1) { n = 1; } }", 10, ""),
 ];
 
-// Fails the test unless a program with the statement in its `init` ends like this with so many steps.
+// Fails the test unless a program with the statement in its `init` ends like this under this limit on steps.
 fn check_steps(
     rt: &(impl Threads + Wait + Sync),
     alloc: Global,

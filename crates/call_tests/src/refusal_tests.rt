@@ -152,7 +152,7 @@ fn bounds_are_kept(rt: HostRuntime) -> Result<(), Fail> {
     )
 }
 
-// Fails the test unless a source of so many blanks is refused with this line.
+// Fails the test unless a source of `count` blanks is refused with this line.
 fn check_blanks(
     rt: &(impl Threads + Wait + Sync),
     alloc: Global,

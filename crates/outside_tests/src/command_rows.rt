@@ -97,7 +97,8 @@ fn line_of(
     Ok(text)
 }
 
-fn line_of_command(alloc: Global, command: Command) -> Result<String, NoMemory> {
+// The line of a command that runs a pipeline with workers; empty for another command.
+fn line_with_workers(alloc: Global, command: Command) -> Result<String, NoMemory> {
     match command {
         Command::Run {
             source,
@@ -126,6 +127,15 @@ fn line_of_command(alloc: Global, command: Command) -> Result<String, NoMemory> 
             workers,
             throttle,
         } => line_of(alloc, "wave", &[source, input], &[workers, throttle], false),
+        _ => Ok(String::new(alloc)),
+    }
+}
+
+fn line_of_command(alloc: Global, command: Command) -> Result<String, NoMemory> {
+    match command {
+        Command::Run { .. } | Command::Play { .. } | Command::Wave { .. } => {
+            line_with_workers(alloc, command)
+        }
         Command::Serial { source, input } => line_of(alloc, "serial", &[source, input], &[], false),
         Command::Span { source, input } => line_of(alloc, "span", &[source, input], &[], false),
         Command::Format { source } => line_of(alloc, "format", &[source], &[], false),
