@@ -4,16 +4,16 @@ use Rattle.pipe_model.specs.declared.event.RunLog.{RunLog}
 use Rattle.pipe_model.specs.declared.report.Report.{Report}
 use Rattle.pipe_model.specs.Language.CanonicalText.{program_text}
 use Rattle.pipe_model.specs.Language.SyntaxTree.{SyntaxTree}
-use Rattle.cilkp_program.specs.TakenText.{HasTaken}
-use Rattle.cilkp_program.specs.PrintedResults.{IsCallResult, OfRow, SourceFault, InputFault, RecordFault, IsPrinted}
+use Rattle.command_results.specs.TakenText.{HasTaken}
+use Rattle.command_results.specs.PrintedResults.{IsCallResult, OfRow, SourceFault, InputFault, RecordFault, IsPrinted}
 use Rattle.pipe_io.specs.Faults.{CountRose}
 use Rattle.cilkp_program.specs.Formatting.{ReturnsText, IsToFormat}
 use Rattle.pipe_io.specs.Reads.{Content}
-use Rattle.cilkp_program.specs.ProgramFiles.{FileContents, IsSourceOf}
-use Rattle.cilkp_program.specs.ResultTable.{ResultRow, Formats}
+use Rattle.command_results.specs.ProgramFiles.{FileContents, IsSourceOf}
+use Rattle.command_results.specs.ResultTable.{ResultRow, Formats}
 use Rattle.cilkp_words.specs.Commands.{Command, Format}
-use Rattle.cilkp_program.proofs.OneCommand.{format_asks_no_run}
-use Rattle.cilkp_program.proofs.OneRow.{one_row}
+use Rattle.command_results.proofs.OneCommand.{format_asks_no_run}
+use Rattle.command_results.proofs.OneRow.{one_row}
 
 -- the result is the program's canonical text
 record IsTextOf (tree : SyntaxTree) (status : ℕ) (text : List ℕ) (log : Option RunLog) (reports : List Report) : Type 0 where

@@ -2,8 +2,8 @@
 use Rattle.std.proofs.Common.{◌≡◌, ◌≢◌, ◌≤◌, ◌↔◌, ℕ, List, length, Option, inr, arith}
 use Rattle.pipe_model.specs.declared.event.RunLog.{RunLog}
 use Rattle.pipe_model.specs.declared.report.Report.{Report}
-use Rattle.cilkp_program.specs.PrintedResults.{IsCallResult, IsCutShort, IsGivenUp, IsPrinted}
-use Rattle.cilkp_program.specs.TakenText.{HasTaken}
+use Rattle.command_results.specs.PrintedResults.{IsCallResult, IsCutShort, IsGivenUp, IsPrinted}
+use Rattle.command_results.specs.TakenText.{HasTaken}
 use Rattle.cilkp_words.specs.Commands.{Command}
 use Rattle.pipe_io.specs.Reads.{Content}
 use Rattle.pipe_io.specs.declared.whole.WriteEnd.{WriteEnd}

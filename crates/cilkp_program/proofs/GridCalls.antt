@@ -13,19 +13,19 @@ use Rattle.wave_laws.proofs.WavesHaveNoFault.{waves_have_no_fault}
 use Rattle.wave_laws.specs.Waves.LoweredLoops.{lowered}
 use Rattle.wave_laws.specs.Waves.WaveLoops.{IsWave}
 use Rattle.cilkp_words.specs.Commands.{Command, Wave}
-use Rattle.cilkp_program.proofs.Agreements.{agreed_status}
-use Rattle.cilkp_program.proofs.GreaterLimits.{meets_more}
-use Rattle.cilkp_program.proofs.OneCommand.{apart, no_command, one_command}
-use Rattle.cilkp_program.proofs.OneContent.{one_input, one_source, refused_no_input, refused_not_accepted_file}
-use Rattle.cilkp_program.proofs.OneRow.{unrecorded}
-use Rattle.cilkp_program.proofs.OneWave.{refused_no_wave}
-use Rattle.cilkp_program.specs.PrintedResults.{IsCallResult, OfRow, SourceFault, InputFault, RecordFault, IsPrinted}
-use Rattle.cilkp_program.specs.CommandFiles.{asks_record, asks_wave, program_by}
-use Rattle.cilkp_program.specs.Headline.{AgreesWithElision, MeetsHeadline}
-use Rattle.cilkp_program.specs.ProgramFiles.{FileContents, IsSourceOf}
-use Rattle.cilkp_program.specs.RecordedRuns.{IsRecordedRun}
-use Rattle.cilkp_program.specs.ResultTable.{IsLogOf, OfPlay, OfRun, OfWave, ResultRow, NoCommand, SourceRefused, Formats, Benches}
-use Rattle.cilkp_program.specs.ResultTable.{WaveRefused, InputRefused, Runs, RunsSerially, ChecksRecord, Weighs}
+use Rattle.command_results.proofs.Agreements.{agreed_status}
+use Rattle.command_results.proofs.GreaterLimits.{meets_more}
+use Rattle.command_results.proofs.OneCommand.{apart, no_command, one_command}
+use Rattle.command_results.proofs.OneContent.{one_input, one_source, refused_no_input, refused_not_accepted_file}
+use Rattle.command_results.proofs.OneRow.{unrecorded}
+use Rattle.command_results.proofs.OneWave.{refused_no_wave}
+use Rattle.command_results.specs.PrintedResults.{IsCallResult, OfRow, SourceFault, InputFault, RecordFault, IsPrinted}
+use Rattle.command_results.specs.CommandFiles.{asks_record, asks_wave, program_by}
+use Rattle.command_results.specs.Headline.{AgreesWithElision, MeetsHeadline}
+use Rattle.command_results.specs.ProgramFiles.{FileContents, IsSourceOf}
+use Rattle.command_results.specs.RecordedRuns.{IsRecordedRun}
+use Rattle.command_results.specs.ResultTable.{IsLogOf, OfPlay, OfRun, OfWave, ResultRow, NoCommand, SourceRefused, Formats, Benches}
+use Rattle.command_results.specs.ResultTable.{WaveRefused, InputRefused, Runs, RunsSerially, ChecksRecord, Weighs}
 use Rattle.cilkp_program.specs.WaveCalls.{AgreesWithGrid, IsToRunWave, ReturnsGrid}
 
 -- what agrees with the elision of the lowered program agrees with the grid

@@ -6,14 +6,14 @@ use Rattle.pipe_model.specs.Language.SyntaxTree.{SyntaxTree}
 use Rattle.pipe_io.specs.Faults.{CountRose}
 use Rattle.pipe_io.specs.Reads.{Content}
 use Rattle.cilkp_words.specs.Commands.{Command}
-use Rattle.cilkp_program.proofs.OneCommand.{apart, no_command, one_check, run_is_not_check}
-use Rattle.cilkp_program.proofs.OneContent.{one_input, one_source, refused_no_input, refused_not_accepted_file}
-use Rattle.cilkp_program.specs.PrintedResults.{IsCallResult, OfRow, SourceFault, InputFault, RecordFault, IsPrinted}
-use Rattle.cilkp_program.specs.ProgramFiles.{FileContents}
+use Rattle.command_results.proofs.OneCommand.{apart, no_command, one_check, run_is_not_check}
+use Rattle.command_results.proofs.OneContent.{one_input, one_source, refused_no_input, refused_not_accepted_file}
+use Rattle.command_results.specs.PrintedResults.{IsCallResult, OfRow, SourceFault, InputFault, RecordFault, IsPrinted}
+use Rattle.command_results.specs.ProgramFiles.{FileContents}
 use Rattle.cilkp_program.specs.RecordCalls.{IsToCheck, ReturnsCheck}
-use Rattle.cilkp_program.specs.RecordResults.{RecordResult}
-use Rattle.cilkp_program.specs.ResultTable.{ResultRow, NoCommand, SourceRefused, Formats, Benches, WaveRefused, InputRefused, Runs}
-use Rattle.cilkp_program.specs.ResultTable.{RunsSerially, ChecksRecord, Weighs}
+use Rattle.command_results.specs.RecordResults.{RecordResult}
+use Rattle.command_results.specs.ResultTable.{ResultRow, NoCommand, SourceRefused, Formats, Benches, WaveRefused, InputRefused, Runs}
+use Rattle.command_results.specs.ResultTable.{RunsSerially, ChecksRecord, Weighs}
 
 check_row : {asked : Option Command} {content : Content} {held : FileContents} {status : ℕ} {text : List ℕ} {log : Option RunLog}
     {reports : List Report} (tree : SyntaxTree) (numbers : List ℤ) (throttle : ℕ) (saved : List ℕ)

@@ -6,17 +6,17 @@ use Rattle.pipe_model.specs.declared.report.Report.{Report}
 use Rattle.pipe_io.specs.Faults.{CountGrew, CountRose, CountsFault}
 use Rattle.pipe_io.specs.Reads.{Content}
 use Rattle.cilkp_words.specs.Commands.{Command}
-use Rattle.cilkp_program.specs.PrintedResults.{IsCallResult, OfRow, SourceFault, InputFault, RecordFault}
-use Rattle.cilkp_program.specs.CommandFiles.{KeepsLog}
-use Rattle.cilkp_program.specs.ProgramFiles.{FileContents}
-use Rattle.cilkp_program.specs.ResultTable.{ResultRow, NoCommand, SourceRefused, Formats, Benches, WaveRefused, InputRefused, Runs}
-use Rattle.cilkp_program.specs.ResultTable.{RunsSerially, ChecksRecord, Weighs}
-use Rattle.cilkp_program.proofs.Agreements.{agreed_status}
-use Rattle.cilkp_program.proofs.OneCommand.{bench_keeps_no_log, format_keeps_no_log, run_keeps_log}
-use Rattle.cilkp_program.specs.Headline.{IsRunStatus}
-use Rattle.cilkp_program.specs.RecordResults.{NoRecord, NoRun, RecordResult, RunOf, status_of_reports}
+use Rattle.command_results.specs.PrintedResults.{IsCallResult, OfRow, SourceFault, InputFault, RecordFault}
+use Rattle.command_results.specs.CommandFiles.{KeepsLog}
+use Rattle.command_results.specs.ProgramFiles.{FileContents}
+use Rattle.command_results.specs.ResultTable.{ResultRow, NoCommand, SourceRefused, Formats, Benches, WaveRefused, InputRefused, Runs}
+use Rattle.command_results.specs.ResultTable.{RunsSerially, ChecksRecord, Weighs}
+use Rattle.command_results.proofs.Agreements.{agreed_status}
+use Rattle.command_results.proofs.OneCommand.{bench_keeps_no_log, format_keeps_no_log, run_keeps_log}
+use Rattle.command_results.specs.Headline.{IsRunStatus}
+use Rattle.command_results.specs.RecordResults.{NoRecord, NoRun, RecordResult, RunOf, status_of_reports}
 use Rattle.pipe_model.specs.Language.SyntaxTree.{SyntaxTree}
-use Rattle.cilkp_program.proofs.ElisionOutcomes.{outcome_status}
+use Rattle.command_results.proofs.ElisionOutcomes.{outcome_status}
 
 -- there is a log exactly if the command keeps one, the call was not refused, and no read failed
 abbrev IsLogged : Option Command → ℕ → Option RunLog → Type 0

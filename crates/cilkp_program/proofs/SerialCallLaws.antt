@@ -6,14 +6,14 @@ use Rattle.pipe_model.specs.Language.SyntaxTree.{SyntaxTree}
 use Rattle.pipe_io.specs.Faults.{CountRose}
 use Rattle.pipe_io.specs.Reads.{Content}
 use Rattle.cilkp_words.specs.Commands.{Command}
-use Rattle.cilkp_program.proofs.ElisionOutcomes.{outcome_agrees, outcome_is_right, outcome_status}
-use Rattle.cilkp_program.proofs.OneCommand.{apart, no_command, run_is_not_serial, serial_is_not_bench, serial_is_not_format}
-use Rattle.cilkp_program.proofs.OneContent.{one_input, one_source, refused_no_input, refused_not_accepted_file}
-use Rattle.cilkp_program.specs.PrintedResults.{IsCallResult, OfRow, SourceFault, InputFault, RecordFault, IsPrinted}
-use Rattle.cilkp_program.specs.ProgramFiles.{FileContents}
-use Rattle.cilkp_program.specs.SerialResults.{ElisionResult}
-use Rattle.cilkp_program.specs.ResultTable.{ResultRow, NoCommand, SourceRefused, Formats, Benches, WaveRefused, InputRefused, Runs}
-use Rattle.cilkp_program.specs.ResultTable.{RunsSerially, ChecksRecord, Weighs}
+use Rattle.command_results.proofs.ElisionOutcomes.{outcome_agrees, outcome_is_right, outcome_status}
+use Rattle.command_results.proofs.OneCommand.{apart, no_command, run_is_not_serial, serial_is_not_bench, serial_is_not_format}
+use Rattle.command_results.proofs.OneContent.{one_input, one_source, refused_no_input, refused_not_accepted_file}
+use Rattle.command_results.specs.PrintedResults.{IsCallResult, OfRow, SourceFault, InputFault, RecordFault, IsPrinted}
+use Rattle.command_results.specs.ProgramFiles.{FileContents}
+use Rattle.command_results.specs.SerialResults.{ElisionResult}
+use Rattle.command_results.specs.ResultTable.{ResultRow, NoCommand, SourceRefused, Formats, Benches, WaveRefused, InputRefused, Runs}
+use Rattle.command_results.specs.ResultTable.{RunsSerially, ChecksRecord, Weighs}
 use Rattle.cilkp_program.specs.SerialCalls.{ReturnsElision, IsToRunSerially}
 
 -- the result is the program's serial elision, without a log

@@ -5,9 +5,9 @@ use Rattle.pipe_model.specs.declared.report.Report.{Report}
 use Rattle.pipe_model.specs.Language.CanonicalText.{program_text}
 use Rattle.pipe_model.specs.Language.SyntaxTree.{SyntaxTree}
 use Rattle.pipe_model.specs.declared.exit_status.TheConstants as statuses
-use Rattle.cilkp_program.specs.TakenText.{HasTaken}
+use Rattle.command_results.specs.TakenText.{HasTaken}
 use Rattle.pipe_io.specs.Reads.{Content}
-use Rattle.cilkp_program.specs.ProgramFiles.{IsSourceOf}
+use Rattle.command_results.specs.ProgramFiles.{IsSourceOf}
 use Rattle.cilkp_words.specs.Commands.{Command, Format}
 
 -- the command is `format SOURCE`, and the source is accepted as the program

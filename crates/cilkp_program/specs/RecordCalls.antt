@@ -4,9 +4,9 @@ use Rattle.pipe_model.specs.declared.event.RunLog.{RunLog}
 use Rattle.pipe_model.specs.declared.report.Report.{Report}
 use Rattle.pipe_model.specs.Language.SyntaxTree.{SyntaxTree}
 use Rattle.pipe_io.specs.Reads.{Content}
-use Rattle.cilkp_program.specs.ProgramFiles.{IsInputOf, IsSourceOf}
-use Rattle.cilkp_program.specs.RecordResults.{RecordResult}
-use Rattle.cilkp_program.specs.TakenText.{HasTaken}
+use Rattle.command_results.specs.ProgramFiles.{IsInputOf, IsSourceOf}
+use Rattle.command_results.specs.RecordResults.{RecordResult}
+use Rattle.command_results.specs.TakenText.{HasTaken}
 use Rattle.cilkp_words.specs.Commands.{Command, CheckRecord}
 
 -- the command is `check-record` with a source that is accepted as the program, an input of these numbers, this throttling limit, and a

@@ -3,9 +3,9 @@ use Rattle.std.specs.Prelude.{◌≡◌, ◌≢◌, false, ℕ, List, Option}
 use Rattle.pipe_model.specs.declared.event.RunLog.{RunLog}
 use Rattle.pipe_model.specs.declared.report.Report.{Report}
 use Rattle.pipe_model.specs.declared.exit_status.TheConstants as statuses
-use Rattle.cilkp_program.specs.CommandFiles.{AsksRun, asks_record}
-use Rattle.cilkp_program.specs.ProgramFiles.{FileContents}
-use Rattle.cilkp_program.specs.ResultTable.{ResultRow}
+use Rattle.command_results.specs.CommandFiles.{AsksRun, asks_record}
+use Rattle.command_results.specs.ProgramFiles.{FileContents}
+use Rattle.command_results.specs.ResultTable.{ResultRow}
 use Rattle.cilkp_words.specs.Commands.{Command}
 
 -- for all commands but `run` and `wave`: two rows of the same command and the same files have the same status, text, run log and reports

@@ -4,11 +4,11 @@ use Rattle.pipe_model.specs.declared.event.RunLog.{RunLog}
 use Rattle.pipe_model.specs.declared.report.Report.{Report}
 use Rattle.pipe_model.specs.Races.Reports.{AreRight}
 use Rattle.pipe_model.specs.Language.SyntaxTree.{SyntaxTree}
-use Rattle.cilkp_program.specs.TakenText.{HasTaken}
-use Rattle.cilkp_program.specs.Headline.{AgreesWithElision, IsRunStatus}
+use Rattle.command_results.specs.TakenText.{HasTaken}
+use Rattle.command_results.specs.Headline.{AgreesWithElision, IsRunStatus}
 use Rattle.pipe_io.specs.Reads.{Content}
-use Rattle.cilkp_program.specs.ProgramFiles.{IsInputOf, IsSourceOf}
-use Rattle.cilkp_program.specs.SerialResults.{elision_accesses, elision_columns}
+use Rattle.command_results.specs.ProgramFiles.{IsInputOf, IsSourceOf}
+use Rattle.command_results.specs.SerialResults.{elision_accesses, elision_columns}
 use Rattle.cilkp_words.specs.Commands.{Command, Serial}
 
 -- the command is `serial` with a source that is accepted as the program, and an input of these numbers

@@ -16,9 +16,9 @@ use Rattle.wave_laws.specs.Waves.LoweredLoops.{lowered}
 use Rattle.wave_laws.specs.Waves.WaveLoops.{IsWave}
 use Rattle.pipe_io.specs.Reads.{Content}
 use Rattle.pipe_model.specs.declared.exit_status.TheConstants as statuses
-use Rattle.cilkp_program.specs.Headline.{IsRunStatus}
-use Rattle.cilkp_program.specs.ProgramFiles.{IsInputOf, IsSourceOf}
-use Rattle.cilkp_program.specs.TakenText.{HasTaken}
+use Rattle.command_results.specs.Headline.{IsRunStatus}
+use Rattle.command_results.specs.ProgramFiles.{IsInputOf, IsSourceOf}
+use Rattle.command_results.specs.TakenText.{HasTaken}
 use Rattle.cilkp_words.specs.Commands.{Command, Wave}
 
 -- the command is `wave` with a source that is accepted as a wave loop, an input of these numbers, any number of workers, and a throttling

@@ -1,7 +1,7 @@
 -- Tokens that a hall returns.
 use Rattle.std.specs.Prelude.{◌≡◌, List}
 use Rattle.pipe_worker.specs.Machines.{HasMachine, IsAtInstance}
-use Rattle.pipe_engine.specs.declared.carried.Carried.{Carried}
+use Rattle.program_hall.specs.declared.carried.Carried.{Carried}
 use Rattle.pipe_frame.specs.SeatedTokens.{IsGivenToken, IsSeated, seated_entries}
 use Rattle.pipe_frame.specs.Ties.{HallName, Tie}
 use Rattle.pipe_frame.specs.TokenFields.{TokenFields}

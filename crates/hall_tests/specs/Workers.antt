@@ -2,7 +2,7 @@
 use Rattle.std.specs.Prelude.{◌≡◌, Option}
 use Rattle.std.specs.Prelude.{IfSome}
 use Rattle.hall_tests.specs.GivenTokens.{IsGivenIn}
-use Rattle.pipe_engine.specs.declared.carried.Carried.{Carried}
+use Rattle.program_hall.specs.declared.carried.Carried.{Carried}
 use Rattle.pipe_frame.specs.Ties.{HallName}
 use Rattle.pipe_frame.specs.declared.token.FrameToken.{FrameToken}
 use Rattle.pipe_hall.specs.WorkerSeats.{WorkerSeat, hall_name}

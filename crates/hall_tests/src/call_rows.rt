@@ -17,12 +17,12 @@ use book_tests::play::Seen;
 use book_tests::play::Seen::{
     Absent, Done, Ended, MayBegin, NotYet, Nothing, Stopped, Suspended, Throttled, Token,
 };
-use pipe_engine::carried::{Carried, RunCode};
 use pipe_hall::hall::HallKey;
 use pipe_hall::seat::HallSeat;
 use pipe_model::access::{Accesses, CellId};
 use pipe_model::list::Numbers;
 use pipe_model::memory::NoMemory;
+use program_hall::carried::{Carried, RunCode};
 use stage_code::code::Code;
 use std::alloc::Global;
 use std::marker::Brand;

@@ -5,7 +5,6 @@ ghost use Rattle.pipe_hall.specs.WorkerSeats.{IsSameHall};
 ghost use Rattle.run_record.specs.MergedLogs.{BookRises, ShardRises};
 
 use access_history::history::Found;
-use pipe_engine::carried::{Carried, RunCode};
 use pipe_hall::close::{HallEnd, close};
 use pipe_hall::hall::{HallKey, HallOf};
 use pipe_hall::shard::Shard;
@@ -13,6 +12,7 @@ use pipe_model::access::CellId;
 use pipe_model::event::Event;
 use pipe_model::memory::NoMemory;
 use pipe_model::ticket::{BookLog, ShardEntry, ShardLog};
+use program_hall::carried::{Carried, RunCode};
 use std::alloc::Global;
 use std::sync::Wait;
 

@@ -5,10 +5,10 @@ ghost use Rattle.pipe_worker.specs.Machines.{CanDrive};
 ghost use Rattle.pipe_hall.specs.WorkerSeats.{hall_name};
 
 use crate::worker::work;
-use pipe_engine::carried::{Carried, RunCode};
 use pipe_hall::hall::HallKey;
 use pipe_hall::seat::HallSeat;
 use pipe_model::list::Numbers;
+use program_hall::carried::{Carried, RunCode};
 use stage_code::code::Code;
 use std::alloc::Global;
 use std::sync::Wait;

@@ -7,13 +7,13 @@ ghost use Rattle.hall_tests.specs.Workers.{IsWorkerOf};
 ghost use Rattle.pipe_hall.specs.WorkerSeats.{hall_name};
 
 use book_tests::play::Seen;
-use pipe_engine::carried::{Carried, RunCode};
 use pipe_frame::hall::Hall;
 use pipe_frame::results::{Begun, Next, Rescue};
 use pipe_frame::token::FrameToken;
 use pipe_hall::seat::HallSeat;
 use pipe_model::list::Numbers;
 use pipe_worker::advance::run_and_advance;
+use program_hall::carried::{Carried, RunCode};
 use stage_code::code::Code;
 use std::alloc::Global;
 use std::sync::Wait;

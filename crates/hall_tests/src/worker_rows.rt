@@ -11,8 +11,6 @@ ghost use Rattle.pipe_worker.specs.Machines.{CanDrive};
 use crate::counting::{Calls, Counting};
 use crate::opening::open;
 use crate::sources::{PREFIX_SUMS, Prepared, prepare};
-use pipe_engine::carried::{Carried, RunCode};
-use pipe_engine::task_test::{DrivenHall, TestOf};
 use pipe_frame::hall::Hall;
 use pipe_frame::results::{Begun, Next};
 use pipe_frame::token::{FrameToken, Task};
@@ -24,12 +22,14 @@ use pipe_worker::advance::run_and_advance;
 use pipe_worker::gate::OpenGate;
 use pipe_worker::runs::Runs;
 use pipe_worker::worker::Worker;
+use program_hall::carried::{Carried, RunCode};
 use stage_code::code::Code;
 use std::alloc::Global;
 use std::marker::Brand;
 use std::sync::Wait;
 use work_deques::deques::deques;
 use work_deques::ends::Ends;
+use worker_threads::task_test::{DrivenHall, TestOf};
 
 // For how many tasks a deque has room. The tests need no more.
 const CAPACITY: u32 = 4;

@@ -1,8 +1,5 @@
-pub mod LaneLists
 pub mod OverRuns
 pub mod JoinedSeats
 pub mod EventLogs
 pub mod LoopEnds
 pub mod EngineRuns
-pub mod Openings
-pub mod LaneTokens

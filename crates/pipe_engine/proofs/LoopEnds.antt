@@ -12,7 +12,7 @@ use Rattle.hall_laws.specs.HallPrograms.{whole_in}
 use Rattle.hall_laws.proofs.HallPrograms.{merged_halls_are_program_runs}
 use Rattle.hall_laws.proofs.HallRuns.{finished_books_have_no_token_out}
 use Rattle.pipe_engine.specs.LoopEnds.{IsLoopEnd}
-use Rattle.pipe_engine.specs.OpenedHalls.{IsOpenedAfterInit}
+use Rattle.program_hall.specs.OpenedHalls.{IsOpenedAfterInit}
 use Rattle.pipe_hall.specs.Closing.{EndedHall, StopIsLast, shard_in}
 use Rattle.pipe_hall.specs.SeatViews.{HallConstants, ShardValue, constants_of, start_of}
 use Rattle.pipe_hall.specs.WorkerSeats.{HallState}

@@ -4,13 +4,8 @@
 //! found, and runs `final`.
 #![tactic(auto)]
 
-pub mod carried;
-pub mod drive;
 mod ending;
-pub mod lanes;
-mod opening;
 pub mod over;
 mod replay;
 pub mod run;
-pub mod task_test;
 pub mod workers;

@@ -21,9 +21,7 @@ ghost use Rattle.serial_elision.specs.PartRuns.{Serves};
 ghost use Rattle.stage_interp.specs.MachineState.{IsMadeFor};
 ghost use Rattle.stage_interp.specs.RemainingBehaviour.{IsCodeOf};
 
-use crate::carried::RunCode;
 use crate::ending::{LoopEnd, end_loop};
-use crate::opening::open;
 use crate::replay::replay;
 use crate::workers::run_workers;
 use cell_store::cells::Cells;
@@ -37,6 +35,8 @@ use pipe_model::report::Reports;
 use pipe_model::trap::{TrapAt, TrapPlace};
 use pipe_worker::gate::Gate;
 use program_ends::ends::{ProgramResults, end_after_init, end_after_loop};
+use program_hall::carried::RunCode;
+use program_hall::opening::open;
 use serial_elision::outer_parts::{first_cells, run_alone};
 use serial_elision::prepared::Prepared;
 use stage_code::code::Code;

@@ -6,17 +6,17 @@ ghost use Rattle.pipe_frame.specs.HallViews.{BeginsWith};
 ghost use Rattle.pipe_hall.specs.WorkerSeats.{IsSameHall, hall_name};
 ghost use Rattle.pipe_worker.specs.Machines.{CanDrive};
 
-use crate::carried::{Carried, RunCode};
-use crate::drive::drive;
 use pipe_hall::hall::{HallKey, HallOf};
 use pipe_hall::seat::HallSeat;
 use pipe_model::list::Numbers;
 use pipe_model::memory::NoMemory;
 use pipe_worker::gate::Gate;
+use program_hall::carried::{Carried, RunCode};
 use stage_code::code::Code;
 use std::alloc::Global;
 use std::sync::Wait;
 use std::thread::Threads;
+use worker_threads::drive::drive;
 
 // Returns seats for the workers after the first.
 fn further_seats<'a, B: RunCode>(

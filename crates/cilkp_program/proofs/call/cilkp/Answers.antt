@@ -3,13 +3,13 @@ use Rattle.cilkp_program.proofs.ResultStatus.{counts_do_not_fall, grown_count_ha
 use Rattle.cilkp_program.proofs.ResultStatus.{result_is_logged, result_is_small, no_write_fault}
 use Rattle.cilkp_program.proofs.GivenUp.{text_cut_short, text_whole, given_up_writing}
 use Rattle.cilkp_program.proofs.FormatLaws.{text_printed}
-use Rattle.cilkp_program.proofs.BenchLaws.{printed_summary}
-use Rattle.cilkp_program.proofs.HeadlineLaws.{printed_meets}
-use Rattle.cilkp_program.proofs.SeededPlays.{call_is_scheduled, plays_finish}
+use Rattle.command_results.proofs.BenchLaws.{printed_summary}
+use Rattle.command_results.proofs.HeadlineLaws.{printed_meets}
+use Rattle.command_results.proofs.SeededPlays.{call_is_scheduled, plays_finish}
 use Rattle.cilkp_program.proofs.SerialCallLaws.{printed_elision}
 use Rattle.cilkp_program.proofs.RecordCallLaws.{printed_check}
 use Rattle.cilkp_program.proofs.GridCalls.{printed_grid}
-use Rattle.cilkp_program.proofs.SpanLaws.{printed_span}
+use Rattle.command_results.proofs.SpanLaws.{printed_span}
 use Rattle.cilkp_program.proofs.call.cilkp.Goals.{in-Whole, in-Failed}
 use Rattle.cilkp_program.proofs.call.cilkp.Goals as goal
 

@@ -1,4 +1,4 @@
-use Rattle.cilkp_program.proofs.OneRow.{one_row}
+use Rattle.command_results.proofs.OneRow.{one_row}
 use Rattle.cilkp_program.proofs.law.calls_have_one_row.Goals as goal
 
 pub returns : goal.returns

@@ -1,4 +1,4 @@
-use Rattle.cilkp_program.proofs.OneRow.{one_status}
+use Rattle.command_results.proofs.OneRow.{one_status}
 use Rattle.cilkp_program.proofs.law.calls_have_one_status.Goals as goal
 
 pub returns : goal.returns

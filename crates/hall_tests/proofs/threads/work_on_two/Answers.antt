@@ -1,5 +1,5 @@
 use denote.Param.Send.{sendable}
-use Rattle.pipe_engine.proofs.carried.Carried.TheSendSync as carried
+use Rattle.program_hall.proofs.carried.Carried.TheSendSync as carried
 use Rattle.pipe_hall.proofs.Crossing.{crosses}
 use Rattle.pipe_model.proofs.list.ListOf.TheSendSync as lists
 use Rattle.stage_code.proofs.code.Code.TheSendSync as codes

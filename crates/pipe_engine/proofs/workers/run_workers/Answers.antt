@@ -1,6 +1,6 @@
 use denote.Param.Send.{sendable}
 use Rattle.std.proofs.Common.{◌∙◌, ap}
-use Rattle.pipe_engine.proofs.carried.Carried.TheSendSync as carried
+use Rattle.program_hall.proofs.carried.Carried.TheSendSync as carried
 use Rattle.pipe_engine.proofs.JoinedSeats.{last_named, last_over, others_named}
 use Rattle.pipe_hall.proofs.Crossing.{crosses}
 use Rattle.pipe_hall.specs.WorkerSeats.{WorkerSeat, hall_name}

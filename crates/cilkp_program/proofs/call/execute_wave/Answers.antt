@@ -1,7 +1,0 @@
-use Rattle.cilkp_program.proofs.RowOfCall.{result_of_wave}
-use Rattle.cilkp_program.proofs.call.execute_wave.Goals as goal
-
-pub returns-in-Ready-clause-outcome : goal.returns-in-Ready-clause-outcome
-returns-in-Ready-clause-outcome g c =
-    result_of_wave _ _ _ _ _ c.args.workers c.args.throttle _ _ _ (rw c.in-Ready.is at c.in_ok-program.ensures.prepared)
-    c.run_result.ensures

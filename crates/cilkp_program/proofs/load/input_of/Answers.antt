@@ -1,5 +1,0 @@
-use Rattle.cilkp_program.proofs.Loading.{input_faulty}
-use Rattle.cilkp_program.proofs.load.input_of.Goals as goal
-
-pub returns-in_ok-input_line-in-Err : goal.returns-in_ok-input_line-in-Err
-returns-in_ok-input_line-in-Err c = input_faulty _ _ _ c.in-Err.ensures.fault c.in_ok-input_line-in-Err.ensures

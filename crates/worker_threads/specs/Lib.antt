@@ -1,0 +1,3 @@
+pub mod TaskNumbers
+pub mod Lanes
+pub mod TokensOut
