@@ -1,6 +1,3 @@
--- Rows and the iterations that they are of.
-pub mod Totals
-pub mod FrameRows
-pub mod ChangedRows
+-- Rows that the book holds apart: those that are not in use yet, and those whose tokens are out.
 pub mod SpareRows
-pub mod AliveRows
+pub mod OutRows

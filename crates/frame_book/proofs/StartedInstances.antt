@@ -1,6 +1,5 @@
 -- Starts of instances: their marks, their parents, and the orders.
 pub mod StartMarks
-pub mod StartRows
 pub mod GrownMarks
 pub mod LeftParents
 pub mod OtherTokens

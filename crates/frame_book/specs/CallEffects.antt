@@ -1,13 +1,10 @@
 -- A book after each of its calls, by the result of the call.
-use Rattle.std.specs.Prelude.{◌≡◌, ℕ, ℤ, List, [], ◌∷◌, ◌++◌, ◌+◌, Option, Some, None, Bool, cond, ◌&&◌, not, max, slice_set}
+use Rattle.std.specs.Prelude.{◌≡◌, ℕ, List, [], ◌∷◌, ◌++◌, ◌+◌, Option, Some, None, Bool, cond, ◌&&◌, not, max, slice_set}
 use Rattle.order_2d.specs.OrderPairs.{OrderPair}
 use Rattle.pipe_model.specs.declared.event.Event.{Event}
 use Rattle.pipe_model.specs.declared.event.Event.TheVariants as events
-use Rattle.pipe_model.specs.declared.node.Kind.{Kind}
-use Rattle.pipe_model.specs.declared.node.Kind.TheVariants as kinds
 use Rattle.pipe_model.specs.declared.stage.Counter.{Counter}
 use Rattle.pipe_model.specs.declared.stage.StageEnd.{StageEnd}
-use Rattle.pipe_model.specs.declared.stage.StageEnd.TheVariants as stage_ends
 use Rattle.pipe_model.specs.declared.ticket.Entry.{Entry}
 use Rattle.pipe_model.specs.Runs.Allowed.{IsRunning}
 use Rattle.pipe_model.specs.Runs.StageEnds.{stage_end_events}
@@ -176,11 +173,3 @@ after_name_next v t end trace named.Waits = record v {
   traces = slice_set v.traces t.iteration (item_or [] v.traces t.iteration ++ trace ∷ []);
   tokens = slice_set v.tokens t.iteration (Kept (record t { now = 1 + max (last_ticket v.log) t.now }));
 }
-
--- ---- ends of instances
-
--- the end of an instance whose iteration goes on at a stage of this kind and number
-abbrev pub stage_end : Kind → ℤ → StageEnd
-stage_end kinds.Wait n = stage_ends.Wait n
-stage_end kinds.Continue n = stage_ends.Continue n
-stage_end kinds.Zero n = stage_ends.Continue n

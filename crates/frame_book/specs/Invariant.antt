@@ -26,7 +26,7 @@ use Rattle.frame_book.specs.BookStates.{events_of, last_ticket, made, HasRisingT
 use Rattle.frame_book.specs.CallEffects.{identities_of_orders}
 use Rattle.frame_book.specs.KeptTokens.{HasTokens}
 use Rattle.frame_book.specs.Rooms.{IsSized}
-use Rattle.frame_book.specs.RowsOfFrames.{HasRows, IsUnheld, token_at}
+use Rattle.frame_rows.specs.RowsOfFrames.{HasRows, IsUnheld, token_at}
 use Rattle.frame_book.specs.Tables.{Tables}
 
 -- ---- the log

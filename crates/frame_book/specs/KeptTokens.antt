@@ -10,8 +10,8 @@ use Rattle.pipe_frame.specs.Replies.{replies_of}
 use Rattle.pipe_frame.specs.RunningTokens.{left_joined}
 use Rattle.pipe_frame.specs.Ties.{Tie, BelongsTo, KnowsMarks, ListIdentities}
 use Rattle.pipe_frame.specs.declared.token.FrameToken.{FrameToken}
-use Rattle.frame_book.specs.IterationRows.{IterationRow}
-use Rattle.frame_book.specs.RowsOfFrames.{token_at}
+use Rattle.frame_rows.specs.IterationRows.{IterationRow}
+use Rattle.frame_rows.specs.RowsOfFrames.{token_at}
 
 -- the token of iteration i, whose instance has made no access, or which waits
 pub record IsKeptToken {M : Type 0} (ReadyAt : M → ℕ → List (List ℤ) → Type 0) (tie : M → Tie) (lists : ListIdentities)

@@ -1,12 +1,9 @@
 pub mod TicketLog
-pub mod IterationRows
-pub mod AliveLists
 pub mod BookStates
 pub mod CallEffects
 pub mod GivenTokens
 pub mod Tables
 pub mod Rooms
-pub mod RowsOfFrames
 pub mod KeptTokens
 pub mod Invariant
 pub mod NewBooks

@@ -2,7 +2,8 @@
 use Rattle.std.specs.Prelude.{◌≡◌, ℕ, ℤ, suc, List, [], ◌∷◌, ◌++◌, ◌+◌, ◌*◌, ◌^◌, ◌<◌, map, length, reverse, All, slice_index_or}
 use Rattle.pipe_model.specs.Pipelines.Behaviour.{Behaviour, Reading, Writing, Staging, Ending}
 use Rattle.pipe_model.specs.Pipelines.Pipeline.{Pipeline, IsWellFormed}
-use Rattle.frame_book.specs.IterationRows.{IterationRow, empty_row}
+use Rattle.frame_rows.specs.IterationRows.{IterationRow, empty_row}
+use Rattle.frame_rows.specs.Totals.{total}
 
 -- whatever is read, at most m next stages are named
 abbrev pub NamesAtMost : ℕ → Behaviour → Type 0
@@ -17,11 +18,6 @@ pub record IsPlanned (p : Pipeline) (rooms : List ℕ) : Type 0 where
   pub proper : IsWellFormed p
   pub rows : length rooms ≡ p.last_iteration + 1
   pub room : (i : ℕ) → i < length rooms → (m : ℕ) × (slice_index_or rooms i 0 ≡ suc m) × NamesAtMost m (p.behaviour i)
-
--- the sum of a measure over a list
-abbrev pub total : {X : Type 0} → (X → ℕ) → List X → ℕ
-total m [] = 0
-total m (x ∷ xs) = m x + total m xs
 
 -- the rooms of the rows that are in use, and of those for iterations that have not begun, which are taken from the end
 abbrev pub rooms_of : {M : Type 0} → List (IterationRow M) → List (IterationRow M) → List ℕ

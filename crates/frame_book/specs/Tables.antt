@@ -9,7 +9,7 @@ use Rattle.pipe_frame.specs.TokenFields.{fields_of}
 use Rattle.pipe_frame.specs.declared.token.FrameToken.{FrameToken}
 use Rattle.frame_book.specs.BookStates.{BookState, TokenState, Out, Kept, Spent}
 use Rattle.frame_book.specs.TicketLog.{Ledger}
-use Rattle.frame_book.specs.IterationRows.{IterationRow}
+use Rattle.frame_rows.specs.IterationRows.{IterationRow}
 use Rattle.frame_book.specs.CallEffects.{identities_of_orders}
 
 -- the fields

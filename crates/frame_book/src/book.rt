@@ -29,16 +29,17 @@ ghost use Rattle.frame_book.specs.NewBooks.{IsPlannedProgram, new_book};
 ghost use Rattle.schedule_laws.specs.StartCounts.{most_instances};
 ghost use Rattle.frame_book.specs.CallEffects.{identities_of_orders, after_stop, after_begin, with_named, with_finished, with_held};
 ghost use Rattle.frame_book.specs.CallEffects.{with_entered, after_enter, after_advance, folded_after, after_name_next, after_rescue};
-ghost use Rattle.frame_book.specs.CallEffects.{with_resumed, after_leave_ready, IsReady, kept_folded, stage_end};
+ghost use Rattle.frame_book.specs.CallEffects.{with_resumed, after_leave_ready, IsReady, kept_folded};
+ghost use Rattle.frame_rows.specs.NamedStages.{stage_end};
 ghost use Rattle.frame_book.specs.GivenTokens.{IsGivenBeside, IsGivenBy, IsOutOf, IsPayloadOf};
 
-use crate::folding::{count_of, fold_left, lets_enter, needs_left};
 use crate::ledger::Tickets;
 use crate::payload::Payload;
-use crate::row::Iteration;
-use crate::rows::{begins_alive, first_to_go_on, is_alive, last_has_ended_first, may_enter};
 use crate::start::{left_place, start_below, start_head};
 use dep_fold::folded::Folded;
+use frame_rows::folding::{count_of, fold_left, lets_enter, needs_left};
+use frame_rows::row::Iteration;
+use frame_rows::rows::{first_to_go_on, is_alive, last_has_ended_first, may_enter};
 use om_shared::writer::OmWriter;
 use order_2d::list_writer::ListWriter;
 use order_2d::two_orders::TwoOrders;
@@ -97,7 +98,7 @@ impl<M: Payload<L>, L: ListWriter + Drop> Model for Book<M, L> {
     ghost use Rattle.frame_book.specs.Tables.{book_state};
     ghost use Rattle.frame_book.specs.BookTables.{tables_of};
     ghost use Rattle.frame_book.specs.Invariant.{IsBook};
-    ghost use Rattle.frame_book.specs.AliveLists.{HasAliveList};
+    ghost use Rattle.frame_rows.specs.AliveLists.{HasAliveList};
     ghost use Rattle.std.specs.Prelude.{vec_capacity};
 
     ghost view = { λ b. book_state (tables_of b) };
@@ -633,6 +634,14 @@ fn closes(end: ColumnEnd, index: u32) -> bool
         ColumnEnd::End => false,
         ColumnEnd::Closed => index == 0,
         ColumnEnd::Trapped(_) => index == 0,
+    }
+}
+
+// Returns whether the first of these iterations, if there is one, has not ended.
+fn begins_alive<M>(rows: &[Iteration<M>], alive: &[u32]) -> bool {
+    match alive.first() {
+        None => true,
+        Some(iteration) => is_alive(rows, *iteration),
     }
 }
 

@@ -5,10 +5,7 @@
 #![tactic(auto)]
 
 pub mod book;
-mod folding;
 pub mod law;
 mod ledger;
 pub mod payload;
-mod row;
-mod rows;
 mod start;

@@ -4,13 +4,13 @@ ghost use Rattle.std.specs.Prelude.{◌≡◌, ◌+◌, ◌-◌, ◌<◌, ◌≤
 ghost use Rattle.std.specs.Prelude.{None, ◌⊎◌, slice_index_or};
 ghost use Rattle.left_parent.specs.LastNumber.{IsLastUpTo};
 ghost use Rattle.order_2d.specs.OrderPairs.{with_start, marks_after, down_taken, right_taken, HasRoom, AreInserted};
-ghost use Rattle.frame_book.specs.IterationRows.{row_at, head_marks, left_numbers, WaitsAt, IsSearchable, HasMarks, marks_at, left_marks};
+ghost use Rattle.frame_rows.specs.IterationRows.{row_at, head_marks, left_numbers, WaitsAt, IsSearchable, HasMarks, marks_at, left_marks};
 ghost use Rattle.pipe_model.specs.Language.SyntaxTree.{SyntaxTree};
 ghost use Rattle.pipe_frame.specs.Ties.{BelongsTo};
 ghost use Rattle.frame_book.specs.CallEffects.{SameTieButLogs, identities_of_orders};
 
 use crate::payload::Payload;
-use crate::row::Iteration;
+use frame_rows::row::Iteration;
 use left_parent::search::find;
 use order_2d::list_writer::ListWriter;
 use order_2d::two_orders::TwoOrders;

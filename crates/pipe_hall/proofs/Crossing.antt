@@ -17,7 +17,7 @@ use Rattle.order_2d.proofs.two_orders.TwoOrders.TheSendSync as orders
 use Rattle.order_2d.specs.declared.list_writer.ListWriter as ListWriter
 use Rattle.pipe_frame.specs.declared.stands.Stands as Stands
 use Rattle.frame_book.proofs.ledger.Tickets.TheSendSync as tickets
-use Rattle.frame_book.proofs.row.Iteration.TheSendSync as rows
+use Rattle.frame_rows.proofs.row.Iteration.TheSendSync as rows
 use Rattle.frame_book.specs.contracts.book.Book as Book
 use Rattle.frame_book.specs.contracts.book.Book.TheInside as BookFields
 use Rattle.frame_book.specs.declared.payload.Payload as Payload

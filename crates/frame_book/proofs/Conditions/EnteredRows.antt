@@ -16,11 +16,12 @@ use Rattle.pipe_model.specs.Orders.Starts.{start_number}
 use Rattle.pipe_model.specs.Runs.State.{Frame, frame_at, update_frame}
 use Rattle.pipe_model.specs.declared.status.Status.TheVariants.{Pending}
 use Rattle.run_laws.proofs.RunStates.FrameMoves.{IsWell}
-use Rattle.frame_book.specs.RowsOfFrames.{AreRows, no_marks}
-use Rattle.frame_book.specs.Rooms.{NamesAtMost, total}
+use Rattle.frame_rows.specs.RowsOfFrames.{AreRows, no_marks}
+use Rattle.frame_book.specs.Rooms.{NamesAtMost}
+use Rattle.frame_rows.specs.Totals.{total}
 use Rattle.frame_book.specs.Invariant.{MatchesFrame, pending_nodes}
 use Rattle.pipe_model.specs.Runs.Schedules.{running_in_frames, running_of_status}
-use Rattle.frame_book.specs.IterationRows.{IterationRow, row_at, marks_at, marks_of_row, numbers_of_row}
+use Rattle.frame_rows.specs.IterationRows.{IterationRow, row_at, marks_at, marks_of_row, numbers_of_row}
 use Rattle.frame_book.proofs.StartedInstances.StartMarks.{parent_marks}
 
 -- marks by the list of all
@@ -73,7 +74,7 @@ rows_fit_more going (f ∷ fs) [] i r h e l = absurd h
 rows_fit_more going (f ∷ fs) (x ∷ rs) zero r h e l =
     let s : x ≡ r = cc in
     let l' : length x.numbers < x.room = subst (λ (z : IterationRow _). length z.numbers < z.room) (sym s) l in
-    let a = Rattle.frame_book.proofs.Iterations.Totals.rows_fit going fs rs h.1 in
+    let a = Rattle.frame_rows.proofs.Totals.rows_fit going fs rs h.1 in
     omega (arith, a, l')
 rows_fit_more going (f ∷ fs) (x ∷ rs) (suc i) r h e l =
     let a = rows_fit_more going fs rs i r h.1 e l in

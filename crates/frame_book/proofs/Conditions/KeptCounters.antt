@@ -17,11 +17,11 @@ use Rattle.pipe_frame.specs.LeftCounters.{IsNotAhead, must_read_left, left_count
 use Rattle.pipe_frame.specs.StageEndCases.{EntersAtOnce, MustWait}
 use Rattle.run_laws.proofs.RunStates.Frames.{frame_at_other}
 use Rattle.frame_book.specs.BookStates.{with_events, last_ticket, stamped}
-use Rattle.frame_book.specs.RowsOfFrames.{AreRows}
-use Rattle.frame_book.specs.IterationRows.{IterationRow, left_row_counter, CounterPasses, WaitsAt}
-use Rattle.frame_book.specs.CallEffects.{stage_end}
+use Rattle.frame_rows.specs.RowsOfFrames.{AreRows}
+use Rattle.frame_rows.specs.IterationRows.{IterationRow, left_row_counter, CounterPasses, WaitsAt}
+use Rattle.frame_rows.specs.NamedStages.{stage_end}
 use Rattle.frame_book.proofs.BookLogs.LogEntries.{last_ticket_with, entry_of}
-use Rattle.frame_book.proofs.Iterations.FrameRows.{left_passes, counter_same}
+use Rattle.frame_rows.proofs.FrameRows.{left_passes, counter_same}
 
 -- the left counter by rows and by frames
 pub left_counter_same : {M : Type 0} → (going : Bool) (fs : List Frame) (rs : List (IterationRow M)) (i : ℕ) → AreRows going fs rs

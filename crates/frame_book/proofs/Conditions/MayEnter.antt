@@ -6,7 +6,7 @@ use Rattle.pipe_model.specs.declared.node.Kind.TheVariants.{Wait}
 use Rattle.pipe_model.specs.Runs.State.{State, Frame, frame_at}
 use Rattle.pipe_model.specs.declared.status.Status.{Status}
 use Rattle.pipe_model.specs.declared.status.Status.TheVariants.{Running, Pending, Completed}
-use Rattle.frame_book.specs.RowsOfFrames.{IsFree, IsFreeIn, IsFreeBy}
+use Rattle.frame_rows.specs.RowsOfFrames.{IsFree, IsFreeIn, IsFreeBy}
 
 may_by : (s : State) (i : ℕ) (f : Frame) (w : Status) → frame_at s.frames i ≡ Some f → f.status ≡ w → IsFreeBy s.frames i w → MayEnter s i
 may_by s i f Running e q h = absurd h

@@ -10,8 +10,8 @@ use Rattle.pipe_frame.specs.TokenFields.{fields_of}
 use Rattle.pipe_frame.specs.declared.token.FrameToken.{FrameToken}
 use Rattle.frame_book.specs.BookStates.{IsOut, Kept, Out, Spent, item_or, state_of}
 use Rattle.frame_book.specs.Invariant.{IsBook}
-use Rattle.frame_book.specs.IterationRows.{IterationRow}
-use Rattle.frame_book.specs.RowsOfFrames.{AreRows, TokenFits}
+use Rattle.frame_rows.specs.IterationRows.{IterationRow}
+use Rattle.frame_rows.specs.RowsOfFrames.{AreRows, TokenFits}
 use Rattle.frame_book.specs.Tables.{Tables, book_state, token_state_by, token_state_of}
 use Rattle.std.specs.Prelude.{ℤ}
 

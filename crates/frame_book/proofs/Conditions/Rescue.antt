@@ -13,13 +13,13 @@ use Rattle.run_laws.proofs.RunStates.Frames.{frame_at_within}
 use Rattle.run_laws.proofs.RunStates.Completed.{completed_not_alive}
 use Rattle.run_laws.proofs.RunStates.LoopEnds.{completed_by, goes_on_by, ended_by_going}
 use Rattle.frame_book.specs.BookStates.{Kept, Spent, state_of}
-use Rattle.frame_book.specs.RowsOfFrames.{AreRows, RowGoesOn}
+use Rattle.frame_rows.specs.RowsOfFrames.{AreRows, RowGoesOn}
 use Rattle.frame_book.specs.CallEffects.{IsReady}
 use Rattle.frame_book.specs.Tables.{Tables, book_state, token_state_of, token_state_by}
 use Rattle.frame_book.proofs.Conditions.MayEnter.{free_is_may}
 use Rattle.frame_book.proofs.Keeping.Resume.{kept_token}
-use Rattle.frame_book.proofs.Iterations.FrameRows.{frame_of_row, row_of_frame}
-use Rattle.frame_book.proofs.Iterations.ChangedRows.{map_at}
+use Rattle.frame_rows.proofs.FrameRows.{frame_of_row, row_of_frame}
+use Rattle.frame_rows.proofs.ChangedRows.{map_at}
 
 -- a token that is there
 some_token : {X : Type 0} → (o : Option X) → IsSome o → (x : X) × (o ≡ Some x)

@@ -17,11 +17,11 @@ use Rattle.run_laws.proofs.RunStates.Completed.{completed_passes}
 use Rattle.frame_book.specs.BookStates.{IsOut, Spent, item_or, state_of}
 use Rattle.frame_book.specs.CallEffects.{IsReady}
 use Rattle.frame_book.specs.Invariant.{IsBook}
-use Rattle.frame_book.specs.RowsOfFrames.{AreRows}
+use Rattle.frame_rows.specs.RowsOfFrames.{AreRows}
 use Rattle.frame_book.specs.Tables.{Tables, book_state, token_state_by, token_state_of}
 use Rattle.frame_book.proofs.Conditions.Rescue.{begins_by, none_alive}
-use Rattle.frame_book.proofs.Iterations.ChangedRows.{map_at}
-use Rattle.frame_book.proofs.Iterations.FrameRows.{row_of_frame}
+use Rattle.frame_rows.proofs.ChangedRows.{map_at}
+use Rattle.frame_rows.proofs.FrameRows.{row_of_frame}
 
 -- the first frame whose iteration has not ended
 record FirstAlive (fs : List Frame) : Type 0 where

@@ -14,20 +14,11 @@ use Rattle.pipe_model.specs.declared.status.Status.{Status}
 use Rattle.pipe_model.specs.declared.status.Status.TheVariants.{Running, Pending, Completed}
 use Rattle.pipe_model.specs.Runs.State.{Frame, frame_at, end_of_status}
 use Rattle.run_laws.proofs.RunStates.Frames.{frame_at_exists}
-use Rattle.frame_book.specs.Rooms.{IsSized, IsPlanned, IsFresh, total, room_in, rooms_of}
+use Rattle.frame_book.specs.Rooms.{IsSized, IsPlanned, IsFresh, room_in, rooms_of}
 use Rattle.frame_book.specs.Invariant.{MatchesFrame, pending_nodes}
-use Rattle.frame_book.specs.IterationRows.{IterationRow}
-
--- the sum over two lists
-pub total_append : {X : Type 0} → (m : X → ℕ) (xs ys : List X) → total m (xs ++ ys) ≡ total m xs + total m ys
-total_append m [] ys = omega arith
-total_append m (x ∷ xs) ys = let h = total_append m xs ys in omega (arith, h)
-
--- at most as many items as their sum, if each counts
-pub few_of_total : {X : Type 0} → (m : X → ℕ) (xs : List X) → ((i : ℕ) → i < length xs → 0 < get_or (map m xs) i 0) → length xs ≤ total m xs
-few_of_total m [] h = omega arith
-few_of_total m (x ∷ xs) h = let a = h 0 (omega arith) in let b = few_of_total m xs (λ i l. h (suc i) (omega (arith, l))) in
-    omega (arith, a, b)
+use Rattle.frame_rows.specs.IterationRows.{IterationRow}
+use Rattle.frame_rows.specs.Totals.{total}
+use Rattle.frame_rows.proofs.Totals.{total_append, few_of_total}
 
 -- after the end no stage is named
 ending_names_none : (f : ColumnEnd) (xs : List Action) → Performs (Ending f) xs → nodes_in xs ≡ []

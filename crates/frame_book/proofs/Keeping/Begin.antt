@@ -41,26 +41,26 @@ use Rattle.frame_book.specs.BookStates.{events_of, last_ticket, with_events, tim
 use Rattle.pipe_frame.specs.Replies.{replies_of}
 use Rattle.frame_book.specs.Rooms.{IsPlanned, rooms_of, IsFresh, room_in}
 use Rattle.frame_book.specs.Invariant.{IsBook, HasActions, MatchesFrame, actions_in}
-use Rattle.frame_book.specs.RowsOfFrames.{IsRowOf, AreRows, token_at, no_marks}
+use Rattle.frame_rows.specs.RowsOfFrames.{IsRowOf, AreRows, token_at, no_marks}
 use Rattle.frame_book.specs.KeptTokens.{IsKeptToken, IsAtHome}
 use Rattle.pipe_model.specs.Runs.Schedules.{running_in_frames}
-use Rattle.frame_book.specs.IterationRows.{IterationRow, row_at, head_marks, with_instance}
+use Rattle.frame_rows.specs.IterationRows.{IterationRow, row_at, head_marks, with_instance}
 use Rattle.frame_book.specs.CallEffects.{identities_of_orders, seen_whole}
 use Rattle.frame_book.specs.Tables.{Tables, book_state, token_state_of}
 use Rattle.frame_book.specs.GivenTokens.{IsGivenBy}
 use Rattle.frame_book.proofs.Actions.TraceActions.{laid_same}
 use Rattle.frame_book.proofs.BookLogs.AtEvents.{after_event}
-use Rattle.frame_book.proofs.Iterations.Totals.{rows_fit}
+use Rattle.frame_rows.proofs.Totals.{rows_fit}
 use Rattle.frame_book.proofs.BookLogs.LogEntries.{last_ticket_with, length_with, entry_of, end_actions-push, rise_with, events_of_with}
 use Rattle.frame_book.proofs.BookLogs.LogEntries.{starts_of-push, state_after-push}
-use Rattle.frame_book.proofs.Iterations.FrameRows.{row_of_frame, rows_length}
-use Rattle.frame_book.proofs.Iterations.ChangedRows.{map_at}
+use Rattle.frame_rows.proofs.FrameRows.{row_of_frame, rows_length}
+use Rattle.frame_rows.proofs.ChangedRows.{map_at}
 use Rattle.frame_book.proofs.Iterations.SpareRows.{sized_pop, fresh_pop, room_of_spare, few_rows, spare_room, spare_left}
-use Rattle.frame_book.proofs.Iterations.SpareRows.{total_append}
+use Rattle.frame_rows.proofs.Totals.{total_append}
 use Rattle.frame_book.proofs.StartedInstances.GrownMarks.{down_grows, right_grows, marks_grow, marks_same, kept_grows, names_seen}
 use Rattle.frame_book.proofs.StartedInstances.GrownMarks.{knows_new}
 use Rattle.frame_book.proofs.BookLogs.TokensOfStates.{token_at_events}
-use Rattle.frame_book.proofs.StartedInstances.StartRows.{head_marks_is, head_marks_none}
+use Rattle.frame_rows.proofs.StartRows.{head_marks_is, head_marks_none}
 
 -- rows and frames with one more of each
 pub rows_push : {M : Type 0} → (going : Bool) (fs : List Frame) (rs : List (IterationRow M)) (f : Frame) (y : IterationRow M)
@@ -211,7 +211,7 @@ module _ {M : Type 0} {Whole : SyntaxTree → M → Type 0} {ReadyAt : SyntaxTre
   -- the head of the last row has marks
   pub there : (r : IterationRow M) → row_at b.rows (length b.rows - 1) ≡ Some r → 0 < length r.marks
   there r at =
-      let q = Rattle.frame_book.proofs.Iterations.FrameRows.frame_of_row (not c.stopped) c.frames b.rows
+      let q = Rattle.frame_rows.proofs.FrameRows.frame_of_row (not c.stopped) c.frames b.rows
       (length b.rows - 1) r h.rows.each at in
       let a = q.matches.marks in
       let z = filled (length b.rows - 1) q.frame q.is in

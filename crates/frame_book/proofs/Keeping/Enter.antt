@@ -43,12 +43,12 @@ use Rattle.order_2d.proofs.ListsSoFar.{length-log_entries}
 use Rattle.frame_book.specs.BookStates.{BookState, events_of, last_ticket, state_of, with_events, Out, Spent, Kept}
 use Rattle.pipe_frame.specs.Replies.{replies_of}
 use Rattle.frame_book.specs.Invariant.{IsBook, HasActions, MatchesFrame, actions_in, pending_nodes}
-use Rattle.frame_book.specs.RowsOfFrames.{IsRowOf, HasTraceCount, TokenFits, token_at, no_marks}
+use Rattle.frame_rows.specs.RowsOfFrames.{IsRowOf, HasTraceCount, TokenFits, token_at, no_marks}
 use Rattle.frame_book.specs.KeptTokens.{IsKeptToken}
 use Rattle.frame_book.specs.Rooms.{rooms_of}
 use Rattle.pipe_model.specs.Runs.Schedules.{running_of_status}
-use Rattle.frame_book.specs.IterationRows.{IterationRow, row_at, with_instance, marks_at, marks_of_row, HasMarks, left_numbers, left_marks}
-use Rattle.frame_book.specs.IterationRows.{IsSearchable, WaitsAt}
+use Rattle.frame_rows.specs.IterationRows.{IterationRow, row_at, with_instance, marks_at, marks_of_row, HasMarks, left_numbers, left_marks}
+use Rattle.frame_rows.specs.IterationRows.{IsSearchable, WaitsAt}
 use Rattle.frame_book.specs.CallEffects.{identities_of_orders, seen_whole, with_entered, kept_folded}
 use Rattle.frame_book.specs.Tables.{Tables, book_state, token_state_of, token_state_by}
 use Rattle.frame_book.specs.GivenTokens.{IsGivenBy}
@@ -61,8 +61,8 @@ use Rattle.frame_book.proofs.BookLogs.LogEntries.{last_ticket_with, length_with,
 use Rattle.frame_book.proofs.BookLogs.LogEntries.{starts_of-push, state_after-push}
 use Rattle.frame_book.proofs.Keeping.Name.{alive_set, closed_moved, left_passed_moved}
 use Rattle.frame_book.proofs.Keeping.LeaveReady.{sized_set}
-use Rattle.frame_book.proofs.Iterations.FrameRows.{row_of_frame, row_at_read, rows_length, row_at_within, token_of_row}
-use Rattle.frame_book.proofs.Iterations.ChangedRows.{rows_set, token_at_set, token_at_other, map_set_same, map_at, traces_of_row}
+use Rattle.frame_rows.proofs.FrameRows.{row_of_frame, row_at_read, rows_length, row_at_within, token_of_row}
+use Rattle.frame_rows.proofs.ChangedRows.{rows_set, token_at_set, token_at_other, map_set_same, map_at, traces_of_row}
 use Rattle.frame_book.proofs.StartedInstances.StartMarks.{parent_marks, takes_right_below}
 use Rattle.frame_book.proofs.StartedInstances.GrownMarks.{down_grows, right_grows, marks_grow, marks_same, kept_grows, names_seen}
 use Rattle.frame_book.proofs.StartedInstances.GrownMarks.{knows_new}
@@ -282,8 +282,8 @@ module _ {M : Type 0} {Whole : SyntaxTree → M → Type 0} {ReadyAt : SyntaxTre
             rises = λ j k l v. (
                 let x = well.rising.rises j k l (omega (arith, wide, v)) in
                 subst (λ z. z <ℤ get_or (map (λ n. n.number) g.0.nodes) k (pos 0))
-                (sym (Rattle.frame_book.proofs.Iterations.FrameRows.number_at g.0.nodes j))
-                (subst (λ z. (node_at g.0.nodes j).number <ℤ z) (sym (Rattle.frame_book.proofs.Iterations.FrameRows.number_at g.0.nodes
+                (sym (Rattle.frame_rows.proofs.FrameRows.number_at g.0.nodes j))
+                (subst (λ z. (node_at g.0.nodes j).number <ℤ z) (sym (Rattle.frame_rows.proofs.FrameRows.number_at g.0.nodes
                 k)) x));
             bounded = omega (arith, wide, fits, room', small);
           })

@@ -34,9 +34,9 @@ use Rattle.run_laws.proofs.RunStates.GrowingColumns.{columns-action}
 use Rattle.frame_book.specs.BookStates.{events_of, with_events, actions_at, pipeline_in, Spent}
 use Rattle.pipe_frame.specs.Replies.{replies_of, accessed}
 use Rattle.frame_book.specs.Invariant.{IsBook, HasActions, MatchesFrame, actions_in, pending_nodes}
-use Rattle.frame_book.specs.RowsOfFrames.{IsRowOf, IsUnheld, HasTraceCount, token_at, no_marks}
+use Rattle.frame_rows.specs.RowsOfFrames.{IsRowOf, IsUnheld, HasTraceCount, token_at, no_marks}
 use Rattle.frame_book.specs.KeptTokens.{IsKeptToken, IsAtHome}
-use Rattle.frame_book.specs.IterationRows.{IterationRow, row_at, with_trace}
+use Rattle.frame_rows.specs.IterationRows.{IterationRow, row_at, with_trace}
 use Rattle.pipe_model.specs.declared.column.ColumnEnd.{ColumnEnd}
 use Rattle.frame_book.proofs.Keeping.Name.{running_set, left_passed_moved}
 use Rattle.frame_book.specs.CallEffects.{identities_of_orders, with_finished}
@@ -47,8 +47,8 @@ use Rattle.frame_book.proofs.BookLogs.AtEvents.{after_event}
 use Rattle.frame_book.proofs.Actions.LegalActions.{performs_split, legal_after, offered_end, no_end_accessed, first_after}
 use Rattle.frame_book.proofs.BookLogs.LogEntries.{rise_with, last_ticket_with, length_with, entry_of, end_actions-push}
 use Rattle.frame_book.proofs.Keeping.LeaveReady.{out_row, sized_set}
-use Rattle.frame_book.proofs.Iterations.FrameRows.{row_of_frame, row_at_within}
-use Rattle.frame_book.proofs.Iterations.ChangedRows.{rows_set, token_at_set, token_at_other, map_set_same, map_at, total_set_same}
+use Rattle.frame_rows.proofs.FrameRows.{row_of_frame, row_at_within}
+use Rattle.frame_rows.proofs.ChangedRows.{rows_set, token_at_set, token_at_other, map_set_same, map_at, total_set_same}
 
 -- an iteration that ends is alive no more
 pub alive_drop : (fs : List Frame) (i : ℕ) (f : Frame) (u : Frame → Frame) → frame_at fs i ≡ Some f → alive_one f.status ≡ 1

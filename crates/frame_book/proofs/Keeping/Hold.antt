@@ -17,16 +17,16 @@ use Rattle.pipe_frame.specs.TokenFields.{fields_of}
 use Rattle.pipe_frame.specs.declared.token.FrameToken.{FrameToken}
 use Rattle.frame_book.specs.BookStates.{events_of, actions_at, pipeline_in, made, timed_access, Kept}
 use Rattle.frame_book.specs.Invariant.{IsBook, HasActions, MatchesFrame, actions_in}
-use Rattle.frame_book.specs.RowsOfFrames.{IsRowOf, IsUnheld, HasTraceCount, TokenFits, token_at, no_marks}
-use Rattle.frame_book.specs.IterationRows.{IterationRow, row_at}
+use Rattle.frame_rows.specs.RowsOfFrames.{IsRowOf, IsUnheld, HasTraceCount, TokenFits, token_at, no_marks}
+use Rattle.frame_rows.specs.IterationRows.{IterationRow, row_at}
 use Rattle.frame_book.specs.CallEffects.{with_held}
 use Rattle.frame_book.specs.Tables.{Tables, book_state, token_state_of}
 use Rattle.frame_book.specs.GivenTokens.{IsOutOf}
 use Rattle.pipe_frame.specs.Replies.{accessed}
 use Rattle.frame_book.proofs.Actions.TraceActions.{laid_same, untimed}
 use Rattle.frame_book.proofs.Keeping.LeaveReady.{out_row, sized_set}
-use Rattle.frame_book.proofs.Iterations.FrameRows.{row_of_frame, row_at_within}
-use Rattle.frame_book.proofs.Iterations.ChangedRows.{rows_set_same, token_at_set, token_at_other, map_set_same, map_at, total_set_same}
+use Rattle.frame_rows.proofs.FrameRows.{row_of_frame, row_at_within}
+use Rattle.frame_rows.proofs.ChangedRows.{rows_set_same, token_at_set, token_at_other, map_set_same, map_at, total_set_same}
 
 -- the traces of ended instances, and one without an end
 laid_held : (made made' : ℕ → List TimedAction) (k : ℕ) (ends : List TimedAction) (n : ℕ) → k + length ends ≡ n
@@ -89,7 +89,7 @@ module _ {M : Type 0} (Whole : SyntaxTree → M → Type 0) (ReadyAt : SyntaxTre
         omega (arith, l, e)
 
     counted_here : length (end_actions t.iteration b.ledger.log) ≡ length (get_or traces t.iteration [])
-    counted_here = h.counted t.iteration (inr (Rattle.frame_book.proofs.Iterations.FrameRows.token_of_row b.rows t.iteration r at ∙ none))
+    counted_here = h.counted t.iteration (inr (Rattle.frame_rows.proofs.FrameRows.token_of_row b.rows t.iteration r at ∙ none))
 
     traces_are : map (λ (z : IterationRow M). z.traces) (set b.rows t.iteration row) ≡ longer
     traces_are = map-set (λ (z : IterationRow M). z.traces) b.rows t.iteration row ∙ ap (λ ts. set traces t.iteration (ts ++ trace ∷ []))

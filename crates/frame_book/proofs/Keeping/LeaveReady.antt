@@ -14,17 +14,17 @@ use Rattle.pipe_frame.specs.TokenFields.{fields_of}
 use Rattle.pipe_frame.specs.declared.token.FrameToken.{FrameToken}
 use Rattle.frame_book.specs.BookStates.{Out, Kept, Spent, events_of, replies_at}
 use Rattle.frame_book.specs.Invariant.{IsBook, HasActions}
-use Rattle.frame_book.specs.RowsOfFrames.{IsRowOf, IsUnheld, TokenFits, token_at, no_marks}
+use Rattle.frame_rows.specs.RowsOfFrames.{IsRowOf, IsUnheld, TokenFits, token_at, no_marks}
 use Rattle.frame_book.specs.Rooms.{IsSized, IsPlanned}
 use Rattle.frame_book.specs.KeptTokens.{IsKeptToken}
-use Rattle.frame_book.specs.IterationRows.{IterationRow, row_at}
+use Rattle.frame_rows.specs.IterationRows.{IterationRow, row_at}
 use Rattle.frame_book.specs.CallEffects.{after_leave_ready, identities_of_orders}
 use Rattle.pipe_model.specs.Language.Programs.{pipeline_of}
 use Rattle.frame_book.specs.Tables.{Tables, book_state, token_state_of, token_state_by}
 use Rattle.frame_book.specs.GivenTokens.{IsOutOf, IsPayloadOf}
-use Rattle.frame_book.proofs.Iterations.FrameRows.{row_of_frame, row_at_within, row_at_read, token_of_row}
-use Rattle.frame_book.proofs.Iterations.ChangedRows.{rows_set_same, token_at_set, token_at_other, map_set_same, map_at, total_set_same}
-use Rattle.frame_book.proofs.Iterations.ChangedRows.{rooms_set}
+use Rattle.frame_rows.proofs.FrameRows.{row_of_frame, row_at_within, row_at_read, token_of_row}
+use Rattle.frame_rows.proofs.ChangedRows.{rows_set_same, token_at_set, token_at_other, map_set_same, map_at, total_set_same}
+use Rattle.frame_rows.proofs.ChangedRows.{rooms_set}
 
 -- a row whose token is out has no kept token
 pub out_keeps_none : {M : Type 0} → (token : Option (FrameToken M)) (w : Status) → token_state_by token w ≡ Out → token ≡ None

@@ -34,10 +34,10 @@ use Rattle.run_laws.proofs.RunStates.GrowingColumns.{columns-action}
 use Rattle.frame_book.specs.BookStates.{events_of, last_ticket, with_events, replies_at, actions_at, pipeline_in, Kept}
 use Rattle.pipe_frame.specs.Replies.{replies_of, accessed}
 use Rattle.frame_book.specs.Invariant.{IsBook, HasActions, MatchesFrame, actions_in, pending_nodes}
-use Rattle.frame_book.specs.RowsOfFrames.{IsRowOf, IsUnheld, HasTraceCount, token_at, no_marks}
+use Rattle.frame_rows.specs.RowsOfFrames.{IsRowOf, IsUnheld, HasTraceCount, token_at, no_marks}
 use Rattle.frame_book.specs.KeptTokens.{IsKeptToken}
 use Rattle.pipe_model.specs.Runs.Schedules.{running_in_frames, running_of_status}
-use Rattle.frame_book.specs.IterationRows.{IterationRow, row_at, suspended_row}
+use Rattle.frame_rows.specs.IterationRows.{IterationRow, row_at, suspended_row}
 use Rattle.frame_book.specs.CallEffects.{identities_of_orders, with_named}
 use Rattle.frame_book.specs.Tables.{Tables, book_state, token_state_of}
 use Rattle.frame_book.specs.GivenTokens.{IsOutOf, IsPayloadOf}
@@ -47,8 +47,8 @@ use Rattle.frame_book.proofs.Actions.LegalActions.{performs_split, legal_after, 
 use Rattle.frame_book.proofs.Actions.LegalActions.{last_number_accessed, last_number_is}
 use Rattle.frame_book.proofs.BookLogs.LogEntries.{rise_with, last_ticket_with, length_with, entry_of, end_actions-push}
 use Rattle.frame_book.proofs.Keeping.LeaveReady.{out_row, sized_set}
-use Rattle.frame_book.proofs.Iterations.FrameRows.{row_of_frame, row_at_within}
-use Rattle.frame_book.proofs.Iterations.ChangedRows.{rows_set, token_at_set, token_at_other, map_set_same, map_at, total_set_same}
+use Rattle.frame_rows.proofs.FrameRows.{row_of_frame, row_at_within}
+use Rattle.frame_rows.proofs.ChangedRows.{rows_set, token_at_set, token_at_other, map_set_same, map_at, total_set_same}
 
 -- a running instance that ends leaves one fewer running
 pub running_set : (fs : List Frame) (i : ℕ) (f : Frame) (u : Frame → Frame) → frame_at fs i ≡ Some f → f.status ≡ Running

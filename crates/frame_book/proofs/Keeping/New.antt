@@ -19,14 +19,15 @@ use Rattle.pipe_model.specs.Language.SyntaxTree.{SyntaxTree, tree_of}
 use Rattle.pipe_frame.specs.Ties.{Tie, BelongsTo}
 use Rattle.run_laws.proofs.ListOrders.StartsOfRuns.{run_starts_sound}
 use Rattle.frame_book.specs.Invariant.{IsBook}
-use Rattle.frame_book.specs.Rooms.{IsPlanned, IsFresh, total, rooms_of, room_in}
+use Rattle.frame_book.specs.Rooms.{IsPlanned, IsFresh, rooms_of, room_in}
+use Rattle.frame_rows.specs.Totals.{total}
 use Rattle.frame_book.specs.KeptTokens.{IsAtHome}
 use Rattle.frame_book.specs.NewBooks.{IsPlannedProgram}
 use Rattle.schedule_laws.specs.StartCounts.{most_instances}
-use Rattle.frame_book.specs.IterationRows.{IterationRow, empty_row}
+use Rattle.frame_rows.specs.IterationRows.{IterationRow, empty_row}
 use Rattle.frame_book.specs.CallEffects.{identities_of_orders}
 use Rattle.frame_book.specs.Tables.{Tables}
-use Rattle.frame_book.proofs.Iterations.SpareRows.{total_append}
+use Rattle.frame_rows.proofs.Totals.{total_append}
 
 -- a number that is not negative
 pub abs_is : (z : ℤ) → pos 0 ≤ℤ z → nat_abs z ≡ natural z

@@ -9,10 +9,10 @@ use Rattle.pipe_frame.specs.declared.token.FrameToken.{FrameToken}
 use Rattle.frame_book.specs.BookStates.{actions_at, left_of, pipeline_in}
 use Rattle.frame_book.specs.GivenTokens.{IsOutOf}
 use Rattle.frame_book.specs.Invariant.{IsBook, actions_in}
-use Rattle.frame_book.specs.IterationRows.{IterationRow, row_at}
+use Rattle.frame_rows.specs.IterationRows.{IterationRow, row_at}
 use Rattle.frame_book.specs.Tables.{Tables, book_state}
 use Rattle.frame_book.proofs.Actions.RepliesLeft.{performs_next}
-use Rattle.frame_book.proofs.Iterations.FrameRows.{token_of_row}
+use Rattle.frame_rows.proofs.FrameRows.{token_of_row}
 use Rattle.frame_book.proofs.Keeping.LeaveReady.{out_row}
 
 module _ {M : Type 0} (Whole : SyntaxTree → M → Type 0) (ReadyAt : SyntaxTree → List ℤ → M → ℕ → List (List ℤ) → Type 0) (tie : M → Tie)

@@ -20,16 +20,16 @@ use Rattle.run_laws.proofs.RunStates.Frames.{frame_at_within}
 use Rattle.frame_book.specs.BookStates.{BookState, Out, Spent, Kept, events_of, item_or, state_of, with_events}
 use Rattle.pipe_frame.specs.Replies.{replies_of}
 use Rattle.frame_book.specs.Invariant.{IsBook, HasActions}
-use Rattle.frame_book.specs.RowsOfFrames.{HasTraceCount, IsRowOf, TokenFits, token_at, no_marks}
+use Rattle.frame_rows.specs.RowsOfFrames.{HasTraceCount, IsRowOf, TokenFits, token_at, no_marks}
 use Rattle.frame_book.specs.KeptTokens.{IsKeptToken}
-use Rattle.frame_book.specs.IterationRows.{IterationRow, row_at}
+use Rattle.frame_rows.specs.IterationRows.{IterationRow, row_at}
 use Rattle.frame_book.specs.CallEffects.{with_resumed, with_entered, IsReady, identities_of_orders, kept_folded}
 use Rattle.frame_book.specs.Tables.{Tables, book_state, token_state_of, token_state_by}
 use Rattle.frame_book.specs.GivenTokens.{IsGivenBeside, IsGivenBy}
 use Rattle.frame_book.proofs.Keeping.LeaveReady.{sized_set}
-use Rattle.frame_book.proofs.Iterations.FrameRows.{row_of_frame, row_at_read, row_at_within, rows_length, token_of_row}
-use Rattle.frame_book.proofs.Iterations.ChangedRows.{rows_set_same, token_at_set, token_at_other, map_at, map_set_same, total_set_same}
-use Rattle.frame_book.proofs.Iterations.ChangedRows.{traces_of_row}
+use Rattle.frame_rows.proofs.FrameRows.{row_of_frame, row_at_read, row_at_within, rows_length, token_of_row}
+use Rattle.frame_rows.proofs.ChangedRows.{rows_set_same, token_at_set, token_at_other, map_at, map_set_same, total_set_same}
+use Rattle.frame_rows.proofs.ChangedRows.{traces_of_row}
 
 -- a row that is put back
 pub set_itself : {M : Type 0} → (rs : List (IterationRow M)) (i : ℕ) (r : IterationRow M) → row_at rs i ≡ Some r → set rs i r ≡ rs

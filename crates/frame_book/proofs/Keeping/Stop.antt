@@ -17,11 +17,11 @@ use Rattle.pipe_model.specs.Runs.TicketLogs.{end_actions, laid_traces}
 use Rattle.pipe_frame.specs.Ties.{Tie}
 use Rattle.frame_book.specs.BookStates.{with_events, events_of, last_ticket, made}
 use Rattle.frame_book.specs.Invariant.{IsBook, HasActions, actions_in, MatchesFrame, stop_one}
-use Rattle.frame_book.specs.RowsOfFrames.{AreRows, IsUnheld}
-use Rattle.frame_book.specs.IterationRows.{IterationRow}
+use Rattle.frame_rows.specs.RowsOfFrames.{AreRows, IsUnheld}
+use Rattle.frame_rows.specs.IterationRows.{IterationRow}
 use Rattle.frame_book.specs.Tables.{Tables}
 use Rattle.frame_book.proofs.BookLogs.AtEvents.{after_event}
-use Rattle.frame_book.proofs.Iterations.Totals.{rows_fit}
+use Rattle.frame_rows.proofs.Totals.{rows_fit}
 use Rattle.frame_book.proofs.BookLogs.LogEntries.{rise_with, last_ticket_with, length_with, end_actions-push, entry_of}
 
 -- rows of a stopped book

@@ -16,8 +16,8 @@ use Rattle.pipe_model.specs.Orders.LeftParent.{last_up_to, joined_by, joined_at,
 use Rattle.pipe_frame.specs.RunningTokens.{left_joined}
 use Rattle.run_laws.proofs.ListOrders.JoinedPlaces.{last_up_to_is, last_up_to_found}
 use Rattle.run_laws.proofs.ListOrders.StableLeftParents.{left_wait, left_without_growth}
-use Rattle.frame_book.specs.IterationRows.{WaitsAt}
-use Rattle.frame_book.proofs.Iterations.FrameRows.{number_at}
+use Rattle.frame_rows.specs.IterationRows.{WaitsAt}
+use Rattle.frame_rows.proofs.FrameRows.{number_at}
 
 -- the last index up to a stage number is the same in a column's numbers as in its instances
 pub last_at_is : (nodes : List Node) (j : ℕ) (s : ℤ) → IsLastNumber (map (λ n. n.number) nodes) j s → IsLastUpTo nodes j s

@@ -1,9 +1,9 @@
 use Rattle.std.proofs.Common.{◌≡◌, ◌<◌, ◌≤◌, ◌-◌, ◌∙◌, arith, length, ap, ap₂, sym, subst, Some, None}
 use Rattle.order_2d.specs.OrderPairs.{AreInserted, marks_after, down_taken, right_taken, with_start}
 use Rattle.pipe_model.specs.Orders.OrderMarks.{start_marks}
-use Rattle.frame_book.specs.IterationRows.{marks_at, left_marks, marks_of_row}
-use Rattle.frame_book.proofs.Iterations.FrameRows.{row_at_read}
-use Rattle.frame_book.proofs.StartedInstances.StartRows.{marks_within, left_marks_is}
+use Rattle.frame_rows.specs.IterationRows.{marks_at, left_marks, marks_of_row}
+use Rattle.frame_rows.proofs.FrameRows.{row_at_read}
+use Rattle.frame_rows.proofs.StartRows.{marks_within, left_marks_is}
 use Rattle.frame_book.proofs.start.insert_below.Goals as goal
 use Rattle.frame_book.proofs.start.insert_below.Goals.{in-Some, in-None}
 

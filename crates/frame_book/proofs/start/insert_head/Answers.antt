@@ -1,9 +1,9 @@
 use Rattle.std.proofs.Common.{◌≡◌, ◌<◌, ◌-◌, ◌∙◌, arith, length, ap, sym, subst, Some, None}
 use Rattle.order_2d.specs.OrderPairs.{AreInserted, marks_after, down_taken, right_taken, with_start}
 use Rattle.pipe_model.specs.Orders.OrderMarks.{start_marks}
-use Rattle.frame_book.specs.IterationRows.{head_marks}
-use Rattle.frame_book.proofs.Iterations.FrameRows.{row_at_read}
-use Rattle.frame_book.proofs.StartedInstances.StartRows.{head_marks_is}
+use Rattle.frame_rows.specs.IterationRows.{head_marks}
+use Rattle.frame_rows.proofs.FrameRows.{row_at_read}
+use Rattle.frame_rows.proofs.StartRows.{head_marks_is}
 use Rattle.frame_book.proofs.start.insert_head.Goals as goal
 
 pub start_node-requires-clause-inserted : goal.start_node-requires-clause-inserted

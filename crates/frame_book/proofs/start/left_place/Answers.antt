@@ -1,9 +1,9 @@
 use Rattle.std.proofs.Common.{◌≡◌, ◌<◌, ◌≤◌, ◌-◌, ◌^◌, ◌∙◌, ℕ, arith, length, sym, subst, w64, IfSome, IfNone, to_z, of_z}
 use Rattle.std.proofs.lemmas.Int.{to_z-of_z}
 use Rattle.left_parent.specs.LastNumber.{AreRising, IsLastUpTo}
-use Rattle.frame_book.specs.IterationRows.{left_numbers}
-use Rattle.frame_book.proofs.Iterations.FrameRows.{row_at_read}
-use Rattle.frame_book.proofs.StartedInstances.StartRows.{if_some_both, left_numbers_is}
+use Rattle.frame_rows.specs.IterationRows.{left_numbers}
+use Rattle.frame_rows.proofs.FrameRows.{row_at_read}
+use Rattle.frame_rows.proofs.StartRows.{if_some_both, left_numbers_is}
 use Rattle.frame_book.proofs.start.left_place.Goals as goal
 
 pub find-requires-clause-rising : goal.find-requires-clause-rising

@@ -6,17 +6,17 @@ use Rattle.order_2d.specs.OrderPairs.{with_start, down_taken, right_taken}
 use Rattle.pipe_model.specs.Runs.Allowed.{MayBegin, IsClosed, LastEndedFirstInstance}
 use Rattle.pipe_model.specs.Runs.State.{alive}
 use Rattle.pipe_model.specs.Language.SyntaxTree.{tree_of}
-use Rattle.frame_book.specs.AliveLists.{HasAliveList}
+use Rattle.frame_rows.specs.AliveLists.{HasAliveList}
 use Rattle.frame_book.specs.BookStates.{last_ticket, BookState, state_of}
 use Rattle.frame_book.specs.BookTables.{tables_of}
-use Rattle.frame_book.specs.RowsOfFrames.{AreRows}
-use Rattle.frame_book.specs.IterationRows.{head_marks}
+use Rattle.frame_rows.specs.RowsOfFrames.{AreRows}
+use Rattle.frame_rows.specs.IterationRows.{head_marks}
 use Rattle.frame_book.specs.CallEffects.{seen_whole}
 use Rattle.frame_book.specs.Tables.{book_state}
 use Rattle.frame_book.proofs.Keeping.Begin.{Begins, may, few, there, placed, room, spare_some, row_room, begin_keeps, begin_view}
 use Rattle.frame_book.proofs.Keeping.Begin.{begin_given, was_home}
 use Rattle.frame_book.proofs.Keeping.Stop.{log_room, last_below}
-use Rattle.frame_book.proofs.Iterations.AliveRows.{alive_push}
+use Rattle.frame_rows.proofs.AliveRows.{alive_push}
 use Rattle.frame_book.specs.TicketLog.{Ledger}
 use Rattle.frame_book.proofs.BookLogs.LogEntries.{last_ticket_with}
 use Rattle.frame_book.proofs.book.Book.begin.Given.{Over}

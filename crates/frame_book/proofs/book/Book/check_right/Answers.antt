@@ -7,7 +7,7 @@ use Rattle.run_laws.proofs.RunStates.Frames.{frame_at_within}
 use Rattle.frame_book.specs.BookStates.{state_of}
 use Rattle.frame_book.specs.BookTables.{tables_of}
 use Rattle.frame_book.specs.Tables.{book_state}
-use Rattle.frame_book.proofs.Iterations.FrameRows.{rows_length}
+use Rattle.frame_rows.proofs.FrameRows.{rows_length}
 use Rattle.frame_book.proofs.Iterations.SpareRows.{few_rows}
 use Rattle.frame_book.proofs.book.Book.check_right.Goals as goal
 

@@ -2,7 +2,7 @@ use Rattle.std.proofs.Common.{◌≡◌, sym, subst, ◌∙◌, false, not}
 use Rattle.pipe_model.specs.Runs.Allowed.{MayEnter}
 use Rattle.frame_book.specs.BookStates.{state_of}
 use Rattle.frame_book.specs.BookTables.{tables_of}
-use Rattle.frame_book.specs.RowsOfFrames.{AreRows}
+use Rattle.frame_rows.specs.RowsOfFrames.{AreRows}
 use Rattle.frame_book.specs.Tables.{book_state}
 use Rattle.frame_book.proofs.Conditions.MayEnter.{free_is_may}
 use Rattle.frame_book.proofs.book.Book.enter.Goals as goal

@@ -10,13 +10,13 @@ use Rattle.pipe_model.specs.Races.Columns.{nodes_at}
 use Rattle.pipe_model.specs.Language.SyntaxTree.{tree_of}
 use Rattle.frame_book.specs.BookStates.{last_ticket, state_of}
 use Rattle.frame_book.specs.BookTables.{tables_of}
-use Rattle.frame_book.specs.IterationRows.{IterationRow, left_numbers, marks_at, left_marks}
+use Rattle.frame_rows.specs.IterationRows.{IterationRow, left_numbers, marks_at, left_marks}
 use Rattle.frame_book.specs.CallEffects.{seen_whole}
 use Rattle.frame_book.proofs.Keeping.Enter.{Enters, Finds, enters, may_within, named, rows, at_home, status_is, row_room, marks_room}
 use Rattle.frame_book.proofs.Keeping.Enter.{few, room, searchable, kept, index_is, now_below, up_marks, left_has_marks, placed}
 use Rattle.frame_book.proofs.Keeping.Enter.{enter_keeps, enter_view, folded_was, enter_given}
 use Rattle.frame_book.proofs.Keeping.Stop.{log_room, last_below}
-use Rattle.frame_book.proofs.Iterations.AliveRows.{alive_set}
+use Rattle.frame_rows.proofs.AliveRows.{alive_set}
 use Rattle.frame_book.specs.TicketLog.{Ledger}
 use Rattle.frame_book.proofs.BookLogs.LogEntries.{last_ticket_with}
 use Rattle.frame_book.proofs.book.Book.enter_named.Given.{Over}

@@ -12,7 +12,7 @@ use Rattle.frame_book.proofs.Keeping.Finish.{finish_keeps, finish_view, trace_ro
 use Rattle.frame_book.proofs.Keeping.Stop.{log_room, last_below}
 use Rattle.frame_book.proofs.Keeping.Performed.{performed}
 use Rattle.frame_book.proofs.Keeping.LeaveReady.{out_within, out_row_read}
-use Rattle.frame_book.proofs.Iterations.AliveRows.{alive_out}
+use Rattle.frame_book.proofs.Iterations.OutRows.{alive_out}
 use Rattle.frame_book.proofs.book.Book.finish.Goals as goal
 
 pub stamp-requires-clause-room : goal.stamp-requires-clause-room

@@ -15,9 +15,10 @@ use Rattle.pipe_frame.specs.LeftCounters.{IsNotAhead, must_read_left}
 use Rattle.pipe_frame.specs.TokenFields.{fields_of}
 use Rattle.frame_book.specs.BookStates.{BookState, Kept, Out, Spent, IsOut, state_of, with_events, last_ticket, item_or}
 use Rattle.frame_book.specs.BookTables.{tables_of}
-use Rattle.frame_book.specs.RowsOfFrames.{AreRows}
-use Rattle.frame_book.specs.IterationRows.{WaitsAt, left_row_counter}
-use Rattle.frame_book.specs.CallEffects.{with_named, with_entered, folded_after, reads_left, stage_end, kept_folded}
+use Rattle.frame_rows.specs.RowsOfFrames.{AreRows}
+use Rattle.frame_rows.specs.IterationRows.{WaitsAt, left_row_counter}
+use Rattle.frame_book.specs.CallEffects.{with_named, with_entered, folded_after, reads_left, kept_folded}
+use Rattle.frame_rows.specs.NamedStages.{stage_end}
 use Rattle.frame_book.proofs.Conditions.KeptCounters.{not_ahead, lets, let_by, goes_by, waits_by, end_is, left_counter_same}
 use Rattle.frame_book.proofs.Conditions.AdvancedStates.{count_small, more_reads, reads_is, going1, may1, nodes1, folded1, entered1}
 use Rattle.frame_book.proofs.BookLogs.LogEntries.{length_with}

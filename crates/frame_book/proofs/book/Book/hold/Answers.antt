@@ -8,7 +8,7 @@ use Rattle.pipe_frame.specs.Replies.{accessed}
 use Rattle.frame_book.proofs.Keeping.Hold.{hold_keeps, hold_view, trace_room}
 use Rattle.frame_book.proofs.Keeping.Performed.{performed}
 use Rattle.frame_book.proofs.Keeping.LeaveReady.{out_row_read}
-use Rattle.frame_book.proofs.Iterations.AliveRows.{alive_out}
+use Rattle.frame_book.proofs.Iterations.OutRows.{alive_out}
 use Rattle.frame_book.proofs.book.Book.hold.Goals as goal
 
 pub end-requires : goal.end-requires

@@ -4,7 +4,7 @@ use Rattle.frame_book.specs.BookStates.{replies_at}
 use Rattle.frame_book.specs.BookTables.{tables_of}
 use Rattle.frame_book.specs.GivenTokens.{IsOutOf, IsPayloadOf}
 use Rattle.frame_book.proofs.Keeping.LeaveReady.{ready_keeps, ready_view, out_row_read}
-use Rattle.frame_book.proofs.Iterations.AliveRows.{alive_out}
+use Rattle.frame_book.proofs.Iterations.OutRows.{alive_out}
 use Rattle.frame_book.proofs.book.Book.leave_ready.Goals as goal
 
 pub invariant_of-self : goal.invariant_of-self

@@ -4,7 +4,7 @@ use Rattle.pipe_model.specs.Runs.Allowed.{MayBegin, IsClosed}
 use Rattle.pipe_model.specs.Runs.State.{alive}
 use Rattle.frame_book.specs.BookStates.{BookState, state_of}
 use Rattle.frame_book.specs.BookTables.{tables_of}
-use Rattle.frame_book.specs.RowsOfFrames.{AreRows}
+use Rattle.frame_rows.specs.RowsOfFrames.{AreRows}
 use Rattle.frame_book.specs.Tables.{book_state}
 use Rattle.frame_book.proofs.Conditions.Rescue.{begins_by, open_by_begin}
 use Rattle.frame_book.proofs.book.Book.may_begin.Goals as goal

@@ -10,9 +10,9 @@ use Rattle.pipe_model.specs.Language.Programs.{natural}
 use Rattle.pipe_model.specs.Language.SyntaxTree.{tree_of}
 use Rattle.frame_book.specs.NewBooks.{IsPlannedProgram}
 use Rattle.schedule_laws.specs.StartCounts.{most_instances}
-use Rattle.frame_book.specs.IterationRows.{empty_row}
+use Rattle.frame_rows.specs.IterationRows.{empty_row}
 use Rattle.frame_book.proofs.Keeping.New.{abs_is, non_neg_is, fits_small, new_keeps}
-use Rattle.frame_book.proofs.Iterations.AliveRows.{alive_none}
+use Rattle.frame_rows.proofs.AliveRows.{alive_none}
 use Rattle.frame_book.proofs.book.Book.opened.Goals as goal
 
 pub overflow_cast-stages : goal.overflow_cast-stages

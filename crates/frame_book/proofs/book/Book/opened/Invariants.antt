@@ -1,6 +1,6 @@
 use Rattle.std.proofs.Common.{◌≡◌, ◌∷◌, ◌+◌, replicate}
 use Rattle.std.specs.Prelude.{vec_capacity}
-use Rattle.frame_book.specs.IterationRows.{empty_row}
+use Rattle.frame_rows.specs.IterationRows.{empty_row}
 use Rattle.frame_book.proofs.book.Book.opened.Given as goal
 
 abbrev pub invariant-loop : goal.invariant-loop

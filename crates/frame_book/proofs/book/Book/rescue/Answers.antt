@@ -5,7 +5,7 @@ use Rattle.pipe_frame.specs.CallResults.{CanGoOn, IsFirstToGoOn, RescueReturns}
 use Rattle.pipe_frame.specs.declared.results.Rescue.TheVariants as rescue
 use Rattle.frame_book.specs.BookStates.{BookState, IsOut, state_of}
 use Rattle.frame_book.specs.BookTables.{tables_of}
-use Rattle.frame_book.specs.RowsOfFrames.{AreRows, RowGoesOn}
+use Rattle.frame_rows.specs.RowsOfFrames.{AreRows, RowGoesOn}
 use Rattle.frame_book.specs.CallEffects.{IsReady}
 use Rattle.frame_book.specs.Tables.{book_state}
 use Rattle.frame_book.proofs.Conditions.Rescue.{can_is}

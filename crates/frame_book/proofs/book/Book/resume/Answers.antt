@@ -11,8 +11,8 @@ use Rattle.frame_book.specs.CallEffects.{kept_folded, with_entered, with_resumed
 use Rattle.frame_book.specs.Tables.{book_state, token_state_of, token_state_by}
 use Rattle.frame_book.proofs.Keeping.Resume.{set_itself, can_run, can_enter, can_not, can_within, resumes, kept_none, resumes_by_entering}
 use Rattle.frame_book.proofs.Keeping.Resume.{kept, resume_keeps, resume_view, resume_given, resume_beside, resume_folded}
-use Rattle.frame_book.proofs.Iterations.ChangedRows.{map_at}
-use Rattle.frame_book.proofs.Iterations.AliveRows.{alive_set}
+use Rattle.frame_rows.proofs.ChangedRows.{map_at}
+use Rattle.frame_rows.proofs.AliveRows.{alive_set}
 use Rattle.frame_book.proofs.book.Book.resume.Goals as goal
 
 pub index_mut-row-requires : goal.index_mut-row-requires

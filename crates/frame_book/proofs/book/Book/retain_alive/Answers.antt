@@ -1,7 +1,7 @@
 use Rattle.std.proofs.Common.{◌∙◌, ap, filter, rules}
 use Rattle.std.proofs.lemmas.Fn.{filter_same}
-use Rattle.frame_book.specs.AliveLists.{is_alive_in}
-use Rattle.frame_book.proofs.Iterations.AliveRows.{alive_kept}
+use Rattle.frame_rows.specs.AliveLists.{is_alive_in}
+use Rattle.frame_rows.proofs.AliveRows.{alive_kept}
 use Rattle.frame_book.proofs.book.Book.retain_alive.Goals as goal
 
 pub invariant_of-self : goal.invariant_of-self

@@ -1,0 +1,5 @@
+pub mod Totals
+pub mod FrameRows
+pub mod ChangedRows
+pub mod AliveRows
+pub mod StartRows

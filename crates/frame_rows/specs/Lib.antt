@@ -1,0 +1,5 @@
+pub mod Totals
+pub mod NamedStages
+pub mod IterationRows
+pub mod RowsOfFrames
+pub mod AliveLists
