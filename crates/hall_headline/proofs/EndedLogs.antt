@@ -20,8 +20,8 @@ use Rattle.program_laws.specs.DeclaredCells.{IsInside, cell_count}
 use Rattle.run_record.specs.MergedLogs.{AreMerged, shard_at}
 use Rattle.hall_laws.proofs.HallRuns.{closed_halls_are_runs}
 use Rattle.hall_laws.proofs.ShardStates.{shard_states_are_of_runs}
-use Rattle.pipe_hall.specs.Closing.{shard_in}
-use Rattle.pipe_hall.specs.SeatViews.{ShardValue}
+use Rattle.hall_calls.specs.Closing.{shard_in}
+use Rattle.hall_shards.specs.ShardValues.{ShardValue}
 use Rattle.hall_headline.specs.HallEnds.{HallEndsAccessTheirCells, HallEndsAreRuns, HallEndsHaveCellsOfRuns, IsHallEnd, logs_of}
 use Rattle.hall_headline.proofs.HallEnds.{hall_ends_are_closed, has_shard, log_is, log_past, width}
 

@@ -7,7 +7,7 @@ use Rattle.pipe_model.specs.declared.ticket.Entry.{Entry}
 use Rattle.pipe_model.specs.declared.ticket.ShardEntry.{ShardEntry}
 use Rattle.pipe_model.specs.Pipelines.Store.{HasReply, InitialStore}
 use Rattle.hall_laws.specs.ClosedHalls.{ReadsAreRight, entries_of_instance, entries_of_shard, entry_in_trace, is_same_node}
-use Rattle.pipe_hall.specs.Logs.{accesses_of, of_node, of_shard}
+use Rattle.hall_table.specs.Logs.{accesses_of, of_node, of_shard}
 
 pub entries_of_instance_are : (x : NodeId) (log : List ShardEntry) → entries_of_instance x log ≡ of_node x.iteration x.index log
 entries_of_instance_are x [] = refl

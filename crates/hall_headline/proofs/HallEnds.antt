@@ -19,11 +19,12 @@ use Rattle.run_record.specs.MergedLogs.{ShardRises, shard_at}
 use Rattle.hall_laws.specs.ClosedHalls.{HasShardLogs, IsOutInstance, ReadsAreRight, entries_of_instance, entries_of_shard, trace_of}
 use Rattle.hall_laws.specs.ClosedHalls as laws
 use Rattle.hall_laws.proofs.HallRuns.{logs_can_be_merged}
-use Rattle.pipe_hall.specs.BookParts.{HasSeats}
-use Rattle.pipe_hall.specs.Closing.{no_shard, shard_in}
-use Rattle.pipe_hall.specs.Logs.{book_trace, of_shard, trace_by}
-use Rattle.pipe_hall.specs.SeatViews.{InstanceData, ShardValue}
-use Rattle.pipe_hall.specs.ShardParts.{HasShard}
+use Rattle.hall_table.specs.BookParts.{HasSeats}
+use Rattle.hall_calls.specs.Closing.{no_shard, shard_in}
+use Rattle.hall_table.specs.Logs.{book_trace, of_shard, trace_by}
+use Rattle.hall_table.specs.SeatViews.{InstanceData}
+use Rattle.hall_shards.specs.ShardValues.{ShardValue}
+use Rattle.hall_table.specs.ShardParts.{HasShard}
 use Rattle.hall_headline.specs.HallEnds.{HallEndsAreClosed, IsHallEnd, LogsOfHallEndsCanBeMerged, logs_of}
 use Rattle.hall_headline.proofs.EntryLists.{entries_of_instance_are, entries_of_shard_are, reads_are_right}
 

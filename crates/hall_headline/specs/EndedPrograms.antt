@@ -21,7 +21,7 @@ use Rattle.run_record.specs.OwnColumns.{made_columns}
 use Rattle.hall_laws.specs.ClosedHalls.{NoTokenIsOut}
 use Rattle.hall_laws.specs.HallPrograms.{IsMergedHall, whole_in}
 use Rattle.hall_laws.specs.HallReports.{AreReportsOf}
-use Rattle.pipe_hall.specs.SeatViews.{ShardValue}
+use Rattle.hall_shards.specs.ShardValues.{ShardValue}
 use Rattle.hall_headline.specs.HallEnds.{IsHallEnd, found_by, logs_of}
 use Rattle.pipe_model.specs.Races.Columns.{node_columns}
 

@@ -18,10 +18,10 @@ use Rattle.run_record.specs.MergedLogs.{AreMerged, BookRises, ShardRises}
 use Rattle.hall_laws.specs.ClosedHalls.{ClosedHall, IsSoundBook, NoTokenIsOut}
 use Rattle.hall_laws.specs.HallReports.{AreFound, HaveNotedEntries}
 use Rattle.hall_laws.specs.HallRuns.{IsRunOfHall}
-use Rattle.pipe_hall.specs.Closing.{EndedHall, StopIsLast, shard_in}
-use Rattle.pipe_hall.specs.FoundRaces.{found_in_slots}
-use Rattle.pipe_hall.specs.SeatViews.{ShardValue, start_of}
-use Rattle.pipe_hall.specs.ShardParts.{history_at}
+use Rattle.hall_calls.specs.Closing.{EndedHall, StopIsLast, shard_in}
+use Rattle.hall_shards.specs.FoundRaces.{found_in_slots}
+use Rattle.hall_shards.specs.ShardValues.{ShardValue, history_at}
+use Rattle.hall_table.specs.SeatViews.{start_of}
 
 -- the logs of the shards
 abbrev pub logs_of : List ShardValue → List (List ShardEntry)

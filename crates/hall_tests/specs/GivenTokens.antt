@@ -6,7 +6,7 @@ use Rattle.pipe_frame.specs.SeatedTokens.{IsGivenToken, IsSeated, seated_entries
 use Rattle.pipe_frame.specs.Ties.{HallName, Tie}
 use Rattle.pipe_frame.specs.TokenFields.{TokenFields}
 use Rattle.pipe_frame.specs.declared.token.FrameToken.{FrameToken}
-use Rattle.pipe_hall.specs.Lending.{tie_of}
+use Rattle.hall_table.specs.Lending.{tie_of}
 use Rattle.pipe_model.specs.declared.ticket.Entry.{Entry}
 use Rattle.stage_code.specs.FlatCode.{FlatCode}
 

@@ -5,7 +5,7 @@ use Rattle.hall_tests.specs.GivenTokens.{IsGivenIn}
 use Rattle.program_hall.specs.declared.carried.Carried.{Carried}
 use Rattle.pipe_frame.specs.Ties.{HallName}
 use Rattle.pipe_frame.specs.declared.token.FrameToken.{FrameToken}
-use Rattle.pipe_hall.specs.WorkerSeats.{WorkerSeat, hall_name}
+use Rattle.hall_table.specs.WorkerSeats.{WorkerSeat, hall_name}
 use Rattle.stage_code.specs.FlatCode.{FlatCode}
 
 -- the seat is one of the hall with this name, and a token beside it is one of that hall

@@ -4,7 +4,7 @@ ghost use Rattle.std.specs.Prelude.{◌≡◌};
 ghost use Rattle.hall_tests.specs.GivenTokens.{IsGivenIn, IsOutWith, token_tie};
 ghost use Rattle.hall_tests.specs.PreparedPrograms.{IsPrepared};
 ghost use Rattle.pipe_frame.specs.TokenFields.{fields_of};
-ghost use Rattle.pipe_hall.specs.WorkerSeats.{hall_name};
+ghost use Rattle.hall_table.specs.WorkerSeats.{hall_name};
 ghost use Rattle.pipe_model.specs.Language.SyntaxTree.{tree_of};
 ghost use Rattle.pipe_worker.specs.Machines.{cells_of};
 

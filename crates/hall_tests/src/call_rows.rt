@@ -4,7 +4,7 @@ ghost use Rattle.std.specs.Prelude.{◌≡◌, ◌<◌, IfOk};
 ghost use Rattle.hall_tests.specs.PreparedPrograms.{IsPrepared};
 ghost use Rattle.pipe_worker.specs.Machines.{CanDrive};
 ghost use Rattle.hall_tests.specs.Workers.{IsWorkerOf};
-ghost use Rattle.pipe_hall.specs.WorkerSeats.{hall_name};
+ghost use Rattle.hall_table.specs.WorkerSeats.{hall_name};
 ghost use Rattle.pipe_model.specs.Language.SyntaxTree.{tree_of};
 
 use crate::call_rows::Caller::{First, Second};

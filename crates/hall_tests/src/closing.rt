@@ -1,13 +1,13 @@
 //! What is left of a hall: its logs, and the races that its shards have found.
 
 ghost use Rattle.std.specs.Prelude.{◌≡◌, All, IfOk};
-ghost use Rattle.pipe_hall.specs.WorkerSeats.{IsSameHall};
+ghost use Rattle.hall_table.specs.WorkerSeats.{IsSameHall};
 ghost use Rattle.run_record.specs.MergedLogs.{BookRises, ShardRises};
 
 use access_history::history::Found;
+use hall_shards::shard::Shard;
 use pipe_hall::close::{HallEnd, close};
 use pipe_hall::hall::{HallKey, HallOf};
-use pipe_hall::shard::Shard;
 use pipe_model::access::CellId;
 use pipe_model::event::Event;
 use pipe_model::memory::NoMemory;

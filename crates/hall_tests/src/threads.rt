@@ -2,7 +2,7 @@
 
 ghost use Rattle.std.specs.Prelude.{◌≡◌};
 ghost use Rattle.pipe_worker.specs.Machines.{CanDrive};
-ghost use Rattle.pipe_hall.specs.WorkerSeats.{hall_name};
+ghost use Rattle.hall_table.specs.WorkerSeats.{hall_name};
 
 use crate::worker::work;
 use pipe_hall::hall::HallKey;

@@ -4,7 +4,7 @@ ghost use Rattle.std.specs.Prelude.{◌≡◌};
 ghost use Rattle.hall_tests.specs.GivenTokens.{IsGivenIn};
 ghost use Rattle.pipe_worker.specs.Machines.{CanDrive};
 ghost use Rattle.hall_tests.specs.Workers.{IsWorkerOf};
-ghost use Rattle.pipe_hall.specs.WorkerSeats.{hall_name};
+ghost use Rattle.hall_table.specs.WorkerSeats.{hall_name};
 
 use book_tests::play::Seen;
 use pipe_frame::hall::Hall;

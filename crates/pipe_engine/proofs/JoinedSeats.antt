@@ -1,7 +1,7 @@
 -- Seats of one hall: the last one takes in the others.
 use Rattle.std.proofs.Common.{◌≡◌, ◌∙◌, ◌++◌, ◌∷◌, [], List, All, sym}
 use Rattle.pipe_frame.specs.Ties.{HallName}
-use Rattle.pipe_hall.specs.WorkerSeats.{WorkerSeat, hall_name}
+use Rattle.hall_table.specs.WorkerSeats.{WorkerSeat, hall_name}
 use Rattle.pipe_worker.specs.Tasks.{IsOver}
 use Rattle.work_deques.proofs.TestedLists.{All_init, All_last}
 

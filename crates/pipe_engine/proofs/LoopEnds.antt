@@ -13,9 +13,10 @@ use Rattle.hall_laws.proofs.HallPrograms.{merged_halls_are_program_runs}
 use Rattle.hall_laws.proofs.HallRuns.{finished_books_have_no_token_out}
 use Rattle.pipe_engine.specs.LoopEnds.{IsLoopEnd}
 use Rattle.program_hall.specs.OpenedHalls.{IsOpenedAfterInit}
-use Rattle.pipe_hall.specs.Closing.{EndedHall, StopIsLast, shard_in}
-use Rattle.pipe_hall.specs.SeatViews.{HallConstants, ShardValue, constants_of, start_of}
-use Rattle.pipe_hall.specs.WorkerSeats.{HallState}
+use Rattle.hall_calls.specs.Closing.{EndedHall, StopIsLast, shard_in}
+use Rattle.hall_table.specs.SeatViews.{HallConstants, constants_of, start_of}
+use Rattle.hall_shards.specs.ShardValues.{ShardValue}
+use Rattle.hall_table.specs.WorkerSeats.{HallState}
 use Rattle.pipe_model.specs.declared.access.Access.{Access}
 use Rattle.pipe_model.specs.declared.event.Event.{Event}
 use Rattle.pipe_model.specs.declared.event.RunLog.{RunLog}

@@ -3,7 +3,7 @@
 ghost use Rattle.std.specs.Prelude.{◌≡◌, ◌<◌, ◌+◌, All, IfOk, vec_len};
 ghost use Rattle.pipe_engine.specs.SeenRuns.{HasSeenOver};
 ghost use Rattle.pipe_frame.specs.HallViews.{BeginsWith};
-ghost use Rattle.pipe_hall.specs.WorkerSeats.{IsSameHall, hall_name};
+ghost use Rattle.hall_table.specs.WorkerSeats.{IsSameHall, hall_name};
 ghost use Rattle.pipe_worker.specs.Machines.{CanDrive};
 
 use pipe_hall::hall::{HallKey, HallOf};

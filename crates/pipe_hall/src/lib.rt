@@ -2,19 +2,6 @@
 //! sixteen shards of cells in its slots.
 #![tactic(auto)]
 
-pub mod carrier;
-pub mod close;
-mod found;
-pub mod hall;
-mod instance;
-mod locks;
-mod opening;
-mod rule;
-pub mod run_seat;
 pub mod seat;
-pub mod shard;
-mod shard_opening;
-mod slot;
-mod view;
-mod witness;
-mod worker;
+
+pub use hall_calls::{close, hall};

@@ -3,17 +3,17 @@
 ghost use Rattle.std.specs.Prelude.{◌≡◌};
 ghost use Rattle.pipe_frame.specs.HallViews.{BeginsWith};
 ghost use Rattle.pipe_frame.specs.TokenCounts.{no_tokens};
-ghost use Rattle.pipe_hall.specs.Steps.{both_counts};
-ghost use Rattle.pipe_hall.specs.WorkerSeats.{IsSameHall};
+ghost use Rattle.hall_table.specs.Steps.{both_counts};
+ghost use Rattle.hall_table.specs.WorkerSeats.{IsSameHall};
 
-use crate::carrier::Carrier;
-use crate::hall::{HallKey, HallOf};
-use crate::instance::access_at;
-use crate::rule::{JoinsWorker, Meets, SplitsWorker};
-use crate::slot::Slot;
-use crate::view::View;
-use crate::worker::{advance_at, begin_at, check_right_at, leave_ready_at, rescue_at};
 use atomic_table::Seat;
+use hall_calls::hall::{HallKey, HallOf};
+use hall_calls::instance::access_at;
+use hall_calls::worker::{advance_at, begin_at, check_right_at, leave_ready_at, rescue_at};
+use hall_table::carrier::Carrier;
+use hall_table::rule::{JoinsWorker, Meets, SplitsWorker};
+use hall_table::slot::Slot;
+use hall_table::view::View;
 use pipe_frame::hall::Hall;
 use pipe_frame::results::{Begun, Next, Reply, Rescue};
 use pipe_frame::token::FrameToken;
@@ -40,7 +40,7 @@ impl<'a, M: Carrier> Model for HallSeat<'a, M> {
     ghost use Rattle.pipe_model.specs.contracts.tree.Stmt as stmt;
     ghost use Rattle.std.specs.Coded.{codes};
     ghost use Rattle.std.specs.Prelude.{◌≡◌};
-    ghost use Rattle.pipe_hall.specs.WorkerSeats.{IsIdle, WorkerSeat};
+    ghost use Rattle.hall_table.specs.WorkerSeats.{IsIdle, WorkerSeat};
 
     ghost Value = { WorkerSeat };
 
@@ -70,7 +70,7 @@ impl<'a, M: Carrier> Hall<M> for HallSeat<'a, M> {
     ghost use Rattle.pipe_frame.specs.StageEndCases.{NamesNextStage};
     ghost use Rattle.pipe_frame.specs.TokenCounts.{Exchanges, tokens_next};
     ghost use Rattle.pipe_frame.specs.TokenFields.{fields_of};
-    ghost use Rattle.pipe_hall.specs.WorkerSeats.{hall_name};
+    ghost use Rattle.hall_table.specs.WorkerSeats.{hall_name};
 
     ghost named = { λ s. hall_name s.hall };
 

@@ -1,8 +1,8 @@
 -- Halls that are opened for a program.
 use Rattle.std.proofs.Common.{◌≡◌, ◌≤◌, subst, sym, ℤ, List, Option, Some, Ok, Err, Result}
 use Rattle.std.specs.Result.{IfOk}
-use Rattle.pipe_hall.specs.SeatViews.{HallConstants}
-use Rattle.pipe_hall.specs.WorkerSeats.{HallId, hall_name, name_of}
+use Rattle.hall_table.specs.SeatViews.{HallConstants}
+use Rattle.hall_table.specs.WorkerSeats.{HallId, hall_name, name_of}
 use Rattle.pipe_model.specs.Language.SyntaxTree.{tree_of}
 use Rattle.pipe_worker.specs.Machines.{CanDrive, cells_of}
 use Rattle.stage_code.specs.FlatCode.{FlatCode}

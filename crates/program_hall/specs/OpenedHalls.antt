@@ -1,7 +1,7 @@
 -- Halls that are opened for a program.
 use Rattle.std.specs.Prelude.{◌≡◌, ℕ, ℤ, List, Some, false, is_some}
-use Rattle.pipe_hall.specs.SeatViews.{HallConstants}
-use Rattle.pipe_hall.specs.WorkerSeats.{HallState}
+use Rattle.hall_table.specs.SeatViews.{HallConstants}
+use Rattle.hall_table.specs.WorkerSeats.{HallState}
 use Rattle.pipe_model.specs.declared.access.Access.{Access}
 use Rattle.pipe_model.specs.Language.ProgramsOfTrees.{whole_of}
 use Rattle.pipe_model.specs.Language.SyntaxTree.{SyntaxTree, tree_of}

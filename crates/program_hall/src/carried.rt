@@ -8,8 +8,8 @@ use om_shared::writer::OmWriter;
 use order_2d::two_orders::TwoOrders;
 use order_2d::two_passes::TwoPasses;
 use pipe_frame::stands::Stands;
-use pipe_hall::carrier::Carrier;
-use pipe_hall::run_seat::RunSeat;
+use hall_table::carrier::Carrier;
+use hall_table::run_seat::RunSeat;
 use pipe_model::memory::NoMemory;
 use pipe_worker::runs::Runs;
 use stage_code::code::Code;
@@ -74,7 +74,7 @@ impl<B: RunCode> Carried<B> {
 
 impl<B: RunCode> Stands for Carried<B> {
     ghost use Rattle.pipe_worker.specs.Machines.{CanRun, HasMachine, IsAtInstance, ready_whole};
-    ghost use Rattle.pipe_hall.specs.Lending.{tie_of};
+    ghost use Rattle.hall_table.specs.Lending.{tie_of};
 
     ghost whole = { λ tree x. HasMachine x.machine (CanRun B.code tree) };
 

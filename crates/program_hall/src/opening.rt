@@ -3,8 +3,8 @@
 ghost use Rattle.std.specs.Prelude.{◌≡◌, ◌<◌, ◌≤◌, ◌+◌, ◌*◌, [], All, IfOk, length};
 ghost use Rattle.order_2d.specs.declared.starts.TheConstants.{MOST_STARTS};
 ghost use Rattle.program_hall.specs.OpenedHalls.{IsOpenedFor};
-ghost use Rattle.pipe_hall.specs.ShardParts.{HaveIdentities};
-ghost use Rattle.pipe_hall.specs.WorkerSeats.{hall_name};
+ghost use Rattle.hall_table.specs.ShardParts.{HaveIdentities};
+ghost use Rattle.hall_table.specs.WorkerSeats.{hall_name};
 ghost use Rattle.pipe_model.specs.Language.CheckingRules.{BreaksNoRule};
 ghost use Rattle.pipe_model.specs.Language.Programs.{natural};
 ghost use Rattle.pipe_model.specs.Language.SyntaxTree.{tree_of};

@@ -1,7 +1,7 @@
 use Rattle.std.proofs.Common.{◌≡◌}
 use Rattle.hall_tests.specs.GivenTokens.{IsOutWith, token_tie}
 use Rattle.pipe_frame.specs.TokenFields.{fields_of}
-use Rattle.pipe_hall.specs.WorkerSeats.{hall_name}
+use Rattle.hall_table.specs.WorkerSeats.{hall_name}
 use Rattle.hall_tests.proofs.access_rows.have_replies.Given as goal
 
 abbrev pub invariant-loop-one : goal.invariant-loop-one

@@ -1,6 +1,6 @@
 use Rattle.std.proofs.Common.{arith, subst}
 use Rattle.std.proofs.lemmas.List.{get_or_default}
-use Rattle.pipe_hall.specs.Closing.{no_shard}
+use Rattle.hall_calls.specs.Closing.{no_shard}
 use Rattle.run_record.specs.MergedLogs.{ShardRises}
 use Rattle.hall_tests.proofs.closing.close_logs.Goals as goal
 

@@ -1,6 +1,6 @@
 use Rattle.std.proofs.Common.{sym, subst, Option}
-use Rattle.pipe_hall.specs.SeatViews.{HallConstants}
-use Rattle.pipe_hall.specs.WorkerSeats.{name_of}
+use Rattle.hall_table.specs.SeatViews.{HallConstants}
+use Rattle.hall_table.specs.WorkerSeats.{name_of}
 use Rattle.program_hall.proofs.Openings.{map_both}
 use Rattle.hall_tests.specs.PreparedPrograms.{IsHallOf}
 use Rattle.hall_tests.proofs.opening.open.Goals as goal

@@ -1,5 +1,5 @@
 use Rattle.hall_tests.specs.Workers.{IsWorkerOf}
-use Rattle.pipe_hall.specs.WorkerSeats.{hall_name}
+use Rattle.hall_table.specs.WorkerSeats.{hall_name}
 use Rattle.hall_tests.proofs.worker.work.Given as goal
 
 abbrev pub invariant-loop : goal.invariant-loop

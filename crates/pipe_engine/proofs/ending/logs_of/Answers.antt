@@ -3,7 +3,7 @@ use Rattle.std.proofs.lemmas.Iterator.Adapters.{YieldsList-from_vec}
 use Rattle.std.proofs.lemmas.Iterator.Consumers.{YieldsList-end}
 use Rattle.std.proofs.lemmas.List.{map-append}
 use Rattle.hall_headline.specs.HallEnds.{logs_of}
-use Rattle.pipe_hall.specs.SeatViews.{ShardValue}
+use Rattle.hall_shards.specs.ShardValues.{ShardValue}
 use Rattle.pipe_engine.proofs.ending.logs_of.Goals as goal
 
 pub loop-shard-preserved : goal.loop-shard-preserved

@@ -1,5 +1,5 @@
 use Rattle.std.proofs.Common.{◌≡◌, ◌+◌, ◌≤◌, All, vec_len}
-use Rattle.pipe_hall.specs.WorkerSeats.{hall_name}
+use Rattle.hall_table.specs.WorkerSeats.{hall_name}
 use Rattle.pipe_engine.proofs.workers.further_seats.Given as goal
 
 abbrev pub invariant-loop : goal.invariant-loop

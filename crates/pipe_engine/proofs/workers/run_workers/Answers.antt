@@ -3,7 +3,7 @@ use Rattle.std.proofs.Common.{◌∙◌, ap}
 use Rattle.program_hall.proofs.carried.Carried.TheSendSync as carried
 use Rattle.pipe_engine.proofs.JoinedSeats.{last_named, last_over, others_named}
 use Rattle.pipe_hall.proofs.Crossing.{crosses}
-use Rattle.pipe_hall.specs.WorkerSeats.{WorkerSeat, hall_name}
+use Rattle.hall_table.specs.WorkerSeats.{WorkerSeat, hall_name}
 use Rattle.pipe_engine.proofs.workers.run_workers.Goals as goal
 
 -- a seat may go to another thread

@@ -2,14 +2,14 @@ use Rattle.std.proofs.Common.{◌∙◌, ◌≤◌, ◌+◌, ap, arith, subst, s
 use Rattle.cell_store.proofs.DeclaredCells.{values_length}
 use Rattle.frame_book.specs.BookStates.{BookState}
 use Rattle.program_hall.proofs.Openings.{can_drive, map_both}
-use Rattle.pipe_hall.specs.SeatViews.{constants_of}
+use Rattle.hall_table.specs.SeatViews.{constants_of}
 use Rattle.pipe_model.specs.declared.bounds.TheConstants.{MOST_CELLS}
 use Rattle.pipe_model.specs.Language.CheckingRules.{cell_total}
 use Rattle.pipe_worker.specs.Machines.{cells_of}
 use Rattle.stage_interp.specs.CellNumbers.{most_cell_ids}
 use Rattle.book_laws.proofs.PlannedPrograms.{accepted_programs_are_planned}
 use Rattle.frame_book.specs.NewBooks.{IsPlannedProgram}
-use Rattle.pipe_hall.specs.ShardParts.{HaveIdentities}
+use Rattle.hall_table.specs.ShardParts.{HaveIdentities}
 use Rattle.pipe_model.specs.declared.tree.Program.{Program}
 use Rattle.pipe_model.specs.Language.SyntaxTree.{SyntaxTree, tree_of}
 use Rattle.program_hall.proofs.opening.open.Goals as goal

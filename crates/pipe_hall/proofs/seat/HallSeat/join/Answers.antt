@@ -1,10 +1,10 @@
 -- The seat takes in the other, and one look shows what both had seen.
 use Rattle.std.proofs.Common.{◌∙◌, arith, sym, ap}
-use Rattle.pipe_hall.specs.Openings.{start_in}
-use Rattle.pipe_hall.specs.Steps.{ViewAndSlots}
-use Rattle.pipe_hall.specs.WorkerSeats.{HallState, WorkerSeat}
-use Rattle.pipe_hall.proofs.Steps.{joins_worker, may_meet}
-use Rattle.pipe_hall.proofs.PayloadSeats.{idle_met, same_table}
+use Rattle.hall_table.specs.Openings.{start_in}
+use Rattle.hall_table.specs.Steps.{ViewAndSlots}
+use Rattle.hall_table.specs.WorkerSeats.{HallState, WorkerSeat}
+use Rattle.hall_table.proofs.Steps.{joins_worker, may_meet}
+use Rattle.hall_calls.proofs.PayloadSeats.{idle_met, same_table}
 use Rattle.pipe_hall.proofs.seat.HallSeat.join.Goals as goal
 
 pub join_seat-requires : goal.join_seat-requires

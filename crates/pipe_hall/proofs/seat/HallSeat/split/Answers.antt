@@ -1,9 +1,9 @@
 -- A further seat is idle, as the one that it is split from.
 use Rattle.std.proofs.Common.{◌∙◌, arith, sym, ap}
-use Rattle.pipe_hall.specs.Openings.{start_in}
-use Rattle.pipe_hall.specs.WorkerSeats.{HallState}
-use Rattle.pipe_hall.proofs.Steps.{splits_worker}
-use Rattle.pipe_hall.proofs.PayloadSeats.{idle_after, idle_copy}
+use Rattle.hall_table.specs.Openings.{start_in}
+use Rattle.hall_table.specs.WorkerSeats.{HallState}
+use Rattle.hall_table.proofs.Steps.{splits_worker}
+use Rattle.hall_calls.proofs.PayloadSeats.{idle_after, idle_copy}
 use Rattle.pipe_hall.proofs.seat.HallSeat.split.Goals as goal
 
 pub split_seat-seat-requires : goal.split_seat-seat-requires

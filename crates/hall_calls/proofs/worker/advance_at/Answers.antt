@@ -1,0 +1,125 @@
+-- The instance has ended; its iteration goes on at once, or not.
+use Rattle.std.proofs.Common.{◌≡◌, ◌∙◌, ◌++◌, ◌∷◌, [], sym, ap, subst, refl, Some}
+use Rattle.pipe_model.specs.Runs.StageEnds.{stage_end_events}
+use Rattle.pipe_model.specs.declared.event.Event.TheVariants.{Enter}
+use Rattle.pipe_frame.specs.CallResults.{AdvanceReturns, advance_events}
+use Rattle.pipe_frame.specs.HallViews.{Sees}
+use Rattle.pipe_frame.specs.TokenFields.{TokenFields, fields_of}
+use Rattle.pipe_frame.specs.declared.results.Next.TheVariants as nexts
+use Rattle.pipe_frame.specs.declared.token.FrameToken.{FrameToken}
+use Rattle.frame_book.specs.BookStates.{HasRisingTickets, Out, events_of, state_of}
+use Rattle.hall_table.specs.SeatViews.{constants_of}
+use Rattle.hall_calls.proofs.BookCalls.{stopped_later}
+use Rattle.hall_calls.proofs.EndingCalls.{enters_not_stopped, goes_on}
+use Rattle.hall_calls.proofs.TakenBooks.{advanced, ended_without, lent_with, none_goes, sees, stays_idle}
+use Rattle.pipe_frame.specs.TokenCounts.{Exchanges}
+use Rattle.hall_calls.proofs.TokenMoves.{none_next, token_returned, token_given_and_returned}
+use Rattle.hall_calls.proofs.worker.advance_at.Goals as goal
+
+pub advance-next-requires-clause-stopped : goal.advance-next-requires-clause-stopped
+advance-next-requires-clause-stopped g c =
+    λ e. stopped_later c.args.seat.now.me.0.it.seen (events_of c.get_mut-lent.result.now.log)
+    (lent_with g.row.M.Denot c.args.seat.now.me c.take_back-book.new.seat.me c.take_back-book.result c.get_mut-lent.result.now _ _
+    c.get_mut-lent.ensures.value c.take_back-book.ensures.taken).1.seen (c.requires.stopped e)
+
+pub return_token-requires-clause-call : goal.return_token-requires-clause-call
+return_token-requires-clause-call g c =
+    let t = lent_with g.row.M.Denot c.args.seat.now.me c.take_back-book.new.seat.me c.take_back-book.result c.get_mut-lent.result.now _ _
+    c.get_mut-lent.ensures.value c.take_back-book.ensures.taken in
+    let b = c.get_mut-lent.result.now in
+    let f = fields_of c.take_back-book.new.token in
+    let same : f ≡ fields_of c.args.token = ap (λ (k : FrameToken g.row.M.Denot). fields_of k) c.take_back-book.ensures.token in
+    let e = c.in-Go.ensures in (
+      b,
+      Some t.0,
+      t.1.holds,
+      goes_on b c.advance-next.new.self t.0 f c.args.trace c.args.end Out _ (t.2.fields ∙ sym same) (t.2.entries ∙ sym c.requires.trace)
+          (fields_of c.in-Go.token)
+          (enters_not_stopped (state_of b) f.iteration c.args.end e.returned.1) refl e.book c.entries.ensures.control
+          (subst HasRisingTickets c.entries.ensures.log c.entries.ensures.rise)
+          e.returned.2 e.token.0.out e.token.0.parts e.now,
+    )
+
+pub return_book-requires : goal.return_book-requires
+return_book-requires g c =
+    let t = lent_with g.row.M.Denot c.args.seat.now.me c.take_back-book.new.seat.me c.take_back-book.result c.get_mut-lent.result.now _ _
+    c.get_mut-lent.ensures.value c.take_back-book.ensures.taken in
+    let b = c.get_mut-lent.result.now in
+    let f = fields_of c.take_back-book.new.token in
+    let same : f ≡ fields_of c.args.token = ap (λ (k : FrameToken g.row.M.Denot). fields_of k) c.take_back-book.ensures.token in
+    let e = c.advance-next.ensures in
+    record {
+      own = c.take_back-book.ensures.own ∙ c.requires.own;
+      call = (
+        b,
+        Some t.0,
+        t.1.holds,
+        ended_without b c.advance-next.new.self t.0 f c.args.trace c.args.end c.advance-next.result c.in_default.not-Go
+            (t.2.fields ∙ sym same) (t.2.entries ∙ sym c.requires.trace) e.returned e.book
+            c.entries.ensures.control (subst HasRisingTickets c.entries.ensures.log c.entries.ensures.rise),
+      );
+    }
+
+pub returns-in-Go-clause-idle : goal.returns-in-Go-clause-idle
+returns-in-Go-clause-idle g c =
+    let t = lent_with g.row.M.Denot c.args.seat.now.me c.take_back-book.new.seat.me c.take_back-book.result c.get_mut-lent.result.now _ _
+    c.get_mut-lent.ensures.value c.take_back-book.ensures.taken in
+    stays_idle g.row.M.Denot c.args.seat.now.me c.take_back-book.new.seat.me c.get_mut-lent.result.now
+    (Some t.0) t.1 c.return_token.new.seat.me c.advance-next.new.self _ c.return_token.ensures.given
+    (ap constants_of c.in-Go.ensures.book) c.entries.ensures.control
+
+pub returns-in-Go-clause-sees : goal.returns-in-Go-clause-sees
+returns-in-Go-clause-sees g c =
+    let m = c.args.seat.now.me in
+    let t = lent_with g.row.M.Denot c.args.seat.now.me c.take_back-book.new.seat.me c.take_back-book.result c.get_mut-lent.result.now _ _
+    c.get_mut-lent.ensures.value c.take_back-book.ensures.taken in
+    let b = c.get_mut-lent.result.now in
+    let f = fields_of c.take_back-book.new.token in
+    let same : f ≡ fields_of c.args.token = ap (λ (k : FrameToken g.row.M.Denot). fields_of k) c.take_back-book.ensures.token in
+    let z = c.return_token.new.seat.me in
+    let e = c.in-Go.ensures in
+    let s = c.return_token.ensures.same in
+    let u : FrameToken g.row.M.Denot = record c.in-Go.token { payload = g.M.Carrier.with_seat c.in-Go.token.payload (Some s.0) } in
+    let es = stage_end_events f.iteration c.args.end ++ Enter f.iteration ∷ [] in
+    subst (λ (x : FrameToken g.row.M.Denot). Sees m.0.it.seen z.0.it.seen
+    (stage_end_events c.args.token.iteration c.args.end ++ Enter c.args.token.iteration ∷ [])
+    (λ q. AdvanceReturns q c.args.token.iteration c.args.token.index c.args.end (nexts.Go x))) (sym s.1)
+    (subst (λ (k : TokenFields). Sees m.0.it.seen z.0.it.seen (stage_end_events k.iteration c.args.end ++ Enter k.iteration ∷ [])
+    (λ q. AdvanceReturns q k.iteration k.index c.args.end (nexts.Go u))) same
+    (sees g.row.M.Denot m c.take_back-book.new.seat.me b (Some t.0) t.1 z c.advance-next.new.self _ c.return_token.ensures.given es
+    (λ q. AdvanceReturns q f.iteration f.index c.args.end (nexts.Go u))
+    (advanced {M = g.row.M.Denot} b c.advance-next.new.self f c.args.trace c.args.end (nexts.Go c.in-Go.token) e.book).1 e.returned))
+
+pub returns-in_default : goal.returns-in_default
+returns-in_default g c =
+    let m = c.args.seat.now.me in
+    let n = c.take_back-book.new.seat.me in
+    let t = lent_with g.row.M.Denot c.args.seat.now.me c.take_back-book.new.seat.me c.take_back-book.result c.get_mut-lent.result.now _ _
+    c.get_mut-lent.ensures.value c.take_back-book.ensures.taken in
+    let b = c.get_mut-lent.result.now in
+    let f = fields_of c.take_back-book.new.token in
+    let same : f ≡ fields_of c.args.token = ap (λ (k : FrameToken g.row.M.Denot). fields_of k) c.take_back-book.ensures.token in
+    let x = c.advance-next.new.self in
+    let r = c.advance-next.result in
+    let z = c.return_book.new.seat.me in
+    let e = c.advance-next.ensures in
+    let q = advanced b x f c.args.trace c.args.end r e.book in
+    record {
+      own = c.return_book.ensures.own.0 ∙ c.take_back-book.ensures.own;
+      idle = stays_idle g.row.M.Denot m n b (Some t.0) t.1 z x _ c.return_book.ensures.given q.0 c.entries.ensures.control;
+      sees = subst (λ (k : TokenFields). Sees m.0.it.seen z.0.it.seen (advance_events k.iteration c.args.end r)
+          (λ s. AdvanceReturns s k.iteration k.index c.args.end r)) same
+          (sees g.row.M.Denot m n b (Some t.0) t.1 z x _ c.return_book.ensures.given (advance_events f.iteration c.args.end r)
+          (λ s. AdvanceReturns s f.iteration f.index c.args.end r) q.1 e.returned);
+      tokens = subst (λ k. Exchanges k 1 m.0.it.tokens z.0.it.tokens) (sym (none_next r c.in_default.not-Go))
+          (token_returned g.row.M.Denot m n z b x t.0 t.1 c.return_book.ensures.given);
+      runs = none_goes r _ c.in_default.not-Go;
+      token = none_goes r _ c.in_default.not-Go;
+    }
+
+pub returns-in-Go-clause-tokens : goal.returns-in-Go-clause-tokens
+returns-in-Go-clause-tokens g c =
+    let t = lent_with g.row.M.Denot c.args.seat.now.me c.take_back-book.new.seat.me c.take_back-book.result c.get_mut-lent.result.now _ _
+    c.get_mut-lent.ensures.value c.take_back-book.ensures.taken in
+    token_given_and_returned g.row.M.Denot c.args.seat.now.me c.take_back-book.new.seat.me c.return_token.new.seat.me
+    c.get_mut-lent.result.now c.advance-next.new.self t.0 t.1 c.return_token.ensures.given

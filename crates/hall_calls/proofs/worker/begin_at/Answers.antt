@@ -1,0 +1,77 @@
+-- An iteration has begun, or nothing has changed.
+use Rattle.std.proofs.Common.{◌∙◌, sym, ap, subst, None}
+use Rattle.pipe_frame.specs.CallResults.{BeginReturns, begin_events}
+use Rattle.pipe_frame.specs.Ties.{HallName}
+use Rattle.pipe_frame.specs.TokenFields.{fields_of}
+use Rattle.frame_book.specs.BookStates.{HasRisingTickets, state_of}
+use Rattle.hall_table.specs.SeatViews.{constants_of}
+use Rattle.hall_calls.proofs.BookCalls.{begin_call}
+use Rattle.hall_calls.proofs.TakenBooks.{lent_of, name_is, none_started, nothing_begun, sees, stays_idle}
+use Rattle.pipe_frame.specs.TokenCounts.{Exchanges}
+use Rattle.hall_calls.proofs.TokenMoves.{none_begun, none_moves, token_given}
+use Rattle.hall_calls.proofs.worker.begin_at.Goals as goal
+
+pub return_token-requires-clause-call : goal.return_token-requires-clause-call
+return_token-requires-clause-call g c =
+    let b = c.get_mut-lent.result.now in
+    let h = lent_of g.row.M.Denot c.args.seat.now.me c.take_book-book.new.seat.me c.take_book-book.result c.get_mut-lent.result.now None
+    c.get_mut-lent.ensures.value c.take_book-book.ensures.taken in
+    let e = c.in-Started.ensures in (
+      b,
+      None,
+      h.holds,
+      begin_call b c.begin-begun.new.self (fields_of c.in-Started.token) e.book h.tokens h.traces c.entries.ensures.control
+          (subst HasRisingTickets c.entries.ensures.log c.entries.ensures.rise)
+          e.token.out e.token.parts e.now,
+    )
+
+pub return_book-requires : goal.return_book-requires
+return_book-requires g c =
+    let b = c.get_mut-lent.result.now in
+    let q = nothing_begun b c.begin-begun.new.self c.begin-begun.result c.in_default.not-Started c.begin-begun.ensures.book in
+    record {
+      own = c.take_book-book.ensures.own ∙ c.requires.own;
+      call = (
+        b,
+        None,
+        (lent_of g.row.M.Denot c.args.seat.now.me c.take_book-book.new.seat.me c.take_book-book.result c.get_mut-lent.result.now
+            None c.get_mut-lent.ensures.value c.take_book-book.ensures.taken).holds,
+        q.call,
+      );
+    }
+
+pub returns-in-Started-clause-idle : goal.returns-in-Started-clause-idle
+returns-in-Started-clause-idle g c =
+    stays_idle g.row.M.Denot c.args.seat.now.me c.take_book-book.new.seat.me c.get_mut-lent.result.now None
+    (lent_of g.row.M.Denot c.args.seat.now.me c.take_book-book.new.seat.me c.take_book-book.result c.get_mut-lent.result.now None
+    c.get_mut-lent.ensures.value c.take_book-book.ensures.taken) c.return_token.new.seat.me c.begin-begun.new.self
+    _ c.return_token.ensures.given (ap constants_of c.in-Started.ensures.book) c.entries.ensures.control
+
+pub returns-in_default : goal.returns-in_default
+returns-in_default g c =
+    let m = c.args.seat.now.me in
+    let n = c.take_book-book.new.seat.me in
+    let b = c.get_mut-lent.result.now in
+    let h = lent_of g.row.M.Denot c.args.seat.now.me c.take_book-book.new.seat.me c.take_book-book.result c.get_mut-lent.result.now None
+    c.get_mut-lent.ensures.value c.take_book-book.ensures.taken in
+    let x = c.begin-begun.new.self in
+    let r = c.begin-begun.result in
+    let z = c.return_book.new.seat.me in
+    let q = nothing_begun b x r c.in_default.not-Started c.begin-begun.ensures.book in
+    record {
+      own = c.return_book.ensures.own.0 ∙ c.take_book-book.ensures.own;
+      idle = stays_idle g.row.M.Denot m n b None h z x _ c.return_book.ensures.given q.constants c.entries.ensures.control;
+      sees = sees g.row.M.Denot m n b None h z x _ c.return_book.ensures.given (begin_events r) (λ s. BeginReturns _ s r) q.adds
+          (subst (λ (k : HallName). BeginReturns k.limit (state_of b) r) (sym (name_is c.args.seat.now.table_id m n b None h))
+          c.begin-begun.ensures.returned);
+      tokens = subst (λ k. Exchanges k 0 m.0.it.tokens z.0.it.tokens) (sym (none_begun r c.in_default.not-Started))
+          (none_moves g.row.M.Denot m n z b x h c.return_book.ensures.given);
+      runs = none_started r _ c.in_default.not-Started;
+      token = none_started r _ c.in_default.not-Started;
+    }
+
+pub returns-in-Started-clause-tokens : goal.returns-in-Started-clause-tokens
+returns-in-Started-clause-tokens g c =
+    token_given g.row.M.Denot c.args.seat.now.me c.take_book-book.new.seat.me c.return_token.new.seat.me c.get_mut-lent.result.now
+    c.begin-begun.new.self (lent_of g.row.M.Denot c.args.seat.now.me c.take_book-book.new.seat.me c.take_book-book.result
+    c.get_mut-lent.result.now None c.get_mut-lent.ensures.value c.take_book-book.ensures.taken) c.return_token.ensures.given

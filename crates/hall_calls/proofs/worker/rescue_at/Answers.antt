@@ -1,0 +1,104 @@
+-- A token was found, or nothing has changed.
+use Rattle.std.proofs.Common.{◌∙◌, sym, ap, subst, Some, None}
+use Rattle.pipe_frame.specs.CallResults.{RescueReturns}
+use Rattle.pipe_frame.specs.HallViews.{RescueSees}
+use Rattle.pipe_frame.specs.Ties.{HallName}
+use Rattle.pipe_frame.specs.TokenFields.{fields_of}
+use Rattle.pipe_frame.specs.declared.results.Rescue.TheVariants as rescue
+use Rattle.pipe_frame.specs.declared.token.FrameToken.{FrameToken}
+use Rattle.frame_book.specs.BookStates.{BookState, HasRisingTickets, events_of, state_of}
+use Rattle.frame_book.specs.CallEffects.{IsReady}
+use Rattle.hall_table.specs.SeatViews.{constants_of}
+use Rattle.hall_table.specs.WorkerSeats.{name_of}
+use Rattle.hall_calls.proofs.EndingCalls.{rescued_call, resumed_events}
+use Rattle.hall_calls.proofs.Rescuing.{rescue_sees_of}
+use Rattle.hall_calls.proofs.TakenBooks.{lent_of, name_is, none_found, nothing_found, seen_after, stays_idle}
+use Rattle.pipe_frame.specs.TokenCounts.{Exchanges}
+use Rattle.hall_calls.proofs.TokenMoves.{none_moves, none_rescued, token_given}
+use Rattle.hall_calls.proofs.worker.rescue_at.Goals as goal
+
+pub return_token-requires-clause-call : goal.return_token-requires-clause-call
+return_token-requires-clause-call g c =
+    let b = c.get_mut-lent.result.now in
+    let h = lent_of g.row.M.Denot c.args.seat.now.me c.take_book-book.new.seat.me c.take_book-book.result c.get_mut-lent.result.now None
+    c.get_mut-lent.ensures.value c.take_book-book.ensures.taken in
+    let e = c.in-Token.ensures in (
+      b,
+      None,
+      h.holds,
+      rescued_call b c.rescue-found.new.self (fields_of c.in-Token.token) e.book c.entries.ensures.control
+          (subst HasRisingTickets c.entries.ensures.log c.entries.ensures.rise)
+          e.token.out e.token.parts e.now,
+    )
+
+pub return_book-requires : goal.return_book-requires
+return_book-requires g c =
+    let b = c.get_mut-lent.result.now in
+    let q = nothing_found b c.rescue-found.new.self c.rescue-found.result c.in_default.not-Token c.rescue-found.ensures.book in
+    record {
+      own = c.take_book-book.ensures.own ∙ c.requires.own;
+      call = (
+        b,
+        None,
+        (lent_of g.row.M.Denot c.args.seat.now.me c.take_book-book.new.seat.me c.take_book-book.result c.get_mut-lent.result.now
+            None c.get_mut-lent.ensures.value c.take_book-book.ensures.taken).holds,
+        q.call,
+      );
+    }
+
+pub returns-in-Token-clause-idle : goal.returns-in-Token-clause-idle
+returns-in-Token-clause-idle g c =
+    stays_idle g.row.M.Denot c.args.seat.now.me c.take_book-book.new.seat.me c.get_mut-lent.result.now None
+    (lent_of g.row.M.Denot c.args.seat.now.me c.take_book-book.new.seat.me c.take_book-book.result c.get_mut-lent.result.now None
+    c.get_mut-lent.ensures.value c.take_book-book.ensures.taken) c.return_token.new.seat.me c.rescue-found.new.self
+    _ c.return_token.ensures.given (ap constants_of c.in-Token.ensures.book) c.entries.ensures.control
+
+pub returns-in-Token-clause-sees : goal.returns-in-Token-clause-sees
+returns-in-Token-clause-sees g c =
+    let m = c.args.seat.now.me in
+    let n = c.take_book-book.new.seat.me in
+    let b = c.get_mut-lent.result.now in
+    let h = lent_of g.row.M.Denot c.args.seat.now.me c.take_book-book.new.seat.me c.take_book-book.result c.get_mut-lent.result.now None
+    c.get_mut-lent.ensures.value c.take_book-book.ensures.taken in
+    let x = c.rescue-found.new.self in
+    let z = c.return_token.new.seat.me in
+    let e = c.in-Token.ensures in
+    let s = c.return_token.ensures.same in
+    let limit = (name_of c.args.seat.now.table_id m.0.it.constants).limit in
+    let u : FrameToken g.row.M.Denot = record c.in-Token.token { payload = g.M.Carrier.with_seat c.in-Token.token.payload (Some s.0) } in
+    subst (λ (y : FrameToken g.row.M.Denot). RescueSees limit m.0.it.seen z.0.it.seen (rescue.Token y)) (sym s.1)
+    (rescue_sees_of {M = g.row.M.Denot} limit m.0.it.seen z.0.it.seen b x (rescue.Token u) h.seen
+    (seen_after g.row.M.Denot m n b None h z x _ c.return_token.ensures.given)
+    (ap (λ (y : BookState). events_of y.log) e.book ∙ resumed_events b u.iteration)
+    (subst (λ (k : HallName). RescueReturns {M = g.row.M.Denot} k.limit (state_of b) (IsReady b) (rescue.Token u))
+    (sym (name_is c.args.seat.now.table_id m n b None h)) e.returned))
+
+pub returns-in_default : goal.returns-in_default
+returns-in_default g c =
+    let m = c.args.seat.now.me in
+    let n = c.take_book-book.new.seat.me in
+    let b = c.get_mut-lent.result.now in
+    let h = lent_of g.row.M.Denot c.args.seat.now.me c.take_book-book.new.seat.me c.take_book-book.result c.get_mut-lent.result.now None
+    c.get_mut-lent.ensures.value c.take_book-book.ensures.taken in
+    let x = c.rescue-found.new.self in
+    let r = c.rescue-found.result in
+    let z = c.return_book.new.seat.me in
+    let q = nothing_found b x r c.in_default.not-Token c.rescue-found.ensures.book in
+    record {
+      own = c.return_book.ensures.own.0 ∙ c.take_book-book.ensures.own;
+      idle = stays_idle g.row.M.Denot m n b None h z x _ c.return_book.ensures.given q.constants c.entries.ensures.control;
+      sees = rescue_sees_of {M = g.row.M.Denot} _ m.0.it.seen z.0.it.seen b x r h.seen
+          (seen_after g.row.M.Denot m n b None h z x _ c.return_book.ensures.given) q.adds
+          (subst (λ (k : HallName). RescueReturns {M = g.row.M.Denot} k.limit (state_of b) (IsReady b) r)
+          (sym (name_is c.args.seat.now.table_id m n b None h)) c.rescue-found.ensures.returned);
+      tokens = subst (λ k. Exchanges k 0 m.0.it.tokens z.0.it.tokens) (sym (none_rescued r c.in_default.not-Token))
+          (none_moves g.row.M.Denot m n z b x h c.return_book.ensures.given);
+      runs = none_found r _ c.in_default.not-Token;
+      token = none_found r _ c.in_default.not-Token;
+    }
+
+pub returns-in-Token-clause-tokens : goal.returns-in-Token-clause-tokens
+returns-in-Token-clause-tokens g c =
+    token_given g.row.M.Denot c.args.seat.now.me c.take_book-book.new.seat.me c.return_token.new.seat.me c.get_mut-lent.result.now
+    c.rescue-found.new.self (lent_of g.row.M.Denot c.args.seat.now.me c.take_book-book.new.seat.me c.take_book-book.result
+    c.get_mut-lent.result.now None c.get_mut-lent.ensures.value c.take_book-book.ensures.taken) c.return_token.ensures.given

@@ -1,0 +1,3 @@
+pub mod HallNames
+pub mod Closing
+pub mod NewShards

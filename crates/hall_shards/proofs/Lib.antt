@@ -1,0 +1,3 @@
+pub mod ListItems
+pub mod ShardAccesses
+pub mod ReplayedAccesses

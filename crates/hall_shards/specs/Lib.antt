@@ -1,0 +1,4 @@
+pub mod ShardValues
+pub mod Accesses
+pub mod Learning
+pub mod FoundRaces

@@ -1,0 +1,7 @@
+pub mod Boards
+pub mod ControlPrefixes
+pub mod CallEffects
+pub mod Sharding
+pub mod Steps
+pub mod Seating
+pub mod Crossing

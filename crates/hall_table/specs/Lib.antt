@@ -1,0 +1,12 @@
+pub mod SeatViews
+pub mod Logs
+pub mod BookParts
+pub mod ShardParts
+pub mod HallRule
+pub mod Steps
+pub mod BookCalls
+pub mod WorkerSeats
+pub mod InstanceSeats
+pub mod Lending
+pub mod SeatAccesses
+pub mod Openings

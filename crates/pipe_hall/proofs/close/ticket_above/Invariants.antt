@@ -1,9 +1,0 @@
-use Rattle.std.proofs.Common.{◌<◌, ◌≤◌, ◌^◌, ℕ}
-use Rattle.pipe_hall.specs.Closing.{shard_in}
-use Rattle.pipe_hall.proofs.close.ticket_above.Given as goal
-
-abbrev pub invariant-loop-shard : goal.invariant-loop-shard
-invariant-loop-shard l = record {
-  above : (k : ℕ) → k < l.shard-index → (shard_in l.shards k).last ≤ l.least;
-  bound : l.least ≤ 2 ^ 62;
-}
