@@ -7,13 +7,15 @@ ghost use Rattle.pipe_model.specs.Races.Columns.{node_at, nodes_at, IsNodeOf, Is
 ghost use Rattle.dag_build.specs.NodeColumns.{AreRising, IsAccessOf};
 
 use dag_build::dag::Dag;
-use pipe_model::access::{Access, AccessKind, CellId, NodeAccess};
-use pipe_model::column::Column;
+use pipe_model::access::AccessKind::{Read, Write};
+use pipe_model::access::{Access, AccessKind, CellId, NodeAccess, NodeAccesses};
+use pipe_model::column::{Column, Columns};
 use pipe_model::list::ListOf;
+use pipe_model::memory::NoMemory;
+use pipe_model::node::Kind::{Continue as C, Wait as W, Zero as Z};
 use pipe_model::node::{Kind, Node, NodeId};
-use pipe_model::report::{Report, Reports};
+use pipe_model::report::Report;
 use std::alloc::Global;
-use std::test::Fail;
 
 // Whether the stage number at index `k` is greater than all before it.
 fn is_above(nodes: &[Node], k: usize) -> bool
@@ -77,146 +79,175 @@ fn are_accesses(columns: &[Column], accesses: &[NodeAccess]) -> bool
     true
 }
 
-fn node(number: i64, kind: Kind) -> Node {
-    Node { number, kind }
+// The instances of a column, each by its kind and its stage number.
+type Stages = &'static [(Kind, i64)];
+
+fn column(alloc: Global, stages: Stages) -> Result<Column, NoMemory> {
+    let mut nodes = ListOf::new(alloc);
+    for (kind, number) in stages {
+        nodes.push(Node {
+            number: *number,
+            kind: *kind,
+        })?;
+    }
+    Ok(Column { nodes, end: None })
 }
 
-fn column(alloc: Global, nodes: &[Node]) -> Result<Column, Fail> {
-    Ok(Column {
-        nodes: ListOf::from_vec(Vec::from_slice(alloc, nodes)?),
-        end: None,
-    })
-}
-
-fn columns(rt: &HostRuntime, lists: &[&[Node]]) -> Result<ListOf<Column>, Fail> {
-    let mut columns = ListOf::new(rt.alloc());
-    for nodes in lists {
-        columns.push(column(rt.alloc(), nodes)?)?;
+fn columns(alloc: Global, lists: &[Stages]) -> Result<Columns, NoMemory> {
+    let mut columns = ListOf::new(alloc);
+    for stages in lists {
+        columns.push(column(alloc, stages)?)?;
     }
     Ok(columns)
 }
 
 // Stages 3 and 4 of the second column both wait for stage 2 of the first, so the edge to stage 4 is
 // redundant; stage 6 of the third column waits for stage 4 of the second.
-fn drawn(rt: &HostRuntime) -> Result<ListOf<Column>, Fail> {
-    let (zero, wait, skip) = (Kind::Zero, Kind::Wait, Kind::Continue);
-    columns(
-        rt,
-        &[
-            &[node(0, zero), node(2, skip), node(5, wait)],
-            &[node(0, zero), node(3, wait), node(4, wait), node(7, skip)],
-            &[node(0, zero), node(1, skip), node(6, wait)],
-        ],
-    )
-}
-
-// The instances of the columns, by iteration and index.
-const INSTANCES: [(u32, u32); 10] = [
-    (0, 0),
-    (0, 1),
-    (0, 2),
-    (1, 0),
-    (1, 1),
-    (1, 2),
-    (1, 3),
-    (2, 0),
-    (2, 1),
-    (2, 2),
+const DRAWN: [Stages; 3] = [
+    &[(Z, 0), (C, 2), (W, 5)],
+    &[(Z, 0), (W, 3), (W, 4), (C, 7)],
+    &[(Z, 0), (C, 1), (W, 6)],
 ];
 
-// For each instance, whether it precedes each of the instances.
-const PRECEDES: [&[u8; 10]; 10] = [
-    b"0111111111",
-    b"0010111001",
-    b"0000000000",
-    b"0000111111",
-    b"0000011001",
-    b"0000001001",
-    b"0000000000",
-    b"0000000011",
-    b"0000000001",
-    b"0000000000",
+// The instances of the columns, by iteration and index, and for each whether it precedes each of the
+// instances.
+const PRECEDES: [(u32, u32, &[u8; 10]); 10] = [
+    (0, 0, b"0111111111"),
+    (0, 1, b"0010111001"),
+    (0, 2, b"0000000000"),
+    (1, 0, b"0000111111"),
+    (1, 1, b"0000011001"),
+    (1, 2, b"0000001001"),
+    (1, 3, b"0000000000"),
+    (2, 0, b"0000000011"),
+    (2, 1, b"0000000001"),
+    (2, 2, b"0000000000"),
 ];
 
-// Whether an instance precedes another one, by the dag of the columns.
-fn precedes(alloc: Global, columns: &ListOf<Column>, a: NodeId, b: NodeId) -> Result<bool, Fail> {
-    let all = columns.as_slice();
-    if !are_rising(all) || !is_node(all, a) || !is_node(all, b) {
-        return Err(Fail::new(format_args!("there is no such instance")));
+// Whether an instance precedes another one, by the dag of the columns; nothing if one is not there.
+fn precedes(dag: &Dag, columns: &[Column], a: NodeId, b: NodeId) -> Option<bool>
+    requires { dag.now ≡ node_columns columns.now }
+{
+    if !is_node(columns, a) || !is_node(columns, b) {
+        return None;
     }
-    let dag = Dag::of(alloc, columns)?;
-    Ok(dag.precedes(a, b))
+    Some(dag.precedes(a, b))
 }
 
 // Whether an instance precedes exactly those of the instances that have a 1 in the row.
-fn precedes_those_of(
-    alloc: Global,
-    columns: &ListOf<Column>,
-    a: NodeId,
-    row: &[u8; 10],
-) -> Result<bool, Fail> {
-    for (k, (iteration, index)) in INSTANCES.into_iter().enumerate() {
-        let b = NodeId { iteration, index };
-        if precedes(alloc, columns, a, b)? != (row[k] == b'1') {
-            return Ok(false);
+fn precedes_those_of(dag: &Dag, columns: &[Column], a: NodeId, row: &[u8; 10]) -> bool
+    requires { dag.now ≡ node_columns columns.now }
+{
+    for (k, (iteration, index, _)) in PRECEDES.iter().enumerate() {
+        let b = NodeId {
+            iteration: *iteration,
+            index: *index,
+        };
+        if precedes(dag, columns, a, b) != Some(row[k] == b'1') {
+            return false;
         }
     }
-    Ok(true)
+    true
+}
+
+// The first instance that precedes others than those of its row.
+fn first_other(dag: &Dag, columns: &[Column]) -> Option<usize>
+    requires { dag.now ≡ node_columns columns.now }
+{
+    for (k, (iteration, index, row)) in PRECEDES.iter().enumerate() {
+        let a = NodeId {
+            iteration: *iteration,
+            index: *index,
+        };
+        if !precedes_those_of(dag, columns, a, row) {
+            return Some(k);
+        }
+    }
+    None
+}
+
+// The same for the dag of these columns; the number of rows if they do not rise, or memory runs out.
+fn first_other_of(alloc: Global, columns: &Columns) -> Option<usize> {
+    if !are_rising(columns.as_slice()) {
+        return Some(PRECEDES.len());
+    }
+    match Dag::of(alloc, columns) {
+        Ok(dag) => first_other(&dag, columns.as_slice()),
+        Err(NoMemory) => Some(PRECEDES.len()),
+    }
+}
+
+fn first_other_drawn(alloc: Global) -> Option<usize> {
+    match columns(alloc, &DRAWN) {
+        Ok(columns) => first_other_of(alloc, &columns),
+        Err(NoMemory) => Some(PRECEDES.len()),
+    }
 }
 
 #[test]
-fn instances_precede(rt: HostRuntime) -> Result<(), Fail> {
-    let columns = drawn(&rt)?;
-    for (k, (iteration, index)) in INSTANCES.into_iter().enumerate() {
-        let a = NodeId { iteration, index };
-        assert!(rt;
-            precedes_those_of(rt.alloc(), &columns, a, PRECEDES[k])?,
-            "{k}"
-        );
-    }
-    Ok(())
+fn instances_precede(rt: HostRuntime) {
+    let other = first_other_drawn(rt.alloc());
+    assert!(rt; other.is_none(), "{other:?}");
 }
 
 // Accesses by iteration, index, cell and kind.
 const ACCESSES: [(u32, u32, u32, AccessKind); 15] = [
     // No races: a write and a read in order, and two reads.
-    (0, 0, 6, AccessKind::Write),
-    (1, 0, 6, AccessKind::Read),
-    (0, 1, 7, AccessKind::Read),
-    (1, 1, 7, AccessKind::Read),
+    (0, 0, 6, Write),
+    (1, 0, 6, Read),
+    (0, 1, 7, Read),
+    (1, 1, 7, Read),
     // The first race is with the read, since the write before it precedes the other write.
-    (0, 0, 5, AccessKind::Write),
-    (0, 1, 5, AccessKind::Read),
-    (1, 1, 5, AccessKind::Write),
-    (0, 1, 5, AccessKind::Write),
+    (0, 0, 5, Write),
+    (0, 1, 5, Read),
+    (1, 1, 5, Write),
+    (0, 1, 5, Write),
     // The accesses of two emits.
-    (0, 1, 1, AccessKind::Read),
-    (0, 1, 1, AccessKind::Write),
-    (1, 1, 1, AccessKind::Read),
-    (1, 1, 1, AccessKind::Write),
+    (0, 1, 1, Read),
+    (0, 1, 1, Write),
+    (1, 1, 1, Read),
+    (1, 1, 1, Write),
     // Accesses that are not in the order of the serial elision.
-    (1, 1, 8, AccessKind::Write),
-    (0, 0, 8, AccessKind::Write),
-    (0, 1, 8, AccessKind::Read),
+    (1, 1, 8, Write),
+    (0, 0, 8, Write),
+    (0, 1, 8, Read),
 ];
 
-fn accesses(alloc: Global) -> Result<ListOf<NodeAccess>, Fail> {
+fn accesses(alloc: Global) -> Result<NodeAccesses, NoMemory> {
     let mut accesses = ListOf::new(alloc);
-    for row in &ACCESSES {
-        let (iteration, index, cell, kind) = *row;
+    for (iteration, index, cell, kind) in &ACCESSES {
         let access = Access {
-            cell: CellId(cell),
-            kind,
+            cell: CellId(*cell),
+            kind: *kind,
             value: 0,
         };
-        let node = NodeId { iteration, index };
+        let node = NodeId {
+            iteration: *iteration,
+            index: *index,
+        };
         accesses.push(NodeAccess { node, access })?;
     }
     Ok(accesses)
 }
 
-// A race between the last instances of the two columns, each given by iteration, stage number and
-// kind.
+// Two columns, each with a stage that waits for none.
+const TWO_COLUMNS: [Stages; 2] = [&[(Z, 0), (C, 2)], &[(Z, 0), (C, 3)]];
+
+// Races between the last instances of the two columns, each by its cell, and the iteration, the stage
+// number and the kind of either access.
+const RACES: [(u32, (u32, i64, AccessKind), (u32, i64, AccessKind)); 3] = [
+    (1, (0, 2, Write), (1, 3, Read)),
+    (5, (0, 2, Read), (1, 3, Write)),
+    (8, (1, 3, Write), (0, 2, Read)),
+];
+
+fn last_of(iteration: u32) -> NodeId {
+    NodeId {
+        iteration,
+        index: 1,
+    }
+}
+
 fn report(cell: u32, earlier: (u32, i64, AccessKind), later: (u32, i64, AccessKind)) -> Report {
     Report {
         cell: CellId(cell),
@@ -229,44 +260,45 @@ fn report(cell: u32, earlier: (u32, i64, AccessKind), later: (u32, i64, AccessKi
     }
 }
 
-fn last_of(iteration: u32) -> NodeId {
-    NodeId {
-        iteration,
-        index: 1,
+// Whether the reports are those of `RACES`.
+fn are_races(reports: &[Report]) -> bool {
+    for (k, (cell, earlier, later)) in RACES.iter().enumerate() {
+        if reports.get(k) != Some(&report(*cell, *earlier, *later)) {
+            return false;
+        }
+    }
+    reports.len() == RACES.len()
+}
+
+// Whether the first races of these accesses are those of `RACES`.
+fn has_races(alloc: Global, dag: &Dag, accesses: &NodeAccesses) -> bool
+    requires { All (IsAccessOf dag.now) accesses.now }
+{
+    match dag.races(alloc, accesses) {
+        Ok(found) => are_races(found.as_slice()),
+        Err(NoMemory) => false,
     }
 }
 
-// Two columns, each with a stage that waits for none.
-fn two_columns(rt: &HostRuntime) -> Result<ListOf<Column>, Fail> {
-    let first = [node(0, Kind::Zero), node(2, Kind::Continue)];
-    let second = [node(0, Kind::Zero), node(3, Kind::Continue)];
-    columns(rt, &[&first, &second])
-}
-
-// The first races of the accesses, by the dag of the columns.
-fn races(alloc: Global, columns: &ListOf<Column>) -> Result<Reports, Fail> {
+// The same by the dag of columns of which the accesses are.
+fn columns_have_races(alloc: Global, columns: &Columns, accesses: &NodeAccesses) -> bool {
     let all = columns.as_slice();
-    let accesses = accesses(alloc)?;
     if !are_rising(all) || !are_accesses(all, accesses.as_slice()) {
-        return Err(Fail::new(format_args!("there is no such instance")));
+        return false;
     }
-    let dag = Dag::of(alloc, columns)?;
-    Ok(dag.races(alloc, &accesses)?)
+    match Dag::of(alloc, columns) {
+        Ok(dag) => has_races(alloc, &dag, accesses),
+        Err(NoMemory) => false,
+    }
 }
 
-fn wanted() -> [Report; 3] {
-    let (read, write) = (AccessKind::Read, AccessKind::Write);
-    [
-        report(1, (0, 2, write), (1, 3, read)),
-        report(5, (0, 2, read), (1, 3, write)),
-        report(8, (1, 3, write), (0, 2, read)),
-    ]
+fn two_columns_have_races(alloc: Global) -> Result<bool, NoMemory> {
+    let columns = columns(alloc, &TWO_COLUMNS)?;
+    let accesses = accesses(alloc)?;
+    Ok(columns_have_races(alloc, &columns, &accesses))
 }
 
 #[test]
-fn first_races_are_reported(rt: HostRuntime) -> Result<(), Fail> {
-    let columns = two_columns(&rt)?;
-    let reports = races(rt.alloc(), &columns)?;
-    assert_eq!(rt; reports.as_slice(), wanted().as_slice());
-    Ok(())
+fn first_races_are_reported(rt: HostRuntime) {
+    assert!(rt; two_columns_have_races(rt.alloc()) == Ok(true));
 }

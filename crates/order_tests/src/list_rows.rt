@@ -5,7 +5,6 @@ ghost use Rattle.std.specs.Prelude.{◌≡◌, ◌≤◌, IfOk, length};
 use om_list::om_list::OmList;
 use pipe_model::memory::NoMemory;
 use std::alloc::Global;
-use std::test::Fail;
 
 // Logs of insertions with their lists: down-first and right-first of two columns that both wait for
 // stage 1, whose instances start head by head.
@@ -36,14 +35,27 @@ fn are_in_order(list: &OmList, elements: &[u32]) -> bool {
     true
 }
 
-#[test]
-fn logs_make_their_lists(rt: HostRuntime) -> Result<(), Fail> {
-    for (log, elements) in &LISTS {
-        let list = list_of(rt.alloc(), log)?;
-        assert_eq!(rt; list.len(), 9);
-        assert!(rt; are_in_order(&list, elements), "{log:?}");
+fn is_list_of(alloc: Global, log: &[u32], elements: &[u32]) -> bool {
+    match list_of(alloc, log) {
+        Ok(list) => list.len() == 9 && are_in_order(&list, elements),
+        Err(NoMemory) => false,
     }
-    Ok(())
+}
+
+// The first log that makes another list.
+fn first_other_log(alloc: Global) -> Option<usize> {
+    for (index, (log, elements)) in LISTS.iter().enumerate() {
+        if !is_list_of(alloc, log, elements) {
+            return Some(index);
+        }
+    }
+    None
+}
+
+#[test]
+fn logs_make_their_lists(rt: HostRuntime) {
+    let other = first_other_log(rt.alloc());
+    assert!(rt; other.is_none(), "{other:?}");
 }
 
 const LAST: u32 = 100_000;
@@ -80,29 +92,68 @@ fn labels_fall(list: &OmList) -> bool {
     true
 }
 
+// The first of 62 elements that has not half of the label of the one before it.
+fn first_not_halved(list: &OmList) -> Option<u32>
+    requires { length list.now.log ≡ 62 }
+{
+    for k in 0..62 {
+        if list.label(k + 1) != (1 << 61) >> k {
+            return Some(k);
+        }
+    }
+    None
+}
+
+// The same of 62 insertions; 62 if memory runs out.
+fn first_other_of_62(alloc: Global) -> Option<u32> {
+    match inserted_after_first(alloc, 62) {
+        Ok(list) => first_not_halved(&list),
+        Err(NoMemory) => Some(62),
+    }
+}
+
 // The first 62 elements halve the labels that are free.
 #[test]
-fn labels_are_halved(rt: HostRuntime) -> Result<(), Fail> {
-    let list = inserted_after_first(rt.alloc(), 62)?;
-    for k in 0..62 {
-        assert!(rt; list.label(k + 1) == (1 << 61) >> k, "{k}");
+fn labels_are_halved(rt: HostRuntime) {
+    let other = first_other_of_62(rt.alloc());
+    assert!(rt; other.is_none(), "{other:?}");
+}
+
+// The labels of some elements after 63 insertions.
+const NEW_LABELS: [(u32, u64); 6] = [(0, 0), (63, 1), (62, 2), (61, 4), (60, 6), (59, 8)];
+
+fn new_labels_are_given(alloc: Global) -> bool {
+    match inserted_after_first(alloc, 63) {
+        Ok(list) => has_labels(&list, &NEW_LABELS),
+        Err(NoMemory) => false,
     }
-    Ok(())
 }
 
 // The next one has element 0 and the last three labelled anew, in the range of the labels 0 to 7.
 #[test]
-fn a_crowded_range_is_labelled_anew(rt: HostRuntime) -> Result<(), Fail> {
-    let list = inserted_after_first(rt.alloc(), 63)?;
-    let labels = [(0, 0), (63, 1), (62, 2), (61, 4), (60, 6), (59, 8)];
-    assert!(rt; has_labels(&list, &labels));
-    Ok(())
+fn a_crowded_range_is_labelled_anew(rt: HostRuntime) {
+    assert!(rt; new_labels_are_given(rt.alloc()));
+}
+
+// Whether the last element is before the first one that was inserted, and the labels say so.
+fn is_reversed(list: &OmList) -> bool
+    requires { length list.now.log ≡ LAST }
+{
+    list.before(0, 1)
+        && list.before(LAST, 1)
+        && !list.before(1, LAST)
+        && list.label(0) < list.label(LAST)
+        && labels_fall(list)
+}
+
+fn most_are_reversed(alloc: Global) -> bool {
+    match inserted_after_first(alloc, LAST) {
+        Ok(list) => is_reversed(&list),
+        Err(NoMemory) => false,
+    }
 }
 
 #[test]
-fn later_elements_are_before_earlier_ones(rt: HostRuntime) -> Result<(), Fail> {
-    let list = inserted_after_first(rt.alloc(), LAST)?;
-    assert!(rt; list.before(0, 1) && list.before(LAST, 1) && !list.before(1, LAST));
-    assert!(rt; list.label(0) < list.label(LAST) && labels_fall(&list));
-    Ok(())
+fn later_elements_are_before_earlier_ones(rt: HostRuntime) {
+    assert!(rt; most_are_reversed(rt.alloc()));
 }

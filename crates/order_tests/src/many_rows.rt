@@ -1,11 +1,10 @@
 //! Two million insertions in four patterns: the labels rise, and stay below their bound.
 
-ghost use Rattle.std.specs.Prelude.{◌≤◌};
+ghost use Rattle.std.specs.Prelude.{◌<◌, ◌≤◌};
 
 use om_list::om_list::OmList;
 use pipe_model::memory::NoMemory;
 use std::alloc::Global;
-use std::test::Fail;
 
 // The number of insertions; the elements are numbered from 0 to this.
 const MANY: u32 = 2_000_000;
@@ -15,7 +14,7 @@ const HALF: u32 = 1_000_000;
 const QUARTER: u32 = 500_000;
 
 // Where the elements are inserted.
-#[derive(Clone, Copy, PartialEq, Eq, Debug)]
+#[derive(Clone, Copy)]
 enum Pattern {
     AtEnd,
     // After element 0.
@@ -82,21 +81,46 @@ fn list_with(alloc: Global, pattern: Pattern) -> Result<OmList, NoMemory> {
     Ok(list)
 }
 
-#[test]
-fn labels_rise(rt: HostRuntime) -> Result<(), Fail> {
-    for pattern in &PATTERNS {
-        let pattern = *pattern;
-        let list = list_with(rt.alloc(), pattern)?;
-        for sample in 0..2000 {
-            let n = 1000 * sample;
-            let (x, y) = (element_at(pattern, n), element_at(pattern, n + 1));
-            let are_there = x < list.len() && y < list.len();
-            assert!(rt;
-                are_there && list.label(x) < list.label(y),
-                "{pattern:?} {n}"
-            );
-            assert!(rt; list.label(y) < 1 << 62, "{pattern:?} {n}");
+// Whether element `n` of the list has a lesser label than the next one, which is below the bound.
+fn rises_at(list: &OmList, pattern: Pattern, n: u32) -> bool
+    requires { n < MANY }
+{
+    let (x, y) = (element_at(pattern, n), element_at(pattern, n + 1));
+    if x >= list.len() || y >= list.len() {
+        return false;
+    }
+    list.label(x) < list.label(y) && list.label(y) < 1 << 62
+}
+
+// The first of 2,000 samples at which the labels do not rise.
+fn first_fall(list: &OmList, pattern: Pattern) -> Option<u32> {
+    for sample in 0..2000 {
+        if !rises_at(list, pattern, 1000 * sample) {
+            return Some(sample);
         }
     }
-    Ok(())
+    None
+}
+
+fn first_fall_of(alloc: Global, pattern: Pattern) -> Option<u32> {
+    match list_with(alloc, pattern) {
+        Ok(list) => first_fall(&list, pattern),
+        Err(NoMemory) => Some(MANY),
+    }
+}
+
+// The first pattern and sample at which the labels do not rise; `MANY` if memory runs out.
+fn first_fall_of_all(alloc: Global) -> Option<(usize, u32)> {
+    for (number, pattern) in PATTERNS.iter().enumerate() {
+        if let Some(sample) = first_fall_of(alloc, *pattern) {
+            return Some((number, sample));
+        }
+    }
+    None
+}
+
+#[test]
+fn labels_rise(rt: HostRuntime) {
+    let fall = first_fall_of_all(rt.alloc());
+    assert!(rt; fall.is_none(), "{fall:?}");
 }

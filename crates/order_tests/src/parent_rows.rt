@@ -5,7 +5,6 @@ ghost use Rattle.std.specs.Prelude.{◌<◌, ◌<ℤ◌, ℕ, length, pos, slice
 ghost use Rattle.std.specs.Bool.{OnTrue};
 
 use left_parent::search::find;
-use std::test::Fail;
 
 // Whether the number at index `k` is greater than all before it.
 fn is_above(numbers: &[i64], k: usize) -> bool
@@ -40,12 +39,23 @@ const ROWS: [(&[i64], i64, u32, Option<u32>); 4] = [
     (&[0, 1, 2], 7, 0, Some(2)),
 ];
 
-#[test]
-fn left_parents_are_found(rt: HostRuntime) -> Result<(), Fail> {
-    for row in &ROWS {
-        let (numbers, s, joined, parent) = *row;
-        assert!(rt; are_rising(numbers) && numbers.len() < 10);
-        assert_eq!(rt; find(numbers, s, joined), parent, "{s} {joined}");
+// Whether this is the left parent that is found.
+fn is_parent(numbers: &[i64], s: i64, joined: u32, parent: Option<u32>) -> bool {
+    are_rising(numbers) && numbers.len() < 10 && find(numbers, s, joined) == parent
+}
+
+// The first row with another left parent.
+fn first_other() -> Option<usize> {
+    for (index, (numbers, s, joined, parent)) in ROWS.iter().enumerate() {
+        if !is_parent(numbers, *s, *joined, *parent) {
+            return Some(index);
+        }
     }
-    Ok(())
+    None
+}
+
+#[test]
+fn left_parents_are_found(rt: HostRuntime) {
+    let other = first_other();
+    assert!(rt; other.is_none(), "{other:?}");
 }

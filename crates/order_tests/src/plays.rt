@@ -33,7 +33,7 @@ const FIRST: Node = Node {
 pub(crate) type Stages = (&'static [(Kind, i64)], ColumnEnd);
 
 /// The order in which iterations take turns.
-#[derive(Clone, Copy, PartialEq, Eq, Debug)]
+#[derive(Clone, Copy)]
 pub(crate) enum Turns {
     /// The leftmost iteration goes on, as in the serial elision.
     Leftmost,

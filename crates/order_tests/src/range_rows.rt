@@ -8,7 +8,6 @@ use om_relabel::links::{END, Links};
 use om_relabel::spreading::spread;
 use pipe_model::memory::NoMemory;
 use std::alloc::Global;
-use std::test::Fail;
 
 // The list after 62 insertions after element 0: the elements 0, 62, 61, .., 1. Each new element has half
 // of the label of the one before it.
@@ -100,23 +99,31 @@ fn crowded(alloc: Global) -> Result<Links, NoMemory>
     })
 }
 
+// The least sparse range around label 0.
+const CHOSEN: LabelRange = LabelRange {
+    first: 0,
+    count: 4,
+    low: 0,
+    bits: 3,
+};
+
+fn is_chosen(alloc: Global) -> bool {
+    match crowded(alloc) {
+        Ok(links) => choose_range(&links, 0) == CHOSEN,
+        Err(NoMemory) => false,
+    }
+}
+
+// Whether the elements of `CHOSEN` are given these labels.
+fn are_spread() -> bool {
+    spread(&CHOSEN, 0) == 0
+        && spread(&CHOSEN, 1) == 2
+        && spread(&CHOSEN, 2) == 4
+        && spread(&CHOSEN, 3) == 6
+}
+
 // Of the aligned ranges around label 0, those of 2 and of 4 labels have too many elements.
 #[test]
-fn labels_are_spread_over_the_least_sparse_range(rt: HostRuntime) -> Result<(), Fail> {
-    let links = crowded(rt.alloc())?;
-    let chosen = LabelRange {
-        first: 0,
-        count: 4,
-        low: 0,
-        bits: 3,
-    };
-    assert_eq!(rt; choose_range(&links, 0), chosen);
-    let labels = [
-        spread(&chosen, 0),
-        spread(&chosen, 1),
-        spread(&chosen, 2),
-        spread(&chosen, 3),
-    ];
-    assert_eq!(rt; labels, [0, 2, 4, 6]);
-    Ok(())
+fn labels_are_spread_over_the_least_sparse_range(rt: HostRuntime) {
+    assert!(rt; is_chosen(rt.alloc()) && are_spread());
 }

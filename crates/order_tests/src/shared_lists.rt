@@ -2,6 +2,8 @@
 
 ghost use Rattle.std.specs.Prelude.{◌≡◌, ◌<◌, ◌≤◌, [], IfOk};
 ghost use Rattle.om_relabel.specs.declared.links.TheConstants.{MOST_ELEMENTS};
+ghost use Rattle.order_2d.specs.OrderPairs.{HasRoom};
+ghost use Rattle.order_2d.specs.SeenOrders.{AreOf};
 
 use om_relabel::links::MOST_ELEMENTS;
 use om_shared::writer::{OmWriter, start};
@@ -36,7 +38,7 @@ mod tests {
     use order_2d::two_passes::Asking;
     use pipe_model::marks::{Marks, Placeholder};
     use pipe_model::orders::Orders;
-    use std::test::Fail;
+    use std::sync::Wait;
 
     const ZERO: Placeholder = Placeholder {
         down_first: 0,
@@ -51,35 +53,60 @@ mod tests {
         right: ZERO,
     };
 
-    #[test]
-    fn passes_are_asked_about_both_lists(rt: HostRuntime) -> Result<(), Fail> {
-        let (_orders, mut passes) = shared_orders(rt.alloc(), 8)?;
-        let mut asking = Asking {
-            rt: &rt,
-            passes: &mut passes,
-        };
-        assert!(rt; !asking.down_before(&FIRST, &FIRST) && !asking.right_before(&FIRST, &FIRST));
-        Ok(())
+    // Whether the instance is before itself in one of the lists.
+    fn is_before_itself<R: Wait>(rt: &R, passes: &mut TwoPasses) -> bool
+        requires { (passes.old.down_log ≡ []) × (passes.old.right_log ≡ []) }
+    {
+        let mut asking = Asking { rt, passes };
+        asking.down_before(&FIRST, &FIRST) || asking.right_before(&FIRST, &FIRST)
     }
 
-    #[test]
-    fn two_lists_are_deferred_and_settled(rt: HostRuntime) -> Result<(), Fail> {
-        let (mut orders, passes) = shared_orders(rt.alloc(), 8)?;
+    // Defers both lists, starts an instance, and settles them. Returns whether they were settled before
+    // that, and whether they are.
+    fn settled(orders: &mut TwoOrders<OmWriter>, passes: &TwoPasses) -> (bool, bool)
+        requires { HasRoom orders.old }
+    {
         orders.defer();
         orders.start_first();
-        assert!(rt; !passes.are_settled());
+        let before = passes.are_settled();
         orders.settle();
-        assert!(rt; passes.are_settled());
-        Ok(())
+        (before, passes.are_settled())
     }
 
+    // Whether the passes of two lists find an instance before itself, and whether the lists were settled
+    // before they are, and after that.
+    fn asked_and_settled<R: Wait>(rt: &R, alloc: Global) -> Result<(bool, (bool, bool)), NoMemory> {
+        let (mut orders, mut passes) = shared_orders(alloc, 8)?;
+        let before = is_before_itself(rt, &mut passes);
+        Ok((before, settled(&mut orders, &passes)))
+    }
+
+    // Both lists are asked, and then deferred and settled.
     #[test]
-    fn passes_of_two_lists_meet(rt: HostRuntime) -> Result<(), Fail> {
-        let (mut orders, mut early) = shared_orders(rt.alloc(), 8)?;
+    fn two_lists_are_asked_and_settled(rt: HostRuntime) {
+        let found = asked_and_settled(&rt, rt.alloc());
+        assert!(rt; found == Ok((false, (false, true))), "{found:?}");
+    }
+
+    // Shows later passes an instance, and has the early ones meet them.
+    fn meet(orders: &mut TwoOrders<OmWriter>, early: &mut TwoPasses) -> Result<(), NoMemory>
+        requires room { HasRoom orders.old }
+        requires early { AreOf early.old orders.old }
+    {
         let mut late = early.split()?;
         orders.start_first();
         orders.confirm(&mut late);
         early.meet(&mut late);
         Ok(())
+    }
+
+    fn met(alloc: Global) -> Result<(), NoMemory> {
+        let (mut orders, mut early) = shared_orders(alloc, 8)?;
+        meet(&mut orders, &mut early)
+    }
+
+    #[test]
+    fn passes_of_two_lists_meet(rt: HostRuntime) {
+        assert!(rt; met(rt.alloc()) == Ok(()));
     }
 }

@@ -83,7 +83,6 @@ mod tests {
     use om_shared::writer::start;
     use pipe_model::memory::NoMemory;
     use std::alloc::Global;
-    use std::test::Fail;
 
     const LAST: u32 = 100_000;
 
@@ -112,40 +111,103 @@ mod tests {
         true
     }
 
+    // Whether each of 62 elements has half of the label of the one before it.
+    fn are_halved(writer: &OmWriter) -> bool
+        requires log { length writer.now.log ≡ 62 }
+        requires settled { writer.now.pending ≡ [] }
+    {
+        for k in 0..62 {
+            if writer.label(k + 1) != 1 << (61 - k) {
+                return false;
+            }
+        }
+        true
+    }
+
+    // The labels of some elements after 63 insertions.
+    const NEW_LABELS: [(u32, u64); 6] = [(0, 0), (63, 1), (62, 2), (61, 4), (60, 6), (59, 8)];
+
+    // Inserts one element more. Returns whether the elements have their new labels.
+    fn moves_labels(writer: &mut OmWriter) -> bool
+        requires log { length writer.old.log ≡ 62 }
+        requires room { writer.old.capacity ≡ LAST + 1 }
+        requires plain { (writer.old.late ≡ false) × (writer.old.pending ≡ []) }
+    {
+        writer.insert_after(0);
+        writer.len() == 64 && has_labels(writer, &NEW_LABELS)
+    }
+
+    fn halves_and_moves(alloc: Global) -> bool {
+        match opened(alloc, 62) {
+            Ok((mut writer, _pass)) => are_halved(&writer) && moves_labels(&mut writer),
+            Err(NoMemory) => false,
+        }
+    }
+
     // Each label is half of the one before it. Then those of the last three elements, and no others,
     // move within the range of the 8 labels from 0 to 7.
     #[test]
-    fn labels_halve_until_none_is_free(rt: HostRuntime) -> Result<(), Fail> {
-        let (mut writer, _pass) = opened(rt.alloc(), 62)?;
-        for k in 0..62 {
-            assert!(rt; writer.label(k + 1) == 1 << (61 - k));
-        }
-        writer.insert_after(0);
-        let labels = [(0, 0), (63, 1), (62, 2), (61, 4), (60, 6), (59, 8)];
-        assert!(rt; writer.len() == 64 && has_labels(&writer, &labels));
-        Ok(())
+    fn labels_halve_until_none_is_free(rt: HostRuntime) {
+        assert!(rt; halves_and_moves(rt.alloc()));
     }
 
-    #[test]
-    fn pass_asks_while_elements_are_inserted(rt: HostRuntime) -> Result<(), Fail> {
-        let (writer, pass) = opened(rt.alloc(), 1)?;
-        let (mut writer, mut pass, always) = insert_beside(&rt, writer, pass, 1, LAST - 1, 0, 1);
-        assert!(rt; always);
-        writer.confirm(&mut pass);
-        assert!(rt; pass.precedes(&rt, LAST, 1) && !pass.precedes(&rt, 1, LAST));
-        Ok(())
-    }
-
-    #[test]
-    fn pass_meets_another_in_between(rt: HostRuntime) -> Result<(), Fail> {
-        let (writer, mut pass) = opened(rt.alloc(), 1)?;
-        let mut other = pass.split()?;
-        let (mut writer, mut pass, always) = insert_beside(&rt, writer, pass, 1, 49_999, 0, 1);
-        assert!(rt; always);
-        writer.confirm(&mut other);
-        pass.meet(&mut other);
+    // Inserts elements after the first `among` of a few in turn, up to `LAST`, while a pass asks whether `x`
+    // is before `y`. Returns whether it always is, and for two pairs whether the one is before the other.
+    fn asked_beside<R: Threads + Wait + Sync>(
+        rt: &R,
+        alloc: Global,
+        elements: u32,
+        among: u32,
+        asked: (u32, u32),
+        first: (u32, u32),
+        second: (u32, u32),
+    ) -> Result<(bool, bool, bool), NoMemory>
+        requires few { elements ≤ 62 }
+        requires among { (0 < among) × (among ≤ elements + 1) }
+        requires asked { (asked.0 ≤ elements) × (asked.1 ≤ elements) }
+        requires first { (first.0 ≤ LAST) × (first.1 ≤ LAST) }
+        requires second { (second.0 ≤ LAST) × (second.1 ≤ LAST) }
+    {
+        let (writer, pass) = opened(alloc, elements)?;
+        let inserts = LAST - elements;
         let (mut writer, mut pass, always) = insert_beside(
-            &rt,
+            rt, writer, pass, among, inserts, asked.0, asked.1,
+        );
+        writer.confirm(&mut pass);
+        let is_first = pass.precedes(rt, first.0, first.1);
+        Ok((always, is_first, pass.precedes(rt, second.0, second.1)))
+    }
+
+    #[test]
+    fn pass_asks_while_elements_are_inserted(rt: HostRuntime) {
+        let found = asked_beside(&rt, rt.alloc(), 1, 1, (0, 1), (LAST, 1), (1, LAST));
+        assert!(rt; found == Ok((true, true, false)), "{found:?}");
+    }
+
+    // The labels of the elements that the pass asks about move again and again.
+    #[test]
+    fn pass_asks_while_its_elements_get_new_labels(rt: HostRuntime) {
+        let found = asked_beside(&rt, rt.alloc(), 2, 3, (2, 1), (2, 1), (1, LAST));
+        assert!(rt; found == Ok((true, true, true)), "{found:?}");
+    }
+
+    // Inserts 49,999 elements while a pass asks; a second pass sees them, and the first meets it. Then
+    // inserts the others, while the pass asks about an element that it knows from there.
+    fn met_in_between<R: Threads + Wait + Sync>(
+        rt: &R,
+        writer: OmWriter,
+        pass: OmPass,
+        other: &mut OmPass,
+    ) -> (bool, bool, bool)
+        requires log { (length writer.log ≡ 1) × (pass.log ≡ writer.log) }
+        requires capacity { writer.capacity ≡ LAST + 1 }
+        requires table { (writer.table ≡ pass.table) × (other.old.table ≡ pass.table) }
+    {
+        let (mut writer, mut pass, first) = insert_beside(rt, writer, pass, 1, 49_999, 0, 1);
+        writer.confirm(other);
+        pass.meet(other);
+        let (mut writer, mut pass, second) = insert_beside(
+            rt,
             writer,
             pass,
             1,
@@ -153,21 +215,24 @@ mod tests {
             50_000,
             1,
         );
-        assert!(rt; always);
         writer.confirm(&mut pass);
-        assert!(rt; pass.precedes(&rt, LAST, 1) && other.precedes(&rt, 50_000, 1));
-        Ok(())
+        let ordered = pass.precedes(rt, LAST, 1) && other.precedes(rt, 50_000, 1);
+        (first, second, ordered)
     }
 
-    // The labels of the elements that the pass asks about move again and again.
+    fn met_by_another<R: Threads + Wait + Sync>(
+        rt: &R,
+        alloc: Global,
+    ) -> Result<(bool, bool, bool), NoMemory> {
+        let (writer, mut pass) = opened(alloc, 1)?;
+        let mut other = pass.split()?;
+        Ok(met_in_between(rt, writer, pass, &mut other))
+    }
+
     #[test]
-    fn pass_asks_while_its_elements_get_new_labels(rt: HostRuntime) -> Result<(), Fail> {
-        let (writer, pass) = opened(rt.alloc(), 2)?;
-        let (mut writer, mut pass, always) = insert_beside(&rt, writer, pass, 3, LAST - 2, 2, 1);
-        assert!(rt; always);
-        writer.confirm(&mut pass);
-        assert!(rt; pass.precedes(&rt, 2, 1) && pass.precedes(&rt, 1, LAST));
-        Ok(())
+    fn pass_meets_another_in_between(rt: HostRuntime) {
+        let found = met_by_another(&rt, rt.alloc());
+        assert!(rt; found == Ok((true, true, true)), "{found:?}");
     }
 
     // Inserts elements after the first `among` elements in turn.
@@ -230,27 +295,78 @@ mod tests {
         Ok((writer, pass))
     }
 
-    #[test]
-    fn late_labels_are_those_of_a_plain_list(rt: HostRuntime) -> Result<(), Fail> {
-        let plain = plain_list(rt.alloc())?;
-        let (writer, mut pass) = labelled_late(rt.alloc())?;
+    // The first element for which the lists differ.
+    fn first_other<R: Wait>(
+        rt: &R,
+        writer: &OmWriter,
+        pass: &mut OmPass,
+        plain: &OmList,
+    ) -> Option<u32>
+        requires settled { writer.now.pending ≡ [] }
+        requires writer { length writer.now.log ≡ 400 }
+        requires pass { length pass.old.log ≡ 400 }
+        requires plain { length plain.now.log ≡ 400 }
+    {
         for y in 0..401 {
-            assert!(rt; are_same(&rt, &writer, &mut pass, &plain, y), "{y}");
+            if !are_same(rt, writer, pass, plain, y) {
+                return Some(y);
+            }
         }
-        Ok(())
+        None
+    }
+
+    fn first_other_late<R: Wait>(rt: &R, alloc: Global, plain: &OmList) -> Option<u32>
+        requires { length plain.now.log ≡ 400 }
+    {
+        match labelled_late(alloc) {
+            Ok((writer, mut pass)) => first_other(rt, &writer, &mut pass, plain),
+            Err(NoMemory) => Some(401),
+        }
+    }
+
+    // The same of the lists with 400 insertions; 401 if memory runs out.
+    fn first_other_of_400<R: Wait>(rt: &R, alloc: Global) -> Option<u32> {
+        match plain_list(alloc) {
+            Ok(plain) => first_other_late(rt, alloc, &plain),
+            Err(NoMemory) => Some(401),
+        }
     }
 
     #[test]
-    fn passes_meet_before_labels_are_given(rt: HostRuntime) -> Result<(), Fail> {
-        let (mut writer, mut pass) = start(rt.alloc(), 401)?;
+    fn late_labels_are_those_of_a_plain_list(rt: HostRuntime) {
+        let other = first_other_of_400(&rt, rt.alloc());
+        assert!(rt; other.is_none(), "{other:?}");
+    }
+
+    // Inserts 200 elements that are late. Returns whether a pass that meets another one, which has seen them,
+    // finds the list settled, and whether it does after that, and the last element before the first.
+    fn meets_late<R: Wait>(
+        rt: &R,
+        writer: &mut OmWriter,
+        pass: &mut OmPass,
+    ) -> Result<(bool, bool), NoMemory>
+        requires log { writer.old.log ≡ [] }
+        requires capacity { writer.old.capacity ≡ 401 }
+        requires table { writer.old.table ≡ pass.old.table }
+    {
         let mut other = pass.split()?;
         writer.defer();
-        insert_among(&mut writer, 1, 200);
+        insert_among(writer, 1, 200);
         writer.confirm(&mut other);
         pass.meet(&mut other);
-        assert!(rt; !pass.is_settled());
+        let before = pass.is_settled();
         writer.settle();
-        assert!(rt; pass.is_settled() && pass.precedes(&rt, 200, 1));
-        Ok(())
+        Ok((before, pass.is_settled() && pass.precedes(rt, 200, 1)))
+    }
+
+    fn met_late<R: Wait>(rt: &R, alloc: Global) -> Result<(bool, bool), NoMemory> {
+        let (mut writer, mut pass) = start(alloc, 401)?;
+        meets_late(rt, &mut writer, &mut pass)
+    }
+
+    #[test]
+    fn passes_meet_before_labels_are_given(rt: HostRuntime) {
+        let found = met_late(&rt, rt.alloc());
+        assert!(rt; found == Ok((false, true)), "{found:?}");
     }
 }

@@ -1,6 +1,6 @@
 -- The pass has seen all insertions.
 use Rattle.std.proofs.Common.{◌≡◌, length}
-use Rattle.order_tests.proofs.shared_rows.tests.late_labels_are_those_of_a_plain_list.Given as goal
+use Rattle.order_tests.proofs.shared_rows.tests.first_other.Given as goal
 
 abbrev pub invariant-loop-y : goal.invariant-loop-y
 invariant-loop-y g l = length l.pass.log ≡ 400
