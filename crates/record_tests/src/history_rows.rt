@@ -3,6 +3,8 @@
 //! column and between the heads, an edge leads from (0, 1) to (1, 1) and from there to (2, 1).
 
 ghost use Rattle.std.specs.Prelude.{◌≡◌};
+ghost use Rattle.access_history.specs.KeptInstances.{KeptAreIn, nothing_kept};
+ghost use Rattle.pipe_model.specs.Orders.GrowingLists.{AreIn};
 
 use crate::listed_orders::ListedOrders;
 use access_history::history::{Found, History, MarkedNode, Verdict};
@@ -10,7 +12,6 @@ use pipe_model::access::AccessKind;
 use pipe_model::access::AccessKind::{Read, Write};
 use pipe_model::marks::{Marks, Placeholder};
 use pipe_model::node::NodeId;
-use std::test::Fail;
 
 // The instances, by iteration and index. Each has the element of its number in both lists.
 const INSTANCES: [(u32, u32); 8] = [
@@ -98,43 +99,66 @@ fn who(number: u32) -> MarkedNode {
     }
 }
 
-// Notes the accesses, with the joined indices if they are known. Returns the history, and the number
-// of the first access that races, with the earlier access.
-fn noted(
-    accesses: Accesses,
-    known: bool,
-) -> Result<(History, Option<(usize, NodeId, AccessKind)>), Fail> {
+// The first access that races, by its number, with the earlier access.
+type First = (usize, NodeId, AccessKind);
+
+// Notes an access, with the joined index if it is known. Returns the earlier access, if it races.
+fn note(
+    history: &mut History,
+    orders: &mut ListedOrders<'_>,
+    new: MarkedNode,
+    kind: AccessKind,
+    joined: Option<Option<u32>>,
+) -> Option<(NodeId, AccessKind)>
+    requires kept { KeptAreIn orders.old.down.now orders.old.right.now history.old }
+    requires new { AreIn orders.old.down.now orders.old.right.now new.marks }
+    ensures kept { KeptAreIn orders.new.down.now orders.new.right.now history.new }
+{
+    let verdict = match joined {
+        Some(joined) => history.note_joined(new, joined, kind, orders),
+        None => history.note(new, kind, orders),
+    };
+    match verdict {
+        Verdict::Race(x, earlier) => Some((x, earlier)),
+        Verdict::Clean => None,
+    }
+}
+
+// Notes the accesses, with the joined indices if they are known. Returns the first access that races, if
+// there is one; nothing at all if an instance is in no list.
+fn noted(history: &mut History, accesses: Accesses, known: bool) -> Option<Option<First>>
+    requires { history.old ≡ nothing_kept }
+{
     let mut orders = ListedOrders {
         down: &DOWN_FIRST,
         right: &RIGHT_FIRST,
     };
-    let mut history = History::new();
     let mut first = None;
     for (n, (number, kind)) in accesses.iter().enumerate() {
         let new = who(*number);
         if !orders.has(&new.marks) {
-            return Err(Fail::new(format_args!("no such instance")));
+            return None;
         }
-        let verdict = if known {
-            let joined = JOINED.get(*number as usize).copied();
-            history.note_joined(new, joined, *kind, &mut orders)
+        let joined = if known {
+            Some(JOINED.get(*number as usize).copied())
         } else {
-            history.note(new, *kind, &mut orders)
+            None
         };
-        if let (None, Verdict::Race(x, earlier)) = (first, verdict) {
+        if let (None, Some((x, earlier))) = (
+            first,
+            note(history, &mut orders, new, *kind, joined),
+        ) {
             first = Some((n, x, earlier));
         }
     }
-    Ok((history, first))
+    Some(first)
 }
 
 // The report of a race among the accesses.
-fn report_of(accesses: Accesses, race: Race) -> Result<Found, Fail> {
+fn report_of(accesses: Accesses, race: Race) -> Option<Found> {
     let (racing, number, earlier_kind) = race;
-    let Some((later, later_kind)) = accesses.get(racing) else {
-        return Err(Fail::new(format_args!("no such access")));
-    };
-    Ok(Found {
+    let (later, later_kind) = accesses.get(racing)?;
+    Some(Found {
         earlier: name(number),
         earlier_kind,
         later: name(*later),
@@ -143,33 +167,53 @@ fn report_of(accesses: Accesses, race: Race) -> Result<Found, Fail> {
 }
 
 // Whether the first race of the accesses is this, or there is none, and the history reports it.
-fn has_first_race(accesses: Accesses, known: bool, race: Option<Race>) -> Result<bool, Fail> {
-    let (history, first) = noted(accesses, known)?;
+fn has_first_race(accesses: Accesses, known: bool, race: Option<Race>) -> bool {
+    let mut history = History::new();
+    let first = noted(&mut history, accesses, known);
     match race {
         Some((racing, number, kind)) => {
-            let report = report_of(accesses, (racing, number, kind))?;
-            Ok(first == Some((racing, name(number), kind)) && history.report == Some(report))
+            let report = report_of(accesses, (racing, number, kind));
+            first == Some(Some((racing, name(number), kind)))
+                && report.is_some()
+                && history.report == report
         }
-        None => Ok(first.is_none() && history.report.is_none()),
+        None => first == Some(None) && history.report.is_none(),
     }
 }
 
-#[test]
-fn first_races_are_found(rt: HostRuntime) -> Result<(), Fail> {
-    for (k, (accesses, race)) in RACES.into_iter().enumerate() {
-        for known in [false, true] {
-            assert!(rt; has_first_race(accesses, known, Some(race))?, "{k} {known}");
+// Whether this is so with and without the joined indices.
+fn has_first_race_twice(accesses: Accesses, race: Option<Race>) -> bool {
+    has_first_race(accesses, false, race) && has_first_race(accesses, true, race)
+}
+
+// The first row of `RACES` with another first race.
+fn first_other_race() -> Option<usize> {
+    for (k, (accesses, race)) in RACES.iter().enumerate() {
+        if !has_first_race_twice(accesses, Some(*race)) {
+            return Some(k);
         }
     }
-    Ok(())
+    None
+}
+
+// The first row of `NO_RACES` with a race.
+fn first_race_of_none() -> Option<usize> {
+    for (k, accesses) in NO_RACES.iter().enumerate() {
+        if !has_first_race_twice(accesses, None) {
+            return Some(k);
+        }
+    }
+    None
 }
 
 #[test]
-fn ordered_accesses_do_not_race(rt: HostRuntime) -> Result<(), Fail> {
-    for (k, accesses) in NO_RACES.into_iter().enumerate() {
-        for known in [false, true] {
-            assert!(rt; has_first_race(accesses, known, None)?, "{k} {known}");
-        }
-    }
-    Ok(())
+fn first_races_are_found(rt: HostRuntime) {
+    let other = first_other_race();
+    assert!(rt; other.is_none(), "{other:?}");
+}
+
+#[test]
+fn ordered_accesses_do_not_race(rt: HostRuntime) {
+    let other = first_race_of_none();
+    assert!(rt; other.is_none(), "{other:?}");
 }

@@ -8,11 +8,11 @@ use pipe_model::column::{Column, ColumnEnd};
 use pipe_model::event::Event::{Advance, Begin, Enter, Finish};
 use pipe_model::event::{Event, RunLog};
 use pipe_model::list::ListOf;
+use pipe_model::memory::NoMemory;
 use pipe_model::node::{Kind, Node, NodeId};
 use pipe_model::ticket::{BookEntry, BookLog, ShardEntry, ShardLog};
 use run_record::merge::merge;
 use std::alloc::{AllocError, Global};
-use std::test::Fail;
 
 fn write(cell: u32, value: i64) -> Access {
     Access {
@@ -85,12 +85,6 @@ fn shards(alloc: Global) -> Result<Vec<ShardLog>, AllocError>
     Ok(logs)
 }
 
-fn merged(alloc: Global) -> Result<RunLog, Fail> {
-    let book = book(alloc)?;
-    let shards = shards(alloc)?;
-    Ok(merge(alloc, book, shards)?)
-}
-
 fn wanted() -> [Event; 11] {
     [
         Begin(0),
@@ -107,26 +101,44 @@ fn wanted() -> [Event; 11] {
     ]
 }
 
+const HEAD: Node = Node {
+    number: 0,
+    kind: Kind::Zero,
+};
+
+const SECOND: Node = Node {
+    number: 4,
+    kind: Kind::Continue,
+};
+
 // Whether a column has these nodes and this end.
 fn is_column(column: &Column, nodes: &[Node], end: ColumnEnd) -> bool {
     column.nodes.as_slice() == nodes && column.end == Some(end)
 }
 
-#[test]
-fn equal_tickets_keep_the_order_of_logs(rt: HostRuntime) -> Result<(), Fail> {
-    let log = merged(rt.alloc())?;
-    assert!(rt; log.events.as_slice() == wanted().as_slice());
-    let head = Node {
-        number: 0,
-        kind: Kind::Zero,
-    };
-    let second = Node {
-        number: 4,
-        kind: Kind::Continue,
-    };
+// Whether the log has the events in the order of their tickets, and the columns of these.
+fn is_merged(log: &RunLog) -> bool {
     let columns = log.columns.as_slice();
-    assert!(rt; columns.len() == 2);
-    assert!(rt; is_column(&columns[0], &[head, second], ColumnEnd::End));
-    assert!(rt; is_column(&columns[1], &[head], ColumnEnd::Closed));
-    Ok(())
+    columns.len() == 2
+        && log.events.as_slice() == wanted().as_slice()
+        && is_column(&columns[0], &[HEAD, SECOND], ColumnEnd::End)
+        && is_column(&columns[1], &[HEAD], ColumnEnd::Closed)
+}
+
+fn merged(alloc: Global) -> Result<RunLog, NoMemory> {
+    let book = book(alloc)?;
+    let shards = shards(alloc)?;
+    Ok(merge(alloc, book, shards)?)
+}
+
+fn logs_are_merged(alloc: Global) -> bool {
+    match merged(alloc) {
+        Ok(log) => is_merged(&log),
+        Err(NoMemory) => false,
+    }
+}
+
+#[test]
+fn equal_tickets_keep_the_order_of_logs(rt: HostRuntime) {
+    assert!(rt; logs_are_merged(rt.alloc()));
 }

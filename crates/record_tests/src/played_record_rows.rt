@@ -18,7 +18,6 @@ use run_record::log_text;
 use schedule_play::program_play::{Played, play};
 use stage_code::lower::lower;
 use std::alloc::Global;
-use std::test::Fail;
 
 // Two iterations may access `s`, and emit, in either order.
 const RACING_SUMS: &str =
@@ -52,71 +51,91 @@ fn printed(alloc: Global, checked: &Checked, played: &Played) -> Result<Vec<u8>,
     Ok(record)
 }
 
-// Whether events are those of a finished run with these races, of which there are some.
-fn are_finished(
-    alloc: Global,
-    checked: &Checked,
-    events: &Events,
-    races: &Reports,
-) -> Result<bool, NoMemory>
+// Whether the answer is a finished run with these races, of which there are some.
+fn is_run_with(answer: &RecordAnswer, races: &Reports) -> bool {
+    match answer {
+        RecordAnswer::Run(kind, _, reports) => {
+            *kind == RunKind::Finished
+                && !reports.is_empty()
+                && reports.as_slice() == races.as_slice()
+        }
+        RecordAnswer::NotAllowed(_) => false,
+    }
+}
+
+// Whether events are those of a finished run with these races.
+fn are_finished(alloc: Global, checked: &Checked, events: &Events, races: &Reports) -> bool
     requires accepted { BreaksNoRule (tree_of checked.now) }
     requires short { length events.now < 2 ^ 32 }
 {
-    let code = lower(alloc, checked)?;
+    let Ok(code) = lower(alloc, checked) else {
+        return false;
+    };
     let input = Numbers::new(alloc);
-    match check_record(alloc, checked, &code, &input, 16, events)? {
-        RecordAnswer::Run(kind, _, reports) => {
-            Ok(
-                kind == RunKind::Finished
-                    && !reports.is_empty()
-                    && reports.as_slice() == races.as_slice(),
-            )
-        }
-        RecordAnswer::NotAllowed(_) => Ok(false),
+    match check_record(alloc, checked, &code, &input, 16, events) {
+        Ok(answer) => is_run_with(&answer, races),
+        Err(NoMemory) => false,
     }
 }
 
 // Whether a record is one of a finished run with these races.
-fn is_finished(
-    alloc: Global,
-    checked: &Checked,
-    record: &[u8],
-    races: &Reports,
-) -> Result<bool, NoMemory>
+fn is_finished(alloc: Global, checked: &Checked, record: &[u8], races: &Reports) -> bool
     requires { BreaksNoRule (tree_of checked.now) }
 {
     match parse_record(alloc, record, checked) {
         Ok(events) => are_finished(alloc, checked, &events, races),
-        Err(_) => Ok(false),
+        Err(_) => false,
     }
 }
 
-// Plays an accepted program. Returns whether what is printed of it is a record of a finished run, with the
-// same races.
-fn is_confirmed(
-    alloc: Global,
-    checked: &Checked,
-    workers: u32,
-    choice: u32,
-) -> Result<bool, NoMemory>
-    requires accepted { BreaksNoRule (tree_of checked.now) }
-    requires workers { 0 < workers }
+// Whether what is printed of a play is a record of a finished run, with the same races.
+fn is_record(alloc: Global, checked: &Checked, played: &Played) -> bool
+    requires { BreaksNoRule (tree_of checked.now) }
 {
-    let played = play_of(alloc, checked, workers, choice)?;
-    let record = printed(alloc, checked, &played)?;
-    is_finished(alloc, checked, record.as_slice(), &played.reports)
+    match printed(alloc, checked, played) {
+        Ok(record) => is_finished(alloc, checked, record.as_slice(), &played.reports),
+        Err(NoMemory) => false,
+    }
+}
+
+// The same for a play of an accepted program.
+fn is_confirmed(alloc: Global, checked: &Checked, workers: u32, choice: u32) -> bool
+    requires accepted { BreaksNoRule (tree_of checked.now) }
+{
+    if workers == 0 {
+        return false;
+    }
+    match play_of(alloc, checked, workers, choice) {
+        Ok(played) => is_record(alloc, checked, &played),
+        Err(NoMemory) => false,
+    }
+}
+
+// Workers, and a choice that is taken each time.
+const PLAYS: [(u32, u32); 6] = [(1, 0), (4, 0), (1, 1), (4, 1), (1, 59), (4, 59)];
+
+// The first play that is not confirmed.
+fn first_other(alloc: Global, checked: &Checked) -> Option<usize>
+    requires { BreaksNoRule (tree_of checked.now) }
+{
+    for (index, (workers, choice)) in PLAYS.iter().enumerate() {
+        if !is_confirmed(alloc, checked, *workers, *choice) {
+            return Some(index);
+        }
+    }
+    None
+}
+
+// The same for the program of `RACING_SUMS`; the number of plays if it is refused.
+fn first_other_of_sums(alloc: Global) -> Option<usize> {
+    match accepted(alloc, RACING_SUMS.as_bytes()) {
+        Some(checked) => first_other(alloc, &checked),
+        None => Some(PLAYS.len()),
+    }
 }
 
 #[test]
-fn played_runs_are_confirmed(rt: HostRuntime) -> Result<(), Fail> {
-    let checked = accepted(rt.alloc(), RACING_SUMS.as_bytes())?;
-    for choice in [0, 1, 59] {
-        for workers in [1, 4] {
-            assert!(rt;
-                is_confirmed(rt.alloc(), &checked, workers, choice)?,
-                "{choice}"
-            );
-        }
-    }
-    Ok(())
+fn played_runs_are_confirmed(rt: HostRuntime) {
+    let other = first_other_of_sums(rt.alloc());
+    assert!(rt; other.is_none(), "{other:?}");
 }

@@ -4,18 +4,19 @@ ghost use Rattle.std.specs.Prelude.{◌<◌, ◌≤◌, ◌^◌, length};
 ghost use Rattle.pipe_model.specs.Language.CheckingRules.{BreaksNoRule};
 ghost use Rattle.pipe_model.specs.Language.SyntaxTree.{tree_of};
 
+use self::Outcome::{BadLine, NotAllowed, Run};
 use crate::sources::accepted;
 use pipe_check::checked::Checked;
 use pipe_model::event::Events;
 use pipe_model::list::Numbers;
 use pipe_model::memory::NoMemory;
+use record_check::answer::RunKind::{Finished, Stopped, Unfinished};
 use record_check::answer::{RecordAnswer, RunKind};
 use record_check::check_record::check_record;
 use record_parser::fault::RecordFault;
 use record_parser::parse::parse_record;
 use stage_code::lower::lower;
 use std::alloc::Global;
-use std::test::Fail;
 
 const COUNTING: &str = "limits iterations 1, stages 2, steps 50, emits 1; \
     cell n = 0; pipe_while (n < 1) { n = 1; pipe_wait(1); emit n; }";
@@ -36,146 +37,165 @@ const LINES: [&str; 12] = [
 ];
 
 // What a record is.
-#[derive(Clone, Copy, PartialEq, Eq, Debug)]
+#[derive(Clone, Copy, PartialEq, Eq)]
 enum Outcome {
+    // A run with a log of the same events, and no race.
     Run(RunKind),
     NotAllowed(u32),
     BadLine(u32),
+    // Something else: the record is not read, the log or the races are wrong, or memory runs out.
+    Other,
+}
+
+// Some lines, from a first one up to another, that others stand in place of; the throttling limit; and
+// what the record is.
+type Row = (usize, usize, &'static [&'static str], u32, Outcome);
+
+const ROWS: [Row; 33] = [
+    // All lines, all but the last, and none.
+    (12, 12, &[], 1024, Run(Finished)),
+    (11, 12, &[], 1024, Run(Unfinished)),
+    (0, 12, &[], 1, Run(Unfinished)),
+    // Another first line, with two before it.
+    (
+        0,
+        1,
+        &["1\n", "begin 0\n", "read 0 m 0\n"],
+        1024,
+        BadLine(2),
+    ),
+    // A stop ends a run.
+    (11, 12, &["stop\n"], 2, Run(Stopped)),
+    (3, 4, &["stop\n"], 2, NotAllowed(4)),
+    // A line is dropped. Without the end of iteration 0 the other events are still a run, in which it is alive.
+    (0, 1, &[], 1024, NotAllowed(0)),
+    (1, 2, &[], 1024, NotAllowed(1)),
+    (2, 3, &[], 1024, NotAllowed(2)),
+    (3, 4, &[], 1024, NotAllowed(3)),
+    (4, 5, &[], 1024, NotAllowed(4)),
+    (5, 6, &[], 1024, NotAllowed(5)),
+    (6, 7, &[], 1024, NotAllowed(6)),
+    (7, 8, &[], 1024, NotAllowed(7)),
+    (8, 9, &[], 1024, Run(Unfinished)),
+    (9, 10, &[], 1024, NotAllowed(9)),
+    (10, 11, &[], 1024, NotAllowed(10)),
+    (11, 12, &[], 1024, Run(Unfinished)),
+    (8, 9, &[], 1, NotAllowed(8)),
+    // A line is doubled.
+    (0, 0, &["begin 0\n"], 1024, NotAllowed(1)),
+    (1, 1, &["read 0 n 0\n"], 1024, NotAllowed(2)),
+    (2, 2, &["write 0 n 1\n"], 1024, NotAllowed(3)),
+    (3, 3, &["wait 0 1\n"], 1024, NotAllowed(4)),
+    (4, 4, &["enter 0\n"], 1024, NotAllowed(5)),
+    (5, 5, &["read 0 n 1\n"], 1024, NotAllowed(6)),
+    (6, 6, &["read 0 output 0\n"], 1024, NotAllowed(7)),
+    (7, 7, &["write 0 output 1\n"], 1024, NotAllowed(8)),
+    (8, 8, &["end 0\n"], 1024, NotAllowed(9)),
+    (9, 9, &["begin 1\n"], 1024, NotAllowed(10)),
+    (10, 10, &["read 1 n 1\n"], 1024, NotAllowed(11)),
+    (11, 11, &["closed 1\n"], 1024, NotAllowed(12)),
+    // A value that was not read.
+    (5, 6, &["read 0 n 2\n"], 1024, NotAllowed(5)),
+    // Another iteration.
+    (10, 11, &["read 0 n 1\n"], 1024, NotAllowed(10)),
+];
+
+// What the check of a record says, for a record with this many events.
+fn outcome_of(answer: &RecordAnswer, count: usize) -> Outcome {
+    match answer {
+        RecordAnswer::Run(kind, log, reports) => {
+            if log.events.len() != count || !reports.is_empty() {
+                return Outcome::Other;
+            }
+            Run(*kind)
+        }
+        RecordAnswer::NotAllowed(event) => NotAllowed(*event),
+    }
 }
 
 // Checks the events of a record of an accepted program, which has no race.
-fn outcome_of(
-    alloc: Global,
-    checked: &Checked,
-    throttle: u32,
-    events: &Events,
-) -> Result<Outcome, Fail>
+fn checked_events(alloc: Global, checked: &Checked, throttle: u32, events: &Events) -> Outcome
     requires accepted { BreaksNoRule (tree_of checked.now) }
     requires throttle { 0 < throttle }
     requires short { length events.now < 2 ^ 32 }
 {
-    let code = lower(alloc, checked)?;
+    let Ok(code) = lower(alloc, checked) else {
+        return Outcome::Other;
+    };
     let input = Numbers::new(alloc);
-    match check_record(alloc, checked, &code, &input, throttle, events)? {
-        RecordAnswer::Run(kind, log, reports) => {
-            if log.events.len() != events.len() || !reports.is_empty() {
-                return Err(Fail::new(format_args!("the log or the races are wrong")));
-            }
-            Ok(Outcome::Run(kind))
-        }
-        RecordAnswer::NotAllowed(event) => Ok(Outcome::NotAllowed(event)),
+    match check_record(alloc, checked, &code, &input, throttle, events) {
+        Ok(answer) => outcome_of(&answer, events.len()),
+        Err(NoMemory) => Outcome::Other,
     }
 }
 
-// Reads and checks a record of `COUNTING`.
-fn judged(alloc: Global, record: &[u8], throttle: u32) -> Result<Outcome, Fail>
-    requires { 0 < throttle }
+// Reads and checks a record of an accepted program.
+fn judged(alloc: Global, checked: &Checked, record: &[u8], throttle: u32) -> Outcome
+    requires accepted { BreaksNoRule (tree_of checked.now) }
+    requires throttle { 0 < throttle }
 {
-    let checked = accepted(alloc, COUNTING.as_bytes())?;
-    match parse_record(alloc, record, &checked) {
-        Ok(events) => outcome_of(alloc, &checked, throttle, &events),
-        Err(RecordFault::BadLine(line)) => Ok(Outcome::BadLine(line)),
-        Err(_) => Err(Fail::new(format_args!("the record is not read"))),
+    match parse_record(alloc, record, checked) {
+        Ok(events) => checked_events(alloc, checked, throttle, &events),
+        Err(RecordFault::BadLine(line)) => BadLine(line),
+        Err(_) => Outcome::Other,
     }
 }
 
-// Fails unless a record is this.
-fn expect(alloc: Global, record: &[u8], throttle: u32, wanted: Outcome) -> Result<(), Fail>
-    requires { 0 < throttle }
-{
-    let outcome = judged(alloc, record, throttle)?;
-    if outcome == wanted {
-        return Ok(());
-    }
-    Err(Fail::new(format_args!("{outcome:?}, and not {wanted:?}")))
-}
-
-fn joined(alloc: Global, lines: &[&str]) -> Result<Vec<u8>, NoMemory> {
-    let mut text = Vec::new(alloc);
+fn push_lines(text: &mut Vec<u8>, lines: &[&str]) -> Result<(), NoMemory> {
     for line in lines {
         text.extend_from_slice(line.as_bytes())?;
     }
+    Ok(())
+}
+
+// The twelve lines, with others in place of those from `first` up to `end`.
+fn changed(alloc: Global, first: usize, end: usize, lines: &[&str]) -> Result<Vec<u8>, NoMemory>
+    requires first { first ≤ 12 }
+    requires end { end ≤ 12 }
+{
+    let mut text = Vec::new(alloc);
+    push_lines(&mut text, &LINES[..first])?;
+    push_lines(&mut text, lines)?;
+    push_lines(&mut text, &LINES[end..])?;
     Ok(text)
 }
 
-// The twelve lines, with `change` in place of the line with this index.
-fn changed(alloc: Global, index: usize, change: &[&str]) -> Result<Vec<u8>, NoMemory> {
-    let mut lines = Vec::new(alloc);
-    for (k, line) in LINES.iter().enumerate() {
-        if k == index {
-            lines.extend_from_slice(change)?;
-        } else {
-            lines.push(*line)?;
+// Whether the record of a row is what the row says.
+fn is_judged(alloc: Global, checked: &Checked, row: &Row) -> bool
+    requires { BreaksNoRule (tree_of checked.now) }
+{
+    let (first, end, lines, throttle, wanted) = *row;
+    if first > 12 || end > 12 || throttle == 0 {
+        return false;
+    }
+    match changed(alloc, first, end, lines) {
+        Ok(record) => judged(alloc, checked, record.as_slice(), throttle) == wanted,
+        Err(NoMemory) => false,
+    }
+}
+
+// The first row that is judged otherwise.
+fn first_other(alloc: Global, checked: &Checked) -> Option<usize>
+    requires { BreaksNoRule (tree_of checked.now) }
+{
+    for (index, row) in ROWS.iter().enumerate() {
+        if !is_judged(alloc, checked, row) {
+            return Some(index);
         }
     }
-    joined(alloc, lines.as_slice())
+    None
 }
 
-// Fails unless the first of the twelve lines are a record of this.
-fn expect_front(alloc: Global, count: usize, wanted: Outcome) -> Result<(), Fail>
-    requires { count ≤ 12 }
-{
-    let record = joined(alloc, &LINES[..count])?;
-    expect(alloc, record.as_slice(), 1024, wanted)
-}
-
-// Fails unless the twelve lines, with `change` in place of the line with this index, are a record of this.
-fn expect_changed(
-    alloc: Global,
-    index: usize,
-    change: &[&str],
-    throttle: u32,
-    wanted: Outcome,
-) -> Result<(), Fail>
-    requires { 0 < throttle }
-{
-    let record = changed(alloc, index, change)?;
-    expect(alloc, record.as_slice(), throttle, wanted)
-}
-
-#[test]
-fn records_are_judged(rt: HostRuntime) -> Result<(), Fail> {
-    let alloc = rt.alloc();
-    expect_front(alloc, 12, Outcome::Run(RunKind::Finished))?;
-    expect_front(alloc, 11, Outcome::Run(RunKind::Unfinished))?;
-    expect(alloc, b"".as_slice(), 1, Outcome::Run(RunKind::Unfinished))?;
-    expect_changed(alloc, 4, &[], 1024, Outcome::NotAllowed(4))?;
-    let bad = ["1\n", "begin 0\n", "read 0 m 0\n"];
-    expect_changed(alloc, 0, &bad, 1024, Outcome::BadLine(2))
-}
-
-#[test]
-fn stops_end_a_run(rt: HostRuntime) -> Result<(), Fail> {
-    let alloc = rt.alloc();
-    expect_changed(alloc, 11, &["stop\n"], 2, Outcome::Run(RunKind::Stopped))?;
-    expect_changed(alloc, 3, &["stop\n"], 2, Outcome::NotAllowed(4))
-}
-
-// Without the end of iteration 0 the other events are still a run, in which it is alive.
-#[test]
-fn dropped_lines_are_missed(rt: HostRuntime) -> Result<(), Fail> {
-    for k in 0..12 {
-        let wanted = match k {
-            8 | 11 => Outcome::Run(RunKind::Unfinished),
-            _ => Outcome::NotAllowed(k as u32),
-        };
-        expect_changed(rt.alloc(), k, &[], 1024, wanted)?;
+// The same for the program of `COUNTING`; the number of rows if it is refused.
+fn first_other_of_counting(alloc: Global) -> Option<usize> {
+    match accepted(alloc, COUNTING.as_bytes()) {
+        Some(checked) => first_other(alloc, &checked),
+        None => Some(ROWS.len()),
     }
-    expect_changed(rt.alloc(), 8, &[], 1, Outcome::NotAllowed(8))
 }
 
 #[test]
-fn changed_records_are_refused(rt: HostRuntime) -> Result<(), Fail> {
-    let alloc = rt.alloc();
-    for (k, line) in LINES.into_iter().enumerate() {
-        expect_changed(
-            alloc,
-            k,
-            &[line, line],
-            1024,
-            Outcome::NotAllowed(k as u32 + 1),
-        )?;
-    }
-    expect_changed(alloc, 5, &["read 0 n 2\n"], 1024, Outcome::NotAllowed(5))?;
-    expect_changed(alloc, 10, &["read 0 n 1\n"], 1024, Outcome::NotAllowed(10))
+fn records_are_judged(rt: HostRuntime) {
+    let other = first_other_of_counting(rt.alloc());
+    assert!(rt; other.is_none(), "{other:?}");
 }

@@ -2,75 +2,77 @@
 
 use crate::sources::accepted;
 use pipe_check::checked::Checked;
-use pipe_model::access::{Access, AccessKind, CellId};
+use pipe_model::access::AccessKind::{Read, Write};
+use pipe_model::access::{Access, CellId};
 use pipe_model::column::ColumnEnd;
+use pipe_model::event::Event;
 use pipe_model::event::Event::{Advance, Begin, Enter, Finish, Stop};
-use pipe_model::event::{Event, Events};
-use pipe_model::memory::NoMemory;
 use pipe_model::node::Kind;
 use pipe_model::trap::Trap;
 use record_parser::bounds::LONGEST_RECORD;
 use record_parser::fault::RecordFault;
 use record_parser::parse::parse_record;
 use std::alloc::Global;
-use std::test::Fail;
 
 const SOURCE: &str = "limits iterations 1, stages 2, steps 50, emits 1; \
     cell n = 0; cell a[3] = 0; pipe_while (n < 1) { n = 1; pipe_wait(1); emit n; }";
 
-fn access(iteration: u32, cell: u32, kind: AccessKind, value: i64) -> Event {
-    let access = Access {
-        cell: CellId(cell),
-        kind,
-        value,
-    };
-    Event::Access(iteration, access)
-}
+const RECORD: &str =
+    "begin 0\nread 0 n -9223372036854775808\nwrite 7 a[2] 9223372036854775807\nread 1 input 3\n\
+    write 1 output 0\nwait 2 1\ncontinue 3 -2\nenter 4\nend 5\nclosed 65536\ntrap 6 DivZero\nstop";
 
-// Returns the number of events, or the line that is bad.
-fn read(alloc: Global, checked: &Checked, text: &[u8]) -> Result<Result<usize, u32>, Fail> {
+// The events of its lines.
+const EVENTS: [Event; 12] = [
+    Begin(0),
+    Event::Access(
+        0,
+        Access {
+            cell: CellId(2),
+            kind: Read,
+            value: i64::MIN,
+        },
+    ),
+    Event::Access(
+        7,
+        Access {
+            cell: CellId(5),
+            kind: Write,
+            value: i64::MAX,
+        },
+    ),
+    Event::Access(
+        1,
+        Access {
+            cell: CellId(0),
+            kind: Read,
+            value: 3,
+        },
+    ),
+    Event::Access(
+        1,
+        Access {
+            cell: CellId(1),
+            kind: Write,
+            value: 0,
+        },
+    ),
+    Advance(2, Kind::Wait, 1),
+    Advance(3, Kind::Continue, -2),
+    Enter(4),
+    Finish(5, ColumnEnd::End),
+    Finish(65_536, ColumnEnd::Closed),
+    Finish(6, ColumnEnd::Trapped(Trap::DivZero)),
+    Stop,
+];
+
+// Whether a text is a record of these events.
+fn has_events(alloc: Global, checked: &Checked, text: &[u8], events: &[Event]) -> bool {
     match parse_record(alloc, text, checked) {
-        Ok(events) => Ok(Ok(events.len())),
-        Err(RecordFault::BadLine(line)) => Ok(Err(line)),
-        Err(_) => Err(Fail::new(format_args!("the record is not read"))),
+        Ok(found) => found.as_slice() == events,
+        Err(_) => false,
     }
 }
 
-// The events of a record.
-fn events_of(alloc: Global, text: &str) -> Result<Events, Fail> {
-    let checked = accepted(alloc, SOURCE.as_bytes())?;
-    match parse_record(alloc, text.as_bytes(), &checked) {
-        Ok(events) => Ok(events),
-        Err(_) => Err(Fail::new(format_args!("the record is not read"))),
-    }
-}
-
-#[test]
-fn each_line_has_its_event(rt: HostRuntime) -> Result<(), Fail> {
-    let events = events_of(
-        rt.alloc(),
-        "begin 0\nread 0 n -9223372036854775808\nwrite 7 a[2] 9223372036854775807\nread 1 input 3\n\
-        write 1 output 0\nwait 2 1\ncontinue 3 -2\nenter 4\nend 5\nclosed 65536\ntrap 6 DivZero\nstop",
-    )?;
-    let wanted = [
-        Begin(0),
-        access(0, 2, AccessKind::Read, i64::MIN),
-        access(7, 5, AccessKind::Write, i64::MAX),
-        access(1, 0, AccessKind::Read, 3),
-        access(1, 1, AccessKind::Write, 0),
-        Advance(2, Kind::Wait, 1),
-        Advance(3, Kind::Continue, -2),
-        Enter(4),
-        Finish(5, ColumnEnd::End),
-        Finish(65_536, ColumnEnd::Closed),
-        Finish(6, ColumnEnd::Trapped(Trap::DivZero)),
-        Stop,
-    ];
-    assert!(rt; events.as_slice() == wanted.as_slice());
-    Ok(())
-}
-
-// Texts, each with its number of events, or with its first bad line.
 const TEXTS: [(&[u8], Result<usize, u32>); 21] = [
     (b"", Ok(0)),
     (b"begin 0", Ok(1)),
@@ -98,32 +100,60 @@ const TEXTS: [(&[u8], Result<usize, u32>); 21] = [
     (b"write 0 a 0\n", Err(0)),
 ];
 
-#[test]
-fn first_bad_line_is_found(rt: HostRuntime) -> Result<(), Fail> {
-    let checked = accepted(rt.alloc(), SOURCE.as_bytes())?;
-    for (k, (text, wanted)) in TEXTS.into_iter().enumerate() {
-        assert!(rt; read(rt.alloc(), &checked, text)? == wanted, "{k}");
+// Whether a text has this number of events, or this first bad line.
+fn is_read(alloc: Global, checked: &Checked, text: &[u8], wanted: Result<usize, u32>) -> bool {
+    match parse_record(alloc, text, checked) {
+        Ok(events) => wanted == Ok(events.len()),
+        Err(RecordFault::BadLine(line)) => wanted == Err(line),
+        Err(_) => false,
     }
-    Ok(())
 }
 
-// Line feeds.
-fn feeds(alloc: Global, count: usize) -> Result<Vec<u8>, NoMemory> {
-    Ok(Vec::from_elem(alloc, b'\n', count)?)
+// The first text with another number of events, or another first bad line.
+fn first_other(alloc: Global, checked: &Checked) -> Option<usize> {
+    for (k, (text, wanted)) in TEXTS.iter().enumerate() {
+        if !is_read(alloc, checked, text, *wanted) {
+            return Some(k);
+        }
+    }
+    None
 }
 
-// The fault of a record that consists of line feeds, if it has one.
-fn fault_of_feeds(alloc: Global, count: usize) -> Result<Option<RecordFault>, Fail> {
+// Whether the record has its events, and the first other text; nothing if the source is refused.
+fn texts_read(alloc: Global) -> Option<(bool, Option<usize>)> {
     let checked = accepted(alloc, SOURCE.as_bytes())?;
-    let text = feeds(alloc, count)?;
-    Ok(parse_record(alloc, text.as_slice(), &checked).err())
+    let right = has_events(alloc, &checked, RECORD.as_bytes(), &EVENTS);
+    Some((right, first_other(alloc, &checked)))
 }
 
 #[test]
-fn long_texts_are_refused(rt: HostRuntime) -> Result<(), Fail> {
-    let longest = fault_of_feeds(rt.alloc(), LONGEST_RECORD)?;
-    assert!(rt; longest == Some(RecordFault::BadLine(0)));
-    let longer = fault_of_feeds(rt.alloc(), LONGEST_RECORD + 1)?;
-    assert!(rt; longer == Some(RecordFault::TooLong));
-    Ok(())
+fn records_have_their_events(rt: HostRuntime) {
+    let found = texts_read(rt.alloc());
+    assert!(rt; found == Some((true, None)), "{found:?}");
+}
+
+// Whether a record of this many line feeds has this fault.
+fn feeds_have_fault(alloc: Global, checked: &Checked, count: usize, fault: RecordFault) -> bool {
+    match Vec::from_elem(alloc, b'\n', count) {
+        Ok(text) => parse_record(alloc, text.as_slice(), checked).err() == Some(fault),
+        Err(_) => false,
+    }
+}
+
+// Whether the longest record has a bad line, and a longer one is too long.
+fn lengths_are_bounded(alloc: Global, checked: &Checked) -> bool {
+    feeds_have_fault(alloc, checked, LONGEST_RECORD, RecordFault::BadLine(0))
+        && feeds_have_fault(alloc, checked, LONGEST_RECORD + 1, RecordFault::TooLong)
+}
+
+fn long_texts(alloc: Global) -> bool {
+    match accepted(alloc, SOURCE.as_bytes()) {
+        Some(checked) => lengths_are_bounded(alloc, &checked),
+        None => false,
+    }
+}
+
+#[test]
+fn long_texts_are_refused(rt: HostRuntime) {
+    assert!(rt; long_texts(rt.alloc()));
 }

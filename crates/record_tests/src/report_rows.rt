@@ -1,9 +1,10 @@
 //! The lines of races on each kind of cell, and the lines of a run with a trap.
 
 use crate::sources::accepted;
+use pipe_check::checked::Checked;
 use pipe_model::access::AccessKind::{Read, Write};
 use pipe_model::access::{AccessKind, CellId};
-use pipe_model::list::{Bytes, Numbers};
+use pipe_model::list::Numbers;
 use pipe_model::memory::NoMemory;
 use pipe_model::node::NodeId;
 use pipe_model::report::{Report, Reports};
@@ -11,7 +12,6 @@ use pipe_model::trap::{Trap, TrapAt, TrapPlace};
 use race_report::outcome::outcome_text;
 use race_report::race_text::text;
 use std::alloc::Global;
-use std::test::Fail;
 
 const SOURCE: &str = "limits iterations 8, stages 4, steps 100, emits 8; \
     cell s = 0; cell a[3] = 0; cell last = 0; pipe_while (s < 1) { s = 1; }";
@@ -56,18 +56,32 @@ fn reports(alloc: Global) -> Result<Reports, NoMemory> {
     Ok(reports)
 }
 
-// The lines of some reports.
-fn lines_of(alloc: Global, reports: &Reports) -> Result<Bytes, Fail> {
-    let checked = accepted(alloc, SOURCE.as_bytes())?;
-    Ok(text(alloc, reports, &checked)?)
+// Whether these are the lines of the reports, in a program with these cells.
+fn have_lines(alloc: Global, reports: &Reports, checked: &Checked) -> bool {
+    match text(alloc, reports, checked) {
+        Ok(lines) => lines.as_slice() == LINES.as_bytes(),
+        Err(NoMemory) => false,
+    }
+}
+
+// The same for the program of the source.
+fn source_has_lines(alloc: Global, reports: &Reports) -> bool {
+    match accepted(alloc, SOURCE.as_bytes()) {
+        Some(checked) => have_lines(alloc, reports, &checked),
+        None => false,
+    }
+}
+
+fn races_have_lines(alloc: Global) -> bool {
+    match reports(alloc) {
+        Ok(reports) => source_has_lines(alloc, &reports),
+        Err(NoMemory) => false,
+    }
 }
 
 #[test]
-fn races_name_their_cells(rt: HostRuntime) -> Result<(), Fail> {
-    let reports = reports(rt.alloc())?;
-    let lines = lines_of(rt.alloc(), &reports)?;
-    assert!(rt; lines.as_slice() == LINES.as_bytes());
-    Ok(())
+fn races_name_their_cells(rt: HostRuntime) {
+    assert!(rt; races_have_lines(rt.alloc()));
 }
 
 // The numbers 7 and -12.
@@ -78,14 +92,28 @@ fn output(alloc: Global) -> Result<Numbers, NoMemory> {
     Ok(output)
 }
 
-#[test]
-fn output_comes_before_the_trap(rt: HostRuntime) -> Result<(), Fail> {
-    let output = output(rt.alloc())?;
+const OUTCOME: &[u8] = b"7\n-12\ntrap DivZero at 1/4\n";
+
+// Whether the lines of the numbers and of a trap are those of `OUTCOME`.
+fn trap_comes_last(alloc: Global, output: &Numbers) -> bool {
     let trap = TrapAt {
         place: TrapPlace::At(second_of(1), 4),
         trap: Trap::DivZero,
     };
-    let lines = outcome_text(rt.alloc(), &output, Some(trap))?;
-    assert!(rt; lines.as_slice() == b"7\n-12\ntrap DivZero at 1/4\n".as_slice());
-    Ok(())
+    match outcome_text(alloc, output, Some(trap)) {
+        Ok(lines) => lines.as_slice() == OUTCOME,
+        Err(NoMemory) => false,
+    }
+}
+
+fn trap_comes_after_output(alloc: Global) -> bool {
+    match output(alloc) {
+        Ok(output) => trap_comes_last(alloc, &output),
+        Err(NoMemory) => false,
+    }
+}
+
+#[test]
+fn output_comes_before_the_trap(rt: HostRuntime) {
+    assert!(rt; trap_comes_after_output(rt.alloc()));
 }
