@@ -4,17 +4,15 @@ ghost use Rattle.std.specs.Prelude.{◌<◌};
 ghost use Rattle.pipe_model.specs.Language.CheckingRules.{BreaksNoRule};
 ghost use Rattle.pipe_model.specs.Language.SyntaxTree.{tree_of};
 
+use crate::plays::{limits, play_of};
 use crate::wave_sources::lowered;
 use pipe_check::checked::Checked;
-use pipe_model::list::Numbers;
 use pipe_model::memory::NoMemory;
 use pipe_model::node::NodeId;
 use pipe_model::trap::{Trap, TrapAt, TrapPlace};
 use race_report::race_text::text;
-use schedule_play::program_play::{Played, play};
-use stage_code::lower::lower;
+use schedule_play::program_play::Played;
 use std::alloc::Global;
-use std::test::Fail;
 
 // Paths from the upper left corner of a grid that lead down and to the right.
 const PATHS: &str = "limits iterations 3, stages 3, steps 100, emits 1; cell a[9] = 1; \
@@ -77,33 +75,6 @@ const ROWS: [Row; 10] = [
     (TRAP_IN_ROW_2, &[], Some((Trap::DivZero, 1, 2)), 4),
 ];
 
-// Plays an accepted program without an input.
-fn play_of(alloc: Global, checked: &Checked, workers: u32) -> Result<Played, NoMemory>
-    requires accepted { BreaksNoRule (tree_of checked.now) }
-    requires workers { 0 < workers }
-{
-    let code = lower(alloc, checked)?;
-    let input = Numbers::new(alloc);
-    play(
-        alloc,
-        checked,
-        &code,
-        &input,
-        workers,
-        workers,
-        &[],
-        1_000_000,
-    )
-}
-
-// Plays the lowered program of a source.
-fn played(alloc: Global, source: &[u8], workers: u32) -> Result<Played, Fail>
-    requires { 0 < workers }
-{
-    let checked = lowered(alloc, source)?;
-    Ok(play_of(alloc, &checked, workers)?)
-}
-
 // Returns the place of a trap in this column and this row.
 fn trap_at(trap: Option<(Trap, u32, u32)>) -> Option<TrapAt> {
     let (trap, iteration, index) = trap?;
@@ -114,81 +85,147 @@ fn trap_at(trap: Option<(Trap, u32, u32)>) -> Option<TrapAt> {
     })
 }
 
-// Plays the program of a row. Returns whether its grid was filled without a race, with the output, the trap
-// and the columns of the row.
-fn is_filled(alloc: Global, row: Row, workers: u32) -> Result<bool, Fail>
-    requires { 0 < workers }
+// Whether a grid was filled without a race, with the output, the trap and the columns of the row.
+fn is_filled(played: &Played, row: &Row) -> bool {
+    let (_, output, trap, columns) = *row;
+    played.finished
+        && played.reports.is_empty()
+        && played.output.as_slice() == output
+        && played.trap == trap_at(trap)
+        && played.run_log.columns.len() == columns
+}
+
+// Whether the program fills the grid of the row for this number of workers.
+fn fills(alloc: Global, checked: &Checked, row: &Row, workers: u32) -> bool
+    requires accepted { BreaksNoRule (tree_of checked.now) }
+    requires workers { 0 < workers }
 {
-    let (source, output, trap, columns) = row;
-    let played = played(alloc, source.as_bytes(), workers)?;
-    Ok(
-        played.finished
-            && played.reports.is_empty()
-            && played.output.as_slice() == output
-            && played.trap == trap_at(trap)
-            && played.run_log.columns.len() == columns,
-    )
+    match play_of(alloc, checked, limits(workers, workers, 1_000_000), &[]) {
+        Ok(played) => is_filled(&played, row),
+        Err(NoMemory) => false,
+    }
+}
+
+// Whether this is so for one worker and for eight.
+fn fills_twice(alloc: Global, checked: &Checked, row: &Row) -> bool
+    requires { BreaksNoRule (tree_of checked.now) }
+{
+    fills(alloc, checked, row, 1) && fills(alloc, checked, row, 8)
+}
+
+// The same for the lowered program of the row's source.
+fn row_fills(alloc: Global, row: &Row) -> bool {
+    match lowered(alloc, row.0.as_bytes()) {
+        Some(checked) => fills_twice(alloc, &checked, row),
+        None => false,
+    }
+}
+
+// The first row whose grid is filled otherwise.
+fn first_other(alloc: Global) -> Option<usize> {
+    for (index, row) in ROWS.iter().enumerate() {
+        if !row_fills(alloc, row) {
+            return Some(index);
+        }
+    }
+    None
 }
 
 #[test]
-fn grids_are_filled(rt: HostRuntime) -> Result<(), Fail> {
-    for (k, row) in ROWS.into_iter().enumerate() {
-        for workers in [1, 8] {
-            assert!(rt; is_filled(rt.alloc(), row, workers)?, "row {k}, {workers}");
+fn grids_are_filled(rt: HostRuntime) {
+    let other = first_other(rt.alloc());
+    assert!(rt; other.is_none(), "{other:?}");
+}
+
+const RACING_LINES: &[u8] = b"race s write 0/1 read 1/0\n";
+
+// Whether a play is finished without a trap, and has the lines of these races.
+fn has_races(alloc: Global, checked: &Checked, played: &Played) -> bool {
+    match text(alloc, &played.reports, checked) {
+        Ok(found) => {
+            played.finished && played.trap.is_none() && found.as_slice() == RACING_LINES
         }
+        Err(NoMemory) => false,
+    }
+}
+
+fn plays_with_races(alloc: Global, checked: &Checked) -> bool
+    requires { BreaksNoRule (tree_of checked.now) }
+{
+    match play_of(alloc, checked, limits(1, 1, 1_000_000), &[]) {
+        Ok(played) => has_races(alloc, checked, &played),
+        Err(NoMemory) => false,
+    }
+}
+
+// The same for the lowered program of the source.
+fn points_race(alloc: Global) -> bool {
+    match lowered(alloc, RACING_POINTS.as_bytes()) {
+        Some(checked) => plays_with_races(alloc, &checked),
+        None => false,
+    }
+}
+
+#[test]
+fn points_off_the_paths_race(rt: HostRuntime) {
+    assert!(rt; points_race(rt.alloc()));
+}
+
+// A body in 64 brackets.
+const DEEPEST: [(&str, usize); 5] = [
+    (
+        "limits iterations 1, stages 1, steps 999, emits 1; cell s = 0; pipe_while (1) { let row = 0; ",
+        1,
+    ),
+    ("if (1) { ", 63),
+    ("s = 1; ", 1),
+    ("} ", 63),
+    ("} final { emit s; }", 1),
+];
+
+// Appends a text some times.
+fn push_times(source: &mut String, text: &str, times: usize) -> Result<(), NoMemory> {
+    for _ in 0..times {
+        source.push_str(text)?;
     }
     Ok(())
 }
 
-// Plays a program. Returns whether it is finished without a trap, and has these lines of its races.
-fn races_as(alloc: Global, checked: &Checked, lines: &[u8]) -> Result<bool, NoMemory>
-    requires { BreaksNoRule (tree_of checked.now) }
-{
-    let played = play_of(alloc, checked, 1)?;
-    let found = text(alloc, &played.reports, checked)?;
-    Ok(played.finished && played.trap.is_none() && found.as_slice() == lines)
-}
-
-#[test]
-fn points_off_the_paths_race(rt: HostRuntime) -> Result<(), Fail> {
-    let checked = lowered(rt.alloc(), RACING_POINTS.as_bytes())?;
-    assert!(rt; races_as(rt.alloc(), &checked, b"race s write 0/1 read 1/0\n")?);
-    Ok(())
-}
-
-// Texts, each repeated, one after the other.
-fn joined(alloc: Global, parts: &[(&[u8], usize)]) -> Result<Vec<u8>, NoMemory> {
-    let mut source = Vec::new(alloc);
-    for (text, times) in parts {
-        for _ in 0..*times {
-            source.extend_from_slice(text)?;
-        }
+fn deepest(alloc: Global) -> Result<String, NoMemory> {
+    let mut source = String::new(alloc);
+    for (text, times) in &DEEPEST {
+        push_times(&mut source, text, *times)?;
     }
     Ok(source)
 }
 
-// A body in 64 brackets.
-const DEEPEST: [(&[u8], usize); 5] = [
-    (
-        b"limits iterations 1, stages 1, steps 999, emits 1; cell s = 0; pipe_while (1) { let row = 0; ",
-        1,
-    ),
-    (b"if (1) { ", 63),
-    (b"s = 1; ", 1),
-    (b"} ", 63),
-    (b"} final { emit s; }", 1),
-];
-
 // Whether a program emits 1.
-fn emits_one(alloc: Global, source: &[u8]) -> Result<bool, Fail> {
-    let played = played(alloc, source, 1)?;
-    Ok(played.output.as_slice() == [1].as_slice())
+fn emits_one(alloc: Global, checked: &Checked) -> bool
+    requires { BreaksNoRule (tree_of checked.now) }
+{
+    match play_of(alloc, checked, limits(1, 1, 1_000_000), &[]) {
+        Ok(played) => played.output.as_slice() == [1].as_slice(),
+        Err(NoMemory) => false,
+    }
+}
+
+// The same for the lowered program of a source.
+fn source_emits_one(alloc: Global, source: &str) -> bool {
+    match lowered(alloc, source.as_bytes()) {
+        Some(checked) => emits_one(alloc, &checked),
+        None => false,
+    }
+}
+
+fn deepest_emits_one(alloc: Global) -> bool {
+    match deepest(alloc) {
+        Ok(source) => source_emits_one(alloc, source.as_str()),
+        Err(NoMemory) => false,
+    }
 }
 
 // The lowered program has one open bracket more than a source may have.
 #[test]
-fn deepest_bodies_are_lowered(rt: HostRuntime) -> Result<(), Fail> {
-    let source = joined(rt.alloc(), &DEEPEST)?;
-    assert!(rt; emits_one(rt.alloc(), &source)?);
-    Ok(())
+fn deepest_bodies_are_lowered(rt: HostRuntime) {
+    assert!(rt; deepest_emits_one(rt.alloc()));
 }

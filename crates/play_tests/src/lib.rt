@@ -8,6 +8,8 @@ mod grid_rows;
 #[cfg(test)]
 mod play_rows;
 #[cfg(test)]
+mod plays;
+#[cfg(test)]
 mod program_rows;
 #[cfg(test)]
 mod sources;

@@ -4,20 +4,18 @@ ghost use Rattle.std.specs.Prelude.{◌<◌};
 ghost use Rattle.pipe_model.specs.Language.CheckingRules.{BreaksNoRule};
 ghost use Rattle.pipe_model.specs.Language.SyntaxTree.{tree_of};
 
+use crate::plays::{limits, play_of};
 use crate::sources::accepted;
 use pipe_check::checked::Checked;
 use pipe_model::column::ColumnEnd;
 use pipe_model::event::Event;
-use pipe_model::list::Numbers;
 use pipe_model::memory::NoMemory;
 use pipe_model::node::NodeId;
 use pipe_model::trap::{Trap, TrapAt, TrapPlace};
 use race_report::race_text::text;
 use schedule_play::choices::choices;
-use schedule_play::program_play::{Played, play};
-use stage_code::lower::lower;
+use schedule_play::program_play::Played;
 use std::alloc::Global;
-use std::test::Fail;
 
 const PREFIX_SUMS: &str =
     "limits iterations 8, stages 4, steps 100, emits 8; cell n = 0; cell s = 0; \
@@ -75,42 +73,6 @@ const ROWS: [Row; 6] = [
     ),
 ];
 
-// Plays an accepted program without an input.
-fn play_of(
-    alloc: Global,
-    checked: &Checked,
-    workers: u32,
-    throttle: u32,
-    choices: &[u32],
-    turns: u64,
-) -> Result<Played, NoMemory>
-    requires accepted { BreaksNoRule (tree_of checked.now) }
-    requires workers { 0 < workers }
-    requires throttle { 0 < throttle }
-{
-    let code = lower(alloc, checked)?;
-    let input = Numbers::new(alloc);
-    play(
-        alloc, checked, &code, &input, workers, throttle, choices, turns,
-    )
-}
-
-// Plays the program of a source.
-fn played(
-    alloc: Global,
-    source: &str,
-    workers: u32,
-    throttle: u32,
-    choices: &[u32],
-    turns: u64,
-) -> Result<Played, Fail>
-    requires workers { 0 < workers }
-    requires throttle { 0 < throttle }
-{
-    let checked = accepted(alloc, source.as_bytes())?;
-    Ok(play_of(alloc, &checked, workers, throttle, choices, turns)?)
-}
-
 // Returns the trap of a division by 0 at this place.
 fn division(place: Option<TrapPlace>) -> Option<TrapAt> {
     let place = place?;
@@ -155,125 +117,203 @@ fn are_prefix_sums(played: &Played) -> bool {
 }
 
 // Plays the prefix sums for this number of turns. Returns whether the run is finished, and whether the
-// sums are right.
-fn ends(alloc: Global, turns: u64) -> Result<(bool, bool), Fail> {
-    let played = played(alloc, PREFIX_SUMS, 4, 4, &[59], turns)?;
-    Ok((played.finished, are_prefix_sums(&played)))
-}
-
-// Plays the prefix sums. Returns whether they are right, and the most instances that ran at a time.
-fn sums(alloc: Global, workers: u32, choices: &[u32]) -> Result<(bool, u32), Fail>
-    requires { 0 < workers }
+// sums are right; not finished but right if memory runs out.
+fn ends(alloc: Global, checked: &Checked, turns: u64) -> (bool, bool)
+    requires { BreaksNoRule (tree_of checked.now) }
 {
-    let played = played(alloc, PREFIX_SUMS, workers, 4, choices, 1000)?;
-    let most = most_running(played.run_log.events.as_slice());
-    Ok((are_prefix_sums(&played), most))
+    match play_of(alloc, checked, limits(4, 4, turns), &[59]) {
+        Ok(played) => (played.finished, are_prefix_sums(&played)),
+        Err(NoMemory) => (false, true),
+    }
 }
 
-// Plays them by the choices of a seed.
-fn seeded_sums(alloc: Global, workers: u32, seed: u32) -> Result<(bool, u32), Fail>
+// Whether the sums take 42 turns.
+fn end_after_42(alloc: Global, checked: &Checked) -> bool
+    requires { BreaksNoRule (tree_of checked.now) }
+{
+    ends(alloc, checked, 41) == (false, false) && ends(alloc, checked, 42) == (true, true)
+}
+
+// Whether the sums of a play are right, and the most instances that ran at a time.
+fn sums_and_most(played: &Played) -> (bool, u32) {
+    let most = most_running(played.run_log.events.as_slice());
+    (are_prefix_sums(played), most)
+}
+
+// Plays the prefix sums by the choices of a seed. Returns whether they are right, and the most instances
+// that ran at a time.
+fn seeded(alloc: Global, checked: &Checked, workers: u32, seed: u32) -> (bool, u32)
+    requires accepted { BreaksNoRule (tree_of checked.now) }
     requires workers { 0 < workers }
     requires seed { seed < 10 }
 {
-    let choices = choices(alloc, seed)?;
-    sums(alloc, workers, choices.as_slice())
-}
-
-#[test]
-fn sums_take_42_turns(rt: HostRuntime) -> Result<(), Fail> {
-    assert!(rt; ends(rt.alloc(), 41)? == (false, false));
-    assert!(rt; ends(rt.alloc(), 42)? == (true, true));
-    Ok(())
-}
-
-#[test]
-fn schedules_change_no_sum(rt: HostRuntime) -> Result<(), Fail> {
-    for seed in 0..10 {
-        let (are_right, _most) = seeded_sums(rt.alloc(), 4, seed)?;
-        assert!(rt; are_right, "{seed}");
+    let Ok(choices) = choices(alloc, seed) else {
+        return (false, 0);
+    };
+    match play_of(alloc, checked, limits(workers, 4, 1000), choices.as_slice()) {
+        Ok(played) => sums_and_most(&played),
+        Err(NoMemory) => (false, 0),
     }
-    Ok(())
 }
 
-#[test]
-fn two_workers_run_two_instances(rt: HostRuntime) -> Result<(), Fail> {
-    for seed in 0..10 {
-        assert!(rt; seeded_sums(rt.alloc(), 2, seed)? == (true, 2), "{seed}");
-    }
-    Ok(())
+// Whether the sums of a seed are right for four workers, and for two, which run two instances at a time.
+fn is_right(alloc: Global, checked: &Checked, seed: u32) -> bool
+    requires accepted { BreaksNoRule (tree_of checked.now) }
+    requires seed { seed < 10 }
+{
+    seeded(alloc, checked, 4, seed).0 && seeded(alloc, checked, 2, seed) == (true, 2)
 }
 
-// Plays a program whose sums race. Returns whether it has the races, and `final`, which would emit 7, has
-// not run.
-fn leaves_out_final(alloc: Global, checked: &Checked) -> Result<bool, NoMemory>
+// The first seed for which it is otherwise.
+fn first_other_seed(alloc: Global, checked: &Checked) -> Option<u32>
     requires { BreaksNoRule (tree_of checked.now) }
 {
-    let played = play_of(alloc, checked, 1, 1, &[], 10_000)?;
-    let lines = text(alloc, &played.reports, checked)?;
-    Ok(
-        played.finished
-            && played.trap.is_none()
-            && lines.as_slice() == RACING_LINES.as_bytes()
-            && played.output.as_slice() == [1, 3, 6].as_slice(),
-    )
+    for seed in 0..10 {
+        if !is_right(alloc, checked, seed) {
+            return Some(seed);
+        }
+    }
+    None
+}
+
+fn sums_end_after_42(alloc: Global) -> bool {
+    match accepted(alloc, PREFIX_SUMS.as_bytes()) {
+        Some(checked) => end_after_42(alloc, &checked),
+        None => false,
+    }
 }
 
 #[test]
-fn races_leave_out_final(rt: HostRuntime) -> Result<(), Fail> {
-    let checked = accepted(rt.alloc(), RACING_SUMS.as_bytes())?;
-    assert!(rt; leaves_out_final(rt.alloc(), &checked)?);
-    Ok(())
+fn sums_take_42_turns(rt: HostRuntime) {
+    assert!(rt; sums_end_after_42(rt.alloc()));
 }
 
-// Whether this is left of a program after some turns: the number of events and of columns, the output,
-// the part in which 1 is divided by 0, and whether the run is finished.
-fn is_left(
-    played: &Played,
-    counts: [usize; 2],
-    output: &[i64],
-    place: Option<TrapPlace>,
-    finished: bool,
-) -> bool {
+fn first_other_seed_of_sums(alloc: Global) -> Option<u32> {
+    match accepted(alloc, PREFIX_SUMS.as_bytes()) {
+        Some(checked) => first_other_seed(alloc, &checked),
+        None => Some(10),
+    }
+}
+
+#[test]
+fn schedules_change_no_sum(rt: HostRuntime) {
+    let other = first_other_seed_of_sums(rt.alloc());
+    assert!(rt; other.is_none(), "{other:?}");
+}
+
+// Whether a play has the races of the sums, and `final`, which would emit 7, has not run.
+fn leaves_out_final(alloc: Global, checked: &Checked, played: &Played) -> bool {
+    match text(alloc, &played.reports, checked) {
+        Ok(lines) => {
+            played.finished
+                && played.trap.is_none()
+                && lines.as_slice() == RACING_LINES.as_bytes()
+                && played.output.as_slice() == [1, 3, 6].as_slice()
+        }
+        Err(NoMemory) => false,
+    }
+}
+
+fn play_leaves_out_final(alloc: Global, checked: &Checked) -> bool
+    requires { BreaksNoRule (tree_of checked.now) }
+{
+    match play_of(alloc, checked, limits(1, 1, 10_000), &[]) {
+        Ok(played) => leaves_out_final(alloc, checked, &played),
+        Err(NoMemory) => false,
+    }
+}
+
+fn racing_sums_leave_out_final(alloc: Global) -> bool {
+    match accepted(alloc, RACING_SUMS.as_bytes()) {
+        Some(checked) => play_leaves_out_final(alloc, &checked),
+        None => false,
+    }
+}
+
+#[test]
+fn races_leave_out_final(rt: HostRuntime) {
+    assert!(rt; racing_sums_leave_out_final(rt.alloc()));
+}
+
+// Whether what is left of a program after some turns is as the row says.
+fn is_left(played: &Played, row: &Row) -> bool {
+    let (_, _, counts, output, place, finished) = *row;
     [played.run_log.events.len(), played.run_log.columns.len()] == counts
         && played.output.as_slice() == output
         && played.trap == division(place)
         && played.finished == finished
 }
 
-fn is_played_as(alloc: Global, row: Row) -> Result<bool, Fail> {
-    let (source, turns, counts, output, place, finished) = row;
-    let played = played(alloc, source, 2, 2, &[], turns)?;
-    Ok(is_left(&played, counts, output, place, finished))
+fn leaves(alloc: Global, checked: &Checked, row: &Row) -> bool
+    requires { BreaksNoRule (tree_of checked.now) }
+{
+    match play_of(alloc, checked, limits(2, 2, row.1), &[]) {
+        Ok(played) => is_left(&played, row),
+        Err(NoMemory) => false,
+    }
+}
+
+// The same for the program of the row's source.
+fn row_leaves(alloc: Global, row: &Row) -> bool {
+    match accepted(alloc, row.0.as_bytes()) {
+        Some(checked) => leaves(alloc, &checked, row),
+        None => false,
+    }
+}
+
+// The first row of which something else is left.
+fn first_other(alloc: Global) -> Option<usize> {
+    for (index, row) in ROWS.iter().enumerate() {
+        if !row_leaves(alloc, row) {
+            return Some(index);
+        }
+    }
+    None
 }
 
 #[test]
-fn parts_run_in_order(rt: HostRuntime) -> Result<(), Fail> {
-    for (k, row) in ROWS.into_iter().enumerate() {
-        assert!(rt; is_played_as(rt.alloc(), row)?, "row {k}");
-    }
-    Ok(())
+fn parts_run_in_order(rt: HostRuntime) {
+    let other = first_other(rt.alloc());
+    assert!(rt; other.is_none(), "{other:?}");
 }
 
-// Takes this choice each time. Returns whether the trap of iteration 1 is reported, and `last` is the
-// iteration that trapped last.
-fn has_least_trap(alloc: Global, choice: u32, last: u32) -> Result<bool, Fail> {
-    let played = played(alloc, TWO_TRAPS, 4, 4, &[choice], 47)?;
+// Whether the trap of iteration 1 is reported, and `last` is the iteration that trapped last.
+fn has_least_trap(played: &Played, last: u32) -> bool {
     let node = NodeId {
         iteration: 1,
         index: 2,
     };
-    Ok(
-        played.finished
-            && last_trapped(played.run_log.events.as_slice()) == Some(last)
-            && played.trap == division(Some(TrapPlace::At(node, 5)))
-            && played.output.as_slice() == [0, 1, 2, 3].as_slice(),
-    )
+    played.finished
+        && last_trapped(played.run_log.events.as_slice()) == Some(last)
+        && played.trap == division(Some(TrapPlace::At(node, 5)))
+        && played.output.as_slice() == [0, 1, 2, 3].as_slice()
+}
+
+// The same for a play that takes this choice each time.
+fn plays_least_trap(alloc: Global, checked: &Checked, choice: u32, last: u32) -> bool
+    requires { BreaksNoRule (tree_of checked.now) }
+{
+    match play_of(alloc, checked, limits(4, 4, 47), &[choice]) {
+        Ok(played) => has_least_trap(&played, last),
+        Err(NoMemory) => false,
+    }
 }
 
 // The last candidate is taken each time by choice 59, as there are at most 5: iteration 3 traps first.
+fn both_have_least_trap(alloc: Global, checked: &Checked) -> bool
+    requires { BreaksNoRule (tree_of checked.now) }
+{
+    plays_least_trap(alloc, checked, 0, 3) && plays_least_trap(alloc, checked, 59, 1)
+}
+
+fn two_traps_have_least(alloc: Global) -> bool {
+    match accepted(alloc, TWO_TRAPS.as_bytes()) {
+        Some(checked) => both_have_least_trap(alloc, &checked),
+        None => false,
+    }
+}
+
 #[test]
-fn least_iteration_has_the_trap(rt: HostRuntime) -> Result<(), Fail> {
-    assert!(rt; has_least_trap(rt.alloc(), 0, 3)?);
-    assert!(rt; has_least_trap(rt.alloc(), 59, 1)?);
-    Ok(())
+fn least_iteration_has_the_trap(rt: HostRuntime) {
+    assert!(rt; two_traps_have_least(rt.alloc()));
 }
