@@ -1,5 +1,5 @@
 -- The command line: eight subcommands with their files and options, without help and version.
-use Rattle.std.specs.Prelude.{true, false, List, [], ◌∷◌, codes, Some}
+use Rattle.std.specs.Prelude.{true, false, List, [], ◌∷◌, ◌++◌, codes, Some}
 use Rattle.clap.specs.Simple.{App, Shape, new_rule, new_shape}
 use Rattle.clap.specs.Walk.{Rule, Text}
 use Rattle.clap.specs.declared.builder.action.ArgAction.TheVariants.{SetTrue}
@@ -19,6 +19,10 @@ flag_rule name = record (new_rule name) { long = Some name; action = Some SetTru
 -- a subcommand with these arguments
 abbrev pub subcommand_shape : Text → List Rule → Shape
 subcommand_shape name rules = record (new_shape name) { rules = rules }
+
+-- a subcommand with one more argument
+abbrev pub with_argument : Shape → Rule → Shape
+with_argument s r = record s { rules = s.rules ++ r ∷ [] }
 
 -- run SOURCE INPUT [--workers P] [--throttle K] [--record]
 abbrev pub run_shape : Shape

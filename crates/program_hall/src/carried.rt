@@ -3,13 +3,13 @@
 ghost use Rattle.std.specs.Prelude.{◌≡◌, IfOk, None};
 
 use frame_book::payload::Payload;
+use hall_table::carrier::Carrier;
+use hall_table::run_seat::RunSeat;
 use heap_value::kept::Kept;
 use om_shared::writer::OmWriter;
 use order_2d::two_orders::TwoOrders;
 use order_2d::two_passes::TwoPasses;
 use pipe_frame::stands::Stands;
-use hall_table::carrier::Carrier;
-use hall_table::run_seat::RunSeat;
 use pipe_model::memory::NoMemory;
 use pipe_worker::runs::Runs;
 use stage_code::code::Code;
