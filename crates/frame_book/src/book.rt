@@ -35,11 +35,13 @@ ghost use Rattle.frame_book.specs.GivenTokens.{IsGivenBeside, IsGivenBy, IsOutOf
 
 use crate::ledger::Tickets;
 use crate::payload::Payload;
+use crate::rooms::rooms_for;
 use crate::start::{left_place, start_below, start_head};
 use dep_fold::folded::Folded;
+use frame_rows::course::{Course, course_after};
 use frame_rows::folding::{count_of, fold_left, lets_enter, needs_left};
 use frame_rows::row::Iteration;
-use frame_rows::rows::{first_to_go_on, is_alive, last_has_ended_first, may_enter};
+use frame_rows::rows::{drop_ended, first_to_go_on, last_has_ended_first, may_enter};
 use om_shared::writer::OmWriter;
 use order_2d::list_writer::ListWriter;
 use order_2d::two_orders::TwoOrders;
@@ -154,24 +156,17 @@ impl<M: Payload<L>, L: ListWriter + Drop> Book<M, L> {
             × (2 * most_instances (tree_of program) < orders.right.capacity) }
         ensures { IfOk result (λ book. book ≡ new_book program input throttle (identities_of_orders orders)) }
     {
-        let stages = program.limits.stages as usize;
-        let iterations = program.limits.iterations as usize;
-        let instances = iterations * stages + 1;
-        let mut spare = Vec::with_capacity(alloc, iterations + 1)?;
-        spare.push_reserved(Iteration::new(alloc, 1)?);
-        for _ in 0..iterations {
-            spare.push_reserved(Iteration::new(alloc, stages)?);
-        }
+        let rooms = rooms_for(alloc, program.limits)?;
         Ok(Book {
             program,
             input,
             throttle,
-            rows: Vec::with_capacity(alloc, iterations + 1)?,
-            spare,
-            alive: Vec::with_capacity(alloc, iterations + 1)?,
+            rows: rooms.rows,
+            spare: rooms.spare,
+            alive: rooms.alive,
             pool: Pool::new(payloads),
             orders,
-            ledger: Tickets::new(alloc, 2 * instances + 1)?,
+            ledger: rooms.ledger,
             closed: false,
             stopped: false,
             reads: 0,
@@ -385,22 +380,12 @@ impl<M: Payload<L>, L: ListWriter + Drop> Book<M, L> {
             self.hold(token, trace);
             return Next::Stopped;
         }
-        match end {
-            StageEnd::Wait(number) => self.go_on(token, Kind::Wait, number, trace),
-            StageEnd::Continue(number) => self.go_on(token, Kind::Continue, number, trace),
-            StageEnd::End => {
-                self.finish(token, ColumnEnd::End, trace);
+        match course_after(end) {
+            Course::Stage(kind, number) => self.go_on(token, kind, number, trace),
+            Course::Over(last) => {
+                self.finish(token, last, trace);
                 Next::Ended
             }
-            StageEnd::Closed => {
-                self.finish(token, ColumnEnd::Closed, trace);
-                Next::Ended
-            }
-            StageEnd::Trap(trap) => {
-                self.finish(token, ColumnEnd::Trapped(trap), trace);
-                Next::Ended
-            }
-            StageEnd::Stopped => unreachable!(),
         }
     }
 
@@ -448,28 +433,15 @@ impl<M: Payload<L>, L: ListWriter + Drop> Book<M, L> {
             self.hold(token, trace);
             return Named::Stopped;
         }
-        match end {
-            StageEnd::Wait(number) => {
-                self.name(token, Kind::Wait, number, trace);
+        match course_after(end) {
+            Course::Stage(kind, number) => {
+                self.name(token, kind, number, trace);
                 Named::Waits
             }
-            StageEnd::Continue(number) => {
-                self.name(token, Kind::Continue, number, trace);
-                Named::Waits
-            }
-            StageEnd::End => {
-                self.finish(token, ColumnEnd::End, trace);
+            Course::Over(last) => {
+                self.finish(token, last, trace);
                 Named::Ended
             }
-            StageEnd::Closed => {
-                self.finish(token, ColumnEnd::Closed, trace);
-                Named::Ended
-            }
-            StageEnd::Trap(trap) => {
-                self.finish(token, ColumnEnd::Trapped(trap), trace);
-                Named::Ended
-            }
-            StageEnd::Stopped => unreachable!(),
         }
     }
 
@@ -559,29 +531,12 @@ impl<M: Payload<L>, L: ListWriter + Drop> Book<M, L> {
         last_has_ended_first(self.rows.as_slice())
     }
 
-    // Drops the iterations that have ended from the list of alive ones.
-    fn retain_alive(&mut self)
-        ensures { self.new ≡ self.old }
-    {
-        let rows = self.rows.as_slice();
-        self.alive.retain(|iteration| is_alive(rows, *iteration));
-    }
-
-    // Returns whether the first listed iteration has ended, or more are listed than twice as many as may be
-    // alive.
-    fn lists_ended(&self) -> bool {
-        let most = 2 * self.throttle as usize;
-        self.alive.len() > most || !begins_alive(self.rows.as_slice(), self.alive.as_slice())
-    }
-
-    // Drops the iterations that have ended from the list of alive ones, if the first has, or if the list is
-    // long. So not every call goes through the whole list.
+    // Drops iterations that have ended from the list of alive ones, if the list is long or begins with one.
     fn drop_ended(&mut self)
         ensures { self.new ≡ self.old }
     {
-        if self.lists_ended() {
-            self.retain_alive();
-        }
+        let most = 2 * self.throttle as usize;
+        drop_ended(self.rows.as_slice(), &mut self.alive, most);
     }
 
     // The token of an iteration that was left ready, or may enter the stage that it has named.
@@ -634,14 +589,6 @@ fn closes(end: ColumnEnd, index: u32) -> bool
         ColumnEnd::End => false,
         ColumnEnd::Closed => index == 0,
         ColumnEnd::Trapped(_) => index == 0,
-    }
-}
-
-// Returns whether the first of these iterations, if there is one, has not ended.
-fn begins_alive<M>(rows: &[Iteration<M>], alive: &[u32]) -> bool {
-    match alive.first() {
-        None => true,
-        Some(iteration) => is_alive(rows, *iteration),
     }
 }
 

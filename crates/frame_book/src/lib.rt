@@ -8,4 +8,5 @@ pub mod book;
 pub mod law;
 mod ledger;
 pub mod payload;
+mod rooms;
 mod start;

@@ -119,15 +119,12 @@ length_filter p (x ∷ xs) = let h = length_filter p xs in by (p x) h
     by true l = omega (arith, l)
     by false l = omega (arith, l)
 
-pub alive_kept : {M : Type 0} → (rs spare : List (IterationRow M)) (alive : List ℕ) (room : ℕ) → HasAliveList rs spare alive room
-    → HasAliveList rs spare (filter (is_alive_in rs) alive) room
-alive_kept rs spare alive room h = record {
-  list = record {
-    rises = AllPairs-filter (λ (i : ℕ) (j : ℕ). i < j) (is_alive_in rs) alive h.list.rises;
-    begun = All-filter (is_alive_in rs) (λ i. i < length rs) alive h.list.begun;
-    all = λ j a. kept_passing (is_alive_in rs) alive j a (h.list.all j a);
-  };
-  room = (let a = h.room in let b = length_filter (is_alive_in rs) alive in omega (arith, a, b));
+pub lists_kept : {M : Type 0} → (rs : List (IterationRow M)) (alive : List ℕ) → ListsAlive rs alive
+    → ListsAlive rs (filter (is_alive_in rs) alive)
+lists_kept rs alive h = record {
+  rises = AllPairs-filter (λ (i : ℕ) (j : ℕ). i < j) (is_alive_in rs) alive h.rises;
+  begun = All-filter (is_alive_in rs) (λ i. i < length rs) alive h.begun;
+  all = λ j a. kept_passing (is_alive_in rs) alive j a (h.all j a);
 }
 
 -- a new book

@@ -1,5 +1,6 @@
 pub mod Totals
 pub mod NamedStages
+pub mod Courses
 pub mod IterationRows
 pub mod RowsOfFrames
 pub mod AliveLists

@@ -2,6 +2,7 @@
 //! about all of them, and whether the counter of a left neighbour must be read.
 #![tactic(auto)]
 
+pub mod course;
 pub mod folding;
 pub mod row;
 pub mod rows;

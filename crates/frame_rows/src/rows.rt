@@ -1,17 +1,36 @@
-//! Questions about the rows of all iterations.
+//! The rows of all iterations, and questions about them.
 
 ghost use Rattle.std.specs.Prelude.{◌≡◌, ◌↔◌, ◌+◌, ◌-◌, ◌<◌, ◌≤◌, ◌≢◌, ◌^◌, zero, [], ◌∷◌, ◌++◌, length, IsTrue, Some, None, ℕ, Bool, List};
-ghost use Rattle.std.specs.Prelude.{slice_index_or, IfSome, IfNone, ◌≤ℤ◌, pos};
+ghost use Rattle.std.specs.Prelude.{slice_index_or, IfSome, IfNone, IfOk, ◌≤ℤ◌, pos, replicate, vec_capacity};
 ghost use Rattle.pipe_model.specs.Runs.State.{Frame};
 ghost use Rattle.pipe_model.specs.Runs.Allowed.{LeftHasPassed, IsClosed, LastEndedFirstInstance};
 ghost use Rattle.frame_rows.specs.RowsOfFrames.{AreRows, IsFree, RowGoesOn};
-ghost use Rattle.frame_rows.specs.IterationRows.{row_counter, left_row_counter, counter_at, row_at, CounterPasses, IsFreeRow};
+ghost use Rattle.frame_rows.specs.IterationRows.{row_counter, left_row_counter, counter_at, row_at, CounterPasses, IsFreeRow, empty_row};
 ghost use Rattle.frame_rows.specs.AliveLists.{ListsAlive, is_alive_in};
 
 use crate::row::Iteration;
 use pipe_model::node::Kind;
 use pipe_model::stage::Counter;
 use pipe_model::status::Status;
+use std::alloc::{AllocError, Global};
+
+/// Returns rows of iterations that have not begun: one with room for one instance, and above it
+/// `iterations` with room for `stages`. Returns an error only if memory runs out.
+pub fn new_rows<M: Drop>(
+    alloc: Global,
+    iterations: usize,
+    stages: usize,
+) -> Result<Vec<Iteration<M>>, AllocError>
+    requires { iterations < 2 ^ 63 }
+    ensures { IfOk result (λ rows. rows.items ≡ empty_row 1 ∷ replicate iterations (empty_row stages)) }
+{
+    let mut rows = Vec::with_capacity(alloc, iterations + 1)?;
+    rows.push_reserved(Iteration::new(alloc, 1)?);
+    for _ in 0..iterations {
+        rows.push_reserved(Iteration::new(alloc, stages)?);
+    }
+    Ok(rows)
+}
 
 /// Returns the stage counter of the left neighbour, if there is one.
 pub fn left_counter<M>(rows: &[Iteration<M>], iteration: u32) -> Option<Counter>
@@ -81,6 +100,26 @@ pub fn is_alive<M>(rows: &[Iteration<M>], iteration: u32) -> bool
     }
     let row = &rows[iteration as usize];
     !row.has_ended()
+}
+
+// Returns whether the first of these iterations, if there is one, has not ended.
+fn begins_alive<M>(rows: &[Iteration<M>], alive: &[u32]) -> bool {
+    match alive.first() {
+        None => true,
+        Some(iteration) => is_alive(rows, *iteration),
+    }
+}
+
+/// Drops iterations that have ended from the list of alive ones, if the first has ended or more than
+/// `most` are listed. So not every call goes through the whole list.
+pub fn drop_ended<M>(rows: &[Iteration<M>], alive: &mut Vec<u32>, most: usize)
+    ensures list { ListsAlive rows.now alive.old.items → ListsAlive rows.now alive.new.items }
+    ensures length { length alive.new.items ≤ length alive.old.items }
+    ensures capacity { vec_capacity alive.new ≡ vec_capacity alive.old }
+{
+    if alive.len() > most || !begins_alive(rows, alive.as_slice()) {
+        alive.retain(|iteration| is_alive(rows, *iteration));
+    }
 }
 
 /// Returns the first iteration that was left ready, or that may enter the stage that it has named.

@@ -1,30 +1,84 @@
-use Rattle.std.proofs.Common.{◌≡◌, sym, subst, ◌∙◌, false, true}
-use Rattle.pipe_frame.specs.StageEndCases.{NamesNextStage}
-use Rattle.pipe_model.specs.Runs.StageEnds.{stage_end_actions}
-use Rattle.frame_book.specs.BookStates.{left_of, state_of}
+use Rattle.std.proofs.Common.{◌≡◌, ◌∷◌, [], ◌++◌, ap, sym, subst, ◌∙◌, false, true, rules, w64, to_z, of_z}
+use Rattle.std.proofs.lemmas.Int.{to_z-of_z}
+use Rattle.pipe_frame.specs.CallResults.{AdvanceReturns}
 use Rattle.pipe_frame.specs.Replies.{accessed}
+use Rattle.pipe_frame.specs.ResultTokens.{IfGo}
+use Rattle.pipe_frame.specs.StageEndCases.{EndsIteration, NamesNextStage}
+use Rattle.pipe_frame.specs.TokenFields.{fields_of}
+use Rattle.pipe_frame.specs.declared.results.Next.TheVariants as results
+use Rattle.pipe_model.specs.Pipelines.Behaviour.{Performs, Staged}
+use Rattle.pipe_model.specs.Runs.StageEnds.{stage_end_actions}
+use Rattle.frame_rows.specs.NamedStages.{stage_end}
+use Rattle.frame_book.specs.BookStates.{BookState, left_of, state_of}
+use Rattle.frame_book.specs.CallEffects.{after_advance, folded_after}
+use Rattle.frame_book.specs.GivenTokens.{IsGivenBy}
 use Rattle.frame_book.proofs.Actions.LegalActions.{performs_split}
+use Rattle.frame_book.proofs.Conditions.Courses.{stage_actions, names_next, last_actions, ends_iteration, advanced_over, advanced_held}
 use Rattle.frame_book.proofs.book.Book.advance.Goals as goal
 
+-- an instance that was stopped has made its accesses
 pub hold-requires-clause-performs : goal.hold-requires-clause-performs
 hold-requires-clause-performs g c = (performs_split (left_of c.args.self.now c.args.token.iteration) (accessed c.args.trace)
     (stage_end_actions c.args.end) c.requires.performs).0
 
+pub course_after-requires : goal.course_after-requires
+course_after-requires g c = λ e.
+    let a = subst (λ v. (state_of v).stopped ≡ true) (sym c.self.view_is) (c.requires.stopped e) in
+    absurd (let q : true ≡ false = sym a ∙ (sym c.self.invariant.0.stopped ∙ c.if-self.false) in cc)
+
+-- it names a stage
+pub go_on-requires-clause-performs : goal.go_on-requires-clause-performs
+go_on-requires-clause-performs g c =
+    let n : to_z w64 (of_z w64 c.in-Stage.number) ≡ c.in-Stage.number = to_z-of_z w64 c.in-Stage.number (search rules) in
+    subst (λ xs. Performs (left_of c.args.self.now c.args.token.iteration) (accessed c.args.trace ++ xs))
+    (ap stage_end_actions c.in-Stage.ensures.0 ∙ (stage_actions c.in-Stage.kind c.in-Stage.number c.in-Stage.ensures.1
+    ∙ ap (λ z. Staged c.in-Stage.kind z ∷ []) (sym n))) c.requires.performs
+
 pub go_on-requires-clause-payload : goal.go_on-requires-clause-payload
 go_on-requires-clause-payload g c = record {
   belongs = c.requires.belongs;
-  ready = c.requires.ready
-      (subst NamesNextStage (sym c.in-Wait.is) tt);
+  ready = c.requires.ready (subst NamesNextStage (sym c.in-Stage.ensures.0) (names_next c.in-Stage.kind c.in-Stage.number));
 }
 
-pub go_on-requires-in-Continue-clause-payload : goal.go_on-requires-in-Continue-clause-payload
-go_on-requires-in-Continue-clause-payload g c = record {
-  belongs = c.requires.belongs;
-  ready =
-      c.requires.ready (subst NamesNextStage (sym c.in-Continue.is) tt);
-}
+pub returns-in-Stage-clause-returned : goal.returns-in-Stage-clause-returned
+returns-in-Stage-clause-returned g c =
+    let n : to_z w64 (of_z w64 c.in-Stage.number) ≡ c.in-Stage.number = to_z-of_z w64 c.in-Stage.number (search rules) in
+    subst (λ e. AdvanceReturns (state_of c.args.self.now) c.args.token.iteration c.args.token.index e c.go_on.result)
+    (ap (stage_end c.in-Stage.kind) n ∙ sym c.in-Stage.ensures.0) c.go_on.ensures.returned
 
-pub unreachable-requires : goal.unreachable-requires
-unreachable-requires g c =
-    let a = subst (λ v. (state_of v).stopped ≡ true) (sym c.self.view_is) (c.requires.stopped c.in-Stopped.is) in
-    absurd (let q : true ≡ false = sym a ∙ (sym c.self.invariant.0.stopped ∙ c.if-self.false) in cc)
+pub returns-in-Stage-clause-book : goal.returns-in-Stage-clause-book
+returns-in-Stage-clause-book g c =
+    let n : to_z w64 (of_z w64 c.in-Stage.number) ≡ c.in-Stage.number = to_z-of_z w64 c.in-Stage.number (search rules) in
+    c.go_on.ensures.book ∙ ap (λ e. after_advance c.args.self.now (fields_of c.args.token) e c.args.trace c.go_on.result)
+    (ap (stage_end c.in-Stage.kind) n ∙ sym c.in-Stage.ensures.0)
+
+pub returns-in-Stage-clause-token : goal.returns-in-Stage-clause-token
+returns-in-Stage-clause-token g c =
+    let n : to_z w64 (of_z w64 c.in-Stage.number) ≡ c.in-Stage.number = to_z-of_z w64 c.in-Stage.number (search rules) in
+    subst (λ e. IfGo c.go_on.result (λ t. IsGivenBy g.M.Stands.ready_at g.M.Stands.tie c.go_on.new.self t
+    × (t.folded ≡ folded_after c.args.self.now (fields_of c.args.token) e)))
+    (ap (stage_end c.in-Stage.kind) n ∙ sym c.in-Stage.ensures.0) c.go_on.ensures.token
+
+-- it ends its iteration
+pub finish-requires-clause-performs : goal.finish-requires-clause-performs
+finish-requires-clause-performs g c =
+    subst (λ xs. Performs (left_of c.args.self.now c.args.token.iteration) (accessed c.args.trace ++ xs))
+    (ap stage_end_actions c.in-Over.ensures ∙ last_actions c.in-Over.last) c.requires.performs
+
+pub returns-in-Over-clause-returned : goal.returns-in-Over-clause-returned
+returns-in-Over-clause-returned g c = (
+  subst (λ (v : BookState). (state_of v).stopped ≡ false) c.self.view_is (sym c.self.invariant.0.stopped ∙ c.if-self.false),
+  subst EndsIteration (sym c.in-Over.ensures) (ends_iteration c.in-Over.last),
+)
+
+pub returns-in-Over-clause-book : goal.returns-in-Over-clause-book
+returns-in-Over-clause-book g c =
+    let going = subst (λ (v : BookState). (state_of v).stopped ≡ false) c.self.view_is (sym c.self.invariant.0.stopped ∙ c.if-self.false) in
+    c.finish.ensures ∙ (advanced_over c.args.self.now (fields_of c.args.token) c.args.trace g.row.M.Denot c.in-Over.last going
+    ∙ ap (λ e. after_advance {M = g.row.M.Denot} c.args.self.now (fields_of c.args.token) e c.args.trace results.Ended)
+    (sym c.in-Over.ensures))
+
+pub returns-then-self-clause-book : goal.returns-then-self-clause-book
+returns-then-self-clause-book g c =
+    let stopped = subst (λ (v : BookState). (state_of v).stopped ≡ true) c.self.view_is (sym c.self.invariant.0.stopped ∙ c.if-self.true) in
+    c.hold.ensures ∙ advanced_held c.args.self.now (fields_of c.args.token) c.args.trace g.row.M.Denot c.args.end stopped

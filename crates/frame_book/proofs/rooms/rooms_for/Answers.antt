@@ -1,0 +1,99 @@
+use Rattle.std.proofs.Common.{◌≡◌, ◌+◌, ◌*◌, ◌∷◌, [], arith, replicate, ap, ap₂, sym, ◌∙◌, w64, rules, to_z, of_z}
+use lib.IntN.{nat_abs}
+use mir.Val.{SFits}
+use Rattle.std.proofs.Math.Facts.{Fits-nat_abs}
+use Rattle.std.proofs.lemmas.Int.{to_z-of_z}
+use Rattle.pipe_model.specs.Language.Programs.{natural}
+use Rattle.frame_rows.specs.IterationRows.{empty_row}
+use Rattle.frame_book.proofs.Keeping.New.{abs_is, non_neg_is, fits_small}
+use Rattle.frame_book.proofs.rooms.rooms_for.Goals as goal
+
+pub overflow_cast-stages : goal.overflow_cast-stages
+overflow_cast-stages g c =
+    let s = c.args.limits.stages in
+    let fs : SFits w64 s = search rules in
+    rw (to_z-of_z w64 s fs) (non_neg_is s c.requires.stages, Fits-nat_abs tt fs)
+
+pub overflow_cast-iterations : goal.overflow_cast-iterations
+overflow_cast-iterations g c =
+    let i = c.args.limits.iterations in
+    let fi : SFits w64 i = search rules in
+    rw (to_z-of_z w64 i fi) (non_neg_is i c.requires.iterations, Fits-nat_abs tt fi)
+
+pub overflow_mul-instances : goal.overflow_mul-instances
+overflow_mul-instances g c =
+    let i = c.args.limits.iterations in
+    let s = c.args.limits.stages in
+    let fi : SFits w64 i = search rules in
+    let fs : SFits w64 s = search rules in
+    let ni : nat_abs (to_z w64 (of_z w64 i)) ≡ natural i = ap nat_abs (to_z-of_z w64 i fi) ∙ abs_is i c.requires.iterations in
+    let ns : nat_abs (to_z w64 (of_z w64 s)) ≡ natural s = ap nat_abs (to_z-of_z w64 s fs) ∙ abs_is s c.requires.stages in
+    (fits_small (nat_abs (to_z w64 (of_z w64 i)) * nat_abs (to_z w64 (of_z w64 s))) (natural i * natural s)
+    (ap₂ (λ a b. a * b) ni ns) c.requires.bounded).1
+
+pub overflow_add-instances : goal.overflow_add-instances
+overflow_add-instances g c =
+    let i = c.args.limits.iterations in
+    let s = c.args.limits.stages in
+    let fi : SFits w64 i = search rules in
+    let fs : SFits w64 s = search rules in
+    let ni : nat_abs (to_z w64 (of_z w64 i)) ≡ natural i = ap nat_abs (to_z-of_z w64 i fi) ∙ abs_is i c.requires.iterations in
+    let ns : nat_abs (to_z w64 (of_z w64 s)) ≡ natural s = ap nat_abs (to_z-of_z w64 s fs) ∙ abs_is s c.requires.stages in
+    (fits_small (nat_abs (to_z w64 (of_z w64 i)) * nat_abs (to_z w64 (of_z w64 s))) (natural i * natural s)
+    (ap₂ (λ a b. a * b) ni ns) c.requires.bounded).2
+
+pub overflow_mul-instances-2 : goal.overflow_mul-instances-2
+overflow_mul-instances-2 g c =
+    let i = c.args.limits.iterations in
+    let s = c.args.limits.stages in
+    let fi : SFits w64 i = search rules in
+    let fs : SFits w64 s = search rules in
+    let ni : nat_abs (to_z w64 (of_z w64 i)) ≡ natural i = ap nat_abs (to_z-of_z w64 i fi) ∙ abs_is i c.requires.iterations in
+    let ns : nat_abs (to_z w64 (of_z w64 s)) ≡ natural s = ap nat_abs (to_z-of_z w64 s fs) ∙ abs_is s c.requires.stages in
+    (fits_small (nat_abs (to_z w64 (of_z w64 i)) * nat_abs (to_z w64 (of_z w64 s))) (natural i * natural s)
+    (ap₂ (λ a b. a * b) ni ns) c.requires.bounded).3
+
+pub overflow_add-instances-2 : goal.overflow_add-instances-2
+overflow_add-instances-2 g c =
+    let i = c.args.limits.iterations in
+    let s = c.args.limits.stages in
+    let fi : SFits w64 i = search rules in
+    let fs : SFits w64 s = search rules in
+    let ni : nat_abs (to_z w64 (of_z w64 i)) ≡ natural i = ap nat_abs (to_z-of_z w64 i fi) ∙ abs_is i c.requires.iterations in
+    let ns : nat_abs (to_z w64 (of_z w64 s)) ≡ natural s = ap nat_abs (to_z-of_z w64 s fs) ∙ abs_is s c.requires.stages in
+    (fits_small (nat_abs (to_z w64 (of_z w64 i)) * nat_abs (to_z w64 (of_z w64 s))) (natural i * natural s)
+    (ap₂ (λ a b. a * b) ni ns) c.requires.bounded).4
+
+pub returns-clause-rows : goal.returns-clause-rows
+returns-clause-rows g c =
+    let i = c.args.limits.iterations in
+    let fi : SFits w64 i = search rules in
+    let ni : nat_abs (to_z w64 (of_z w64 i)) ≡ natural i = ap nat_abs (to_z-of_z w64 i fi) ∙ abs_is i c.requires.iterations in
+    (c.in_ok-rows.ensures.items, c.in_ok-rows.ensures.exact ∙ ap (λ n. n + 1) ni)
+
+pub returns-clause-alive : goal.returns-clause-alive
+returns-clause-alive g c =
+    let i = c.args.limits.iterations in
+    let fi : SFits w64 i = search rules in
+    let ni : nat_abs (to_z w64 (of_z w64 i)) ≡ natural i = ap nat_abs (to_z-of_z w64 i fi) ∙ abs_is i c.requires.iterations in
+    (c.in_ok-alive.ensures.items, c.in_ok-alive.ensures.exact ∙ ap (λ n. n + 1) ni)
+
+pub returns-clause-spare : goal.returns-clause-spare
+returns-clause-spare g c =
+    let i = c.args.limits.iterations in
+    let fi : SFits w64 i = search rules in
+    let ni : nat_abs (to_z w64 (of_z w64 i)) ≡ natural i = ap nat_abs (to_z-of_z w64 i fi) ∙ abs_is i c.requires.iterations in
+    let s = c.args.limits.stages in
+    let fs : SFits w64 s = search rules in
+    let ns : nat_abs (to_z w64 (of_z w64 s)) ≡ natural s = ap nat_abs (to_z-of_z w64 s fs) ∙ abs_is s c.requires.stages in
+    c.in_ok-spare.ensures ∙ ap₂ (λ k z. empty_row 1 ∷ replicate k (empty_row z)) ni ns
+
+pub returns-clause-ledger : goal.returns-clause-ledger
+returns-clause-ledger g c =
+    let i = c.args.limits.iterations in
+    let fi : SFits w64 i = search rules in
+    let ni : nat_abs (to_z w64 (of_z w64 i)) ≡ natural i = ap nat_abs (to_z-of_z w64 i fi) ∙ abs_is i c.requires.iterations in
+    let s = c.args.limits.stages in
+    let fs : SFits w64 s = search rules in
+    let ns : nat_abs (to_z w64 (of_z w64 s)) ≡ natural s = ap nat_abs (to_z-of_z w64 s fs) ∙ abs_is s c.requires.stages in
+    c.in_ok-ledger.ensures ∙ ap₂ (λ a b. record { log = []; room = 2 * (a * b + 1) + 1 }) ni ns
