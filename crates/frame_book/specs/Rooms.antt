@@ -1,5 +1,5 @@
 -- For how many instances a book has room, and why that is enough for its program.
-use Rattle.std.specs.Prelude.{◌≡◌, ℕ, ℤ, suc, List, [], ◌∷◌, ◌++◌, ◌+◌, ◌*◌, ◌^◌, ◌<◌, map, length, reverse, All, slice_index_or}
+use Rattle.std.specs.Prelude.{◌≡◌, ℕ, ℤ, suc, List, ◌++◌, ◌+◌, ◌*◌, ◌^◌, ◌<◌, map, length, reverse, All, slice_index_or}
 use Rattle.pipe_model.specs.Pipelines.Behaviour.{Behaviour, Reading, Writing, Staging, Ending}
 use Rattle.pipe_model.specs.Pipelines.Pipeline.{Pipeline, IsWellFormed}
 use Rattle.frame_rows.specs.IterationRows.{IterationRow, empty_row}

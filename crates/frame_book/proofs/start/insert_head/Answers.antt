@@ -3,8 +3,24 @@ use Rattle.order_2d.specs.OrderPairs.{AreInserted, marks_after, down_taken, righ
 use Rattle.pipe_model.specs.Orders.OrderMarks.{start_marks}
 use Rattle.frame_rows.specs.IterationRows.{head_marks}
 use Rattle.frame_rows.proofs.FrameRows.{row_at_read}
-use Rattle.frame_rows.proofs.StartRows.{head_marks_is}
+use Rattle.frame_rows.proofs.StartRows.{head_marks_is, head_marks_none}
 use Rattle.frame_book.proofs.start.insert_head.Goals as goal
+
+pub marks_at-requires : goal.marks_at-requires
+marks_at-requires g c =
+    let some : 0 < length c.args.rows.now = (let t = c.if-is_empty.false in let e = c.is_empty.ensures in grind (arith)) in
+    c.requires.there c.index-rows-rows.result
+    (row_at_read c.args.rows.now (length c.args.rows.now - 1) c.index-rows-rows.result (omega (arith, some)) c.index-rows-rows.is)
+
+pub returns-then-is_empty-clause-marks : goal.returns-then-is_empty-clause-marks
+returns-then-is_empty-clause-marks g c =
+    let none = head_marks_none c.args.rows.now (let t = c.if-is_empty.true in let e = c.is_empty.ensures in grind (arith)) in
+    c.start_first.ensures.marks ∙ ap (λ o. marks_after (length c.args.orders.now.down.log) (down_taken None o) (right_taken None o)) (sym none)
+
+pub returns-then-is_empty-clause-lists : goal.returns-then-is_empty-clause-lists
+returns-then-is_empty-clause-lists g c =
+    let none = head_marks_none c.args.rows.now (let t = c.if-is_empty.true in let e = c.is_empty.ensures in grind (arith)) in
+    c.start_first.ensures.lists ∙ ap (λ o. with_start c.args.orders.now (down_taken None o) (right_taken None o)) (sym none)
 
 pub start_node-requires-clause-inserted : goal.start_node-requires-clause-inserted
 start_node-requires-clause-inserted g c =

@@ -1,7 +1,8 @@
-use Rattle.std.proofs.Common.{◌≡◌, sym, subst, ◌∙◌, false, not}
+use Rattle.std.proofs.Common.{◌≡◌, ap, sym, subst, ◌∙◌, false, not}
 use Rattle.pipe_model.specs.Runs.Allowed.{MayEnter}
 use Rattle.frame_book.specs.BookStates.{state_of}
 use Rattle.frame_book.specs.BookTables.{tables_of}
+use Rattle.frame_book.specs.CallEffects.{with_entered}
 use Rattle.frame_rows.specs.RowsOfFrames.{AreRows}
 use Rattle.frame_book.specs.Tables.{book_state}
 use Rattle.frame_book.proofs.Conditions.MayEnter.{free_is_may}
@@ -25,3 +26,19 @@ returns-clause-returned g c =
       c.enter_named.ensures.instance.0,
       c.enter_named.ensures.instance.1,
     )
+
+pub enter_named-requires-clause-going : goal.enter_named-requires-clause-going
+enter_named-requires-clause-going g c =
+    subst (λ v. (state_of v).stopped ≡ false) c.self.view_is (sym c.self.invariant.0.stopped ∙ c.if-self.false)
+
+pub returns-clause-book : goal.returns-clause-book
+returns-clause-book g c = c.enter_named.ensures.book ∙ ap (with_entered c.args.self.now) (sym c.enter_named.ensures.instance.0)
+
+pub returns-clause-token : goal.returns-clause-token
+returns-clause-token g c = c.enter_named.ensures.token
+
+pub returns-clause-now : goal.returns-clause-now
+returns-clause-now g c = c.enter_named.ensures.now
+
+pub returns-clause-folded : goal.returns-clause-folded
+returns-clause-folded g c = c.enter_named.ensures.folded

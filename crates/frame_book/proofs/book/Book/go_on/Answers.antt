@@ -1,11 +1,14 @@
 use Rattle.std.proofs.Common.{◌≡◌, ◌<◌, ◌≤◌, ◌+◌, ◌^◌, ◌++◌, ◌∷◌, [], arith, length, set, ap, ap₂, sym, subst, ◌∙◌, true, false}
-use Rattle.std.proofs.Common.{not, cond, w64, max, to_z, of_z}
+use Rattle.std.proofs.Common.{ℕ, zero, suc, not, cond, w64, max, to_z, of_z}
 use Rattle.std.proofs.lemmas.Grind.{common_steps}
 use Rattle.std.proofs.lemmas.Int.{to_z-of_z}
 use Rattle.dep_fold.specs.Folding.{FoldedPasses}
 use Rattle.pipe_model.specs.declared.event.Event.TheVariants.{Advance, Enter}
 use Rattle.pipe_model.specs.declared.node.Kind.TheVariants.{Wait}
 use Rattle.pipe_model.specs.declared.stage.Counter.{Counter}
+use Rattle.pipe_model.specs.declared.stage.StageEnd.{StageEnd}
+use Rattle.pipe_model.specs.Pipelines.Behaviour.{Performs, Staged}
+use Rattle.pipe_frame.specs.Replies.{accessed}
 use Rattle.pipe_model.specs.Races.Columns.{nodes_at}
 use Rattle.pipe_model.specs.Runs.Allowed.{LeftHasPassed, MayEnter}
 use Rattle.pipe_model.specs.Runs.StageEnds.{stage_end_events}
@@ -13,7 +16,7 @@ use Rattle.pipe_model.specs.Runs.State.{own_columns}
 use Rattle.std.specs.Prelude.{Option}
 use Rattle.pipe_frame.specs.LeftCounters.{IsNotAhead, must_read_left}
 use Rattle.pipe_frame.specs.TokenFields.{fields_of}
-use Rattle.frame_book.specs.BookStates.{BookState, Kept, Out, Spent, IsOut, state_of, with_events, last_ticket, item_or}
+use Rattle.frame_book.specs.BookStates.{BookState, Kept, Out, Spent, IsOut, state_of, with_events, last_ticket, item_or, left_of}
 use Rattle.frame_book.specs.BookTables.{tables_of}
 use Rattle.frame_rows.specs.RowsOfFrames.{AreRows}
 use Rattle.frame_rows.specs.IterationRows.{WaitsAt, left_row_counter}
@@ -100,6 +103,34 @@ module _ (g : Over) (c : After-count_of g) where
       ∙ (length_with c.args.self.now.log c.args.token.now (Advance c.args.token.iteration c.args.kind c.args.number)
       ∙ sym (ap (λ (v : BookState). length v.log + 1) c.self.view_is)) in
       omega (arith, more, few, log)
+
+-- a counter that must be read is that of a left neighbour
+must_some : (i : ℕ) (folded : Option Counter) (end : StageEnd) → must_read_left i folded end ≡ true → 0 < i
+must_some zero folded end e = absurd (let z : false ≡ true = e in cc)
+must_some (suc i) folded end e = omega arith
+
+pub fold_left-requires-clause-within : goal.fold_left-requires-clause-within
+fold_left-requires-clause-within g c =
+    let l = out_within c.self.inside.rows.items c.args.token.iteration
+    (subst (λ v. IsOut v c.args.token.iteration) (sym c.self.view_is) c.requires.out.out) in
+    let e = ap length c.as_slice.ensures.value in
+    omega (arith, l, e)
+
+pub fold_left-requires-clause-left : goal.fold_left-requires-clause-left
+fold_left-requires-clause-left g c =
+    λ r. must_some c.args.token.iteration c.args.token.folded (stage_end c.args.kind (to_z w64 (of_z w64 c.args.number)))
+    (sym c.needs_left-read.ensures ∙ r)
+
+pub name-requires-clause-going : goal.name-requires-clause-going
+name-requires-clause-going g c = c.requires.going
+
+pub name-requires-clause-performs : goal.name-requires-clause-performs
+name-requires-clause-performs g c =
+    subst (λ z. Performs (left_of c.args.self.now c.args.token.iteration) (accessed c.args.trace ++ Staged c.args.kind z ∷ []))
+    (sym (to_z-of_z w64 c.args.number c.ranges.number)) c.requires.performs
+
+pub name-requires-clause-payload : goal.name-requires-clause-payload
+name-requires-clause-payload g c = c.requires.payload
 
 pub name-requires-clause-out : goal.name-requires-clause-out
 name-requires-clause-out g c =
@@ -193,6 +224,9 @@ returns-then-enters-clause-token g c =
           ∙ folded_is g j)),
     )
 
+pub returns-then-enters-clause-now : goal.returns-then-enters-clause-now
+returns-then-enters-clause-now g c = c.enter_named.ensures.now
+
 pub returns-else-enters-clause-returned : goal.returns-else-enters-clause-returned
 returns-else-enters-clause-returned g c =
     let k = (goal.at.returns-else-enters-clause-returned g c).After-lets_enter-enters in (
@@ -221,3 +255,9 @@ returns-else-enters-clause-book g c =
           { now = 1 + max (last_ticket c.args.self.now.log) c.args.token.now; folded = o }));
       reads = c.args.self.now.reads + cond (reads_left c.args.self.now (fields_of c.args.token) end) 1 0;
     }) (folded_is g j))
+
+pub returns-else-enters-clause-token : goal.returns-else-enters-clause-token
+returns-else-enters-clause-token g c = tt
+
+pub returns-else-enters-clause-now : goal.returns-else-enters-clause-now
+returns-else-enters-clause-now g c = tt

@@ -1,4 +1,4 @@
-use Rattle.std.proofs.Common.{◌≡◌, sym, subst, true}
+use Rattle.std.proofs.Common.{◌≡◌, sym, subst, true, ◌<◌, length, arith}
 use Rattle.pipe_frame.specs.TokenFields.{fields_of}
 use Rattle.pipe_model.specs.Pipelines.Behaviour.{Performs}
 use Rattle.frame_book.specs.BookStates.{state_of, left_of}
@@ -7,9 +7,16 @@ use Rattle.frame_book.specs.GivenTokens.{IsOutOf}
 use Rattle.pipe_frame.specs.Replies.{accessed}
 use Rattle.frame_book.proofs.Keeping.Hold.{hold_keeps, hold_view, trace_room}
 use Rattle.frame_book.proofs.Keeping.Performed.{performed}
-use Rattle.frame_book.proofs.Keeping.LeaveReady.{out_row_read}
+use Rattle.frame_book.proofs.Keeping.LeaveReady.{out_row_read, out_within}
 use Rattle.frame_book.proofs.Iterations.OutRows.{alive_out}
+use Rattle.std.proofs.lemmas.Grind.{common_steps}
 use Rattle.frame_book.proofs.book.Book.hold.Goals as goal
+
+pub index_mut-row-requires : goal.index_mut-row-requires
+index_mut-row-requires g c =
+    let out = subst (λ v. IsOutOf v (fields_of c.args.token)) (sym c.self.view_is) c.requires.out in
+    let w : c.args.token.iteration < length c.self.inside.rows.items = out_within c.self.inside.rows.items c.args.token.iteration out.out in
+    grind (arith, common_steps)
 
 pub end-requires : goal.end-requires
 end-requires g c =

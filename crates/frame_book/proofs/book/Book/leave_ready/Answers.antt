@@ -1,11 +1,18 @@
-use Rattle.std.proofs.Common.{sym, subst}
+use Rattle.std.proofs.Common.{sym, subst, ◌<◌, length, arith}
 use Rattle.pipe_frame.specs.TokenFields.{fields_of}
 use Rattle.frame_book.specs.BookStates.{replies_at}
 use Rattle.frame_book.specs.BookTables.{tables_of}
 use Rattle.frame_book.specs.GivenTokens.{IsOutOf, IsPayloadOf}
-use Rattle.frame_book.proofs.Keeping.LeaveReady.{ready_keeps, ready_view, out_row_read}
+use Rattle.frame_book.proofs.Keeping.LeaveReady.{ready_keeps, ready_view, out_row_read, out_within}
 use Rattle.frame_book.proofs.Iterations.OutRows.{alive_out}
+use Rattle.std.proofs.lemmas.Grind.{common_steps}
 use Rattle.frame_book.proofs.book.Book.leave_ready.Goals as goal
+
+pub index_mut-requires : goal.index_mut-requires
+index_mut-requires g c =
+    let out = subst (λ v. IsOutOf v (fields_of c.args.token)) (sym c.self.view_is) c.requires.out in
+    let w : c.args.token.iteration < length c.self.inside.rows.items = out_within c.self.inside.rows.items c.args.token.iteration out.out in
+    grind (arith, common_steps)
 
 pub invariant_of-self : goal.invariant_of-self
 invariant_of-self g c =
