@@ -1,6 +1,7 @@
 //! The greatest bracket depth, the longest expression and the most locals, and one more of each.
 
 use crate::faults_found::{LIMITS, has_fault, is_accepted};
+use crate::first_rows::{expect_no_pair, expect_none};
 use pipe_model::memory::NoMemory;
 use std::alloc::Global;
 
@@ -137,19 +138,21 @@ const LONGEST: [Parts; 12] = [
 const NAMES_TOO_LONG: [Parts; 1] = [&[(BODY, 1), ("let @", 1), ("a", 65)]];
 
 // Whether the source of the parts has the fault.
-fn parts_have_fault(alloc: Global, kind: &str, parts: Parts) -> Result<bool, NoMemory> {
-    let source = joined(alloc, parts)?;
-    has_fault(alloc, kind, source.as_str())
+fn parts_have_fault(alloc: Global, kind: &str, parts: Parts) -> bool {
+    match joined(alloc, parts) {
+        Ok(source) => has_fault(alloc, kind, source.as_str()),
+        Err(NoMemory) => false,
+    }
 }
 
 // The first source that does not have the fault.
-fn first_other_row(alloc: Global, kind: &str, rows: &[Parts]) -> Result<Option<usize>, NoMemory> {
+fn first_other_row(alloc: Global, kind: &str, rows: &[Parts]) -> Option<usize> {
     for (index, parts) in rows.iter().enumerate() {
-        if !parts_have_fault(alloc, kind, *parts)? {
-            return Ok(Some(index));
+        if !parts_have_fault(alloc, kind, *parts) {
+            return Some(index);
         }
     }
-    Ok(None)
+    None
 }
 
 // Sources, by the kind of their fault.
@@ -161,47 +164,44 @@ const FAULTY: [(&str, &[Parts]); 4] = [
 ];
 
 // Where the first source is that does not have its fault: the number of its kind, and of its row.
-fn first_other(
-    alloc: Global,
-    kinds: &[(&str, &[Parts])],
-) -> Result<Option<(usize, usize)>, NoMemory> {
+fn first_other(alloc: Global, kinds: &[(&str, &[Parts])]) -> Option<(usize, usize)> {
     for (number, (kind, rows)) in kinds.iter().enumerate() {
-        if let Some(row) = first_other_row(alloc, kind, rows)? {
-            return Ok(Some((number, row)));
+        if let Some(row) = first_other_row(alloc, kind, rows) {
+            return Some((number, row));
         }
     }
-    Ok(None)
+    None
 }
 
 // Whether the parts are a program that breaks no rule.
-fn are_accepted(alloc: Global, parts: Parts) -> Result<bool, NoMemory> {
-    let source = joined(alloc, parts)?;
-    Ok(is_accepted(alloc, source.as_str()))
+fn are_accepted(alloc: Global, parts: Parts) -> bool {
+    match joined(alloc, parts) {
+        Ok(source) => is_accepted(alloc, source.as_str()),
+        Err(NoMemory) => false,
+    }
 }
 
-fn first_refused(alloc: Global, rows: &[Parts]) -> Result<Option<usize>, NoMemory> {
+fn first_refused(alloc: Global, rows: &[Parts]) -> Option<usize> {
     for (index, parts) in rows.iter().enumerate() {
-        if !are_accepted(alloc, *parts)? {
-            return Ok(Some(index));
+        if !are_accepted(alloc, *parts) {
+            return Some(index);
         }
     }
-    Ok(None)
+    None
 }
 
-fn first_other_of_faulty(alloc: Global) -> Result<Option<(usize, usize)>, NoMemory> {
+fn first_other_of_faulty(alloc: Global) -> Option<(usize, usize)> {
     first_other(alloc, &FAULTY)
 }
 
-fn first_refused_of_longest(alloc: Global) -> Result<Option<usize>, NoMemory> {
+fn first_refused_of_longest(alloc: Global) -> Option<usize> {
     first_refused(alloc, &LONGEST)
 }
 
 #[test]
 fn brackets_and_expressions_are_bounded(rt: HostRuntime) {
-    let other = first_other_of_faulty(rt.alloc());
-    assert!(rt; other == Ok(None), "{other:?}");
-    let refused = first_refused_of_longest(rt.alloc());
-    assert!(rt; refused == Ok(None), "{refused:?}");
+    expect_no_pair(&rt, "FAULTY", first_other_of_faulty(rt.alloc()));
+    expect_none(&rt, "LONGEST", first_refused_of_longest(rt.alloc()));
 }
 
 // n `let` statements, of different names.
@@ -214,44 +214,44 @@ fn locals(alloc: Global, n: u32) -> Result<String, NoMemory> {
 }
 
 // Whether each part of a program may have these `let` statements.
-fn are_in_each_part(alloc: Global, locals: &str) -> Result<bool, NoMemory> {
+fn are_in_each_part(alloc: Global, locals: &str) -> bool {
     let source = format!(in alloc;
         "{LIMITS}init {{ {locals}}} pipe_while (0) {{ {locals}}} final {{ {locals}}}"
-    )?;
-    Ok(is_accepted(alloc, source.as_str()))
+    );
+    match source {
+        Ok(source) => is_accepted(alloc, source.as_str()),
+        Err(_) => false,
+    }
 }
 
 // Whether a program with these `let` statements and a further one has this fault there.
-fn one_more_has_fault(
-    alloc: Global,
-    locals: &str,
-    kind: &str,
-    name: &str,
-) -> Result<bool, NoMemory> {
-    let source = format!(in alloc; "{LIMITS}pipe_while (0) {{ {locals}let @{name} = 1; }}")?;
-    has_fault(alloc, kind, source.as_str())
+fn one_more_has_fault(alloc: Global, locals: &str, kind: &str, name: &str) -> bool {
+    match format!(in alloc; "{LIMITS}pipe_while (0) {{ {locals}let @{name} = 1; }}") {
+        Ok(source) => has_fault(alloc, kind, source.as_str()),
+        Err(_) => false,
+    }
 }
 
-// Whether each part may have these `let` statements, and whether a further one is one too many, and has
-// a name that is taken.
-fn bounds_of_locals(alloc: Global, locals: &str) -> Result<[bool; 3], NoMemory> {
-    let fit = are_in_each_part(alloc, locals)?;
-    let too_many = one_more_has_fault(alloc, locals, "TooManyLocals", "b")?;
-    let twice = one_more_has_fault(alloc, locals, "Twice", "a0")?;
-    Ok([fit, too_many, twice])
+// Whether each part may have these `let` statements, and a further one is one too many, or has a name
+// that is taken.
+fn are_most(alloc: Global, locals: &str) -> bool {
+    are_in_each_part(alloc, locals)
+        && one_more_has_fault(alloc, locals, "TooManyLocals", "b")
+        && one_more_has_fault(alloc, locals, "Twice", "a0")
 }
 
 // The same for 64 of them.
-fn bounds_of_most(alloc: Global) -> Result<[bool; 3], NoMemory> {
-    let most = locals(alloc, 64)?;
-    bounds_of_locals(alloc, most.as_str())
+fn are_64_most(alloc: Global) -> bool {
+    match locals(alloc, 64) {
+        Ok(locals) => are_most(alloc, locals.as_str()),
+        Err(NoMemory) => false,
+    }
 }
 
 // Each part has at most 64 locals; a name that is taken counts before one local too many.
 #[test]
 fn locals_are_bounded(rt: HostRuntime) {
-    let bounds = bounds_of_most(rt.alloc());
-    assert!(rt; bounds == Ok([true; 3]), "{bounds:?}");
+    assert!(rt; are_64_most(rt.alloc()));
 }
 
 // A program of 20,000 cells, one declaration each, and of a further declaration.
@@ -264,19 +264,23 @@ fn many_cells(alloc: Global, last: &str) -> Result<String, NoMemory> {
     Ok(source)
 }
 
-fn many_are_accepted(alloc: Global, last: &str) -> Result<bool, NoMemory> {
-    let source = many_cells(alloc, last)?;
-    Ok(is_accepted(alloc, source.as_str()))
+fn many_are_accepted(alloc: Global, last: &str) -> bool {
+    match many_cells(alloc, last) {
+        Ok(source) => is_accepted(alloc, source.as_str()),
+        Err(NoMemory) => false,
+    }
 }
 
-fn are_too_many(alloc: Global, last: &str) -> Result<bool, NoMemory> {
-    let source = many_cells(alloc, last)?;
-    has_fault(alloc, "TooManyCells", source.as_str())
+fn are_too_many(alloc: Global, last: &str) -> bool {
+    match many_cells(alloc, last) {
+        Ok(source) => has_fault(alloc, "TooManyCells", source.as_str()),
+        Err(NoMemory) => false,
+    }
 }
 
 // The most cells.
 #[test]
 fn cells_are_bounded(rt: HostRuntime) {
-    assert!(rt; many_are_accepted(rt.alloc(), "cell b[45536] = 0;") == Ok(true));
-    assert!(rt; are_too_many(rt.alloc(), "cell @b[45537] = 0;") == Ok(true));
+    assert!(rt; many_are_accepted(rt.alloc(), "cell b[45536] = 0;"));
+    assert!(rt; are_too_many(rt.alloc(), "cell @b[45537] = 0;"));
 }

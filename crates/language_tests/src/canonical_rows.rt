@@ -1,6 +1,7 @@
 //! Sources and their canonical texts. Each text is its own canonical text.
 
 use crate::faults_found::LIMITS;
+use crate::first_rows::{expect_no_pair, expect_none};
 use pipe_format::program::format;
 use pipe_lexer::scan::tokens;
 use pipe_model::memory::NoMemory;
@@ -124,113 +125,134 @@ fn program_of(alloc: Global, source: &[u8]) -> Option<Program> {
     }
 }
 
-fn is_text(alloc: Global, program: &Program, text: &str) -> Result<bool, NoMemory> {
-    Ok(format(alloc, program)?.as_slice() == text.as_bytes())
+fn is_text(alloc: Global, program: &Program, text: &str) -> bool {
+    match format(alloc, program) {
+        Ok(found) => found.as_slice() == text.as_bytes(),
+        Err(NoMemory) => false,
+    }
 }
 
 // Whether the source is a program of this text.
-fn has_text(alloc: Global, source: &str, text: &str) -> Result<bool, NoMemory> {
+fn has_text(alloc: Global, source: &str, text: &str) -> bool {
     match program_of(alloc, source.as_bytes()) {
         Some(program) => is_text(alloc, &program, text),
-        None => Ok(false),
+        None => false,
     }
 }
 
 // Whether the source is a program of this text, and the text too.
-fn is_canonical(alloc: Global, source: &str, text: &str) -> Result<bool, NoMemory> {
-    Ok(has_text(alloc, source, text)? && has_text(alloc, text, text)?)
+fn is_canonical(alloc: Global, source: &str, text: &str) -> bool {
+    has_text(alloc, source, text) && has_text(alloc, text, text)
+}
+
+// A source and a text with their limits.
+fn with_limits(alloc: Global, source: &str, text: &str) -> Result<(String, String), NoMemory> {
+    let source = format!(in alloc; "{LIMITS}{source}")?;
+    let text = format!(in alloc; "{FIRST_LINE}{text}")?;
+    Ok((source, text))
 }
 
 // The same, where these follow the limits.
-fn is_program(alloc: Global, source: &str, text: &str) -> Result<bool, NoMemory> {
-    let source = format!(in alloc; "{LIMITS}{source}")?;
-    let text = format!(in alloc; "{FIRST_LINE}{text}")?;
-    is_canonical(alloc, source.as_str(), text.as_str())
+fn is_program(alloc: Global, source: &str, text: &str) -> bool {
+    match with_limits(alloc, source, text) {
+        Ok((source, text)) => is_canonical(alloc, source.as_str(), text.as_str()),
+        Err(NoMemory) => false,
+    }
+}
+
+// A loop with an expression, and the text of one.
+fn with_loops(alloc: Global, expression: &str, text: &str) -> Result<(String, String), NoMemory> {
+    let source = format!(in alloc; "pipe_while(0){{emit {expression};}}")?;
+    let text = format!(in alloc; "pipe_while (0) {{\n  emit {text};\n}}\n")?;
+    Ok((source, text))
 }
 
 // The same for an expression and its text.
-fn is_expression(alloc: Global, expression: &str, text: &str) -> Result<bool, NoMemory> {
-    let source = format!(in alloc; "pipe_while(0){{emit {expression};}}")?;
-    let text = format!(in alloc; "pipe_while (0) {{\n  emit {text};\n}}\n")?;
-    is_program(alloc, source.as_str(), text.as_str())
+fn is_expression(alloc: Global, expression: &str, text: &str) -> bool {
+    match with_loops(alloc, expression, text) {
+        Ok((source, text)) => is_program(alloc, source.as_str(), text.as_str()),
+        Err(NoMemory) => false,
+    }
 }
 
 // The first row that is no program of its text.
-fn first_other_program(alloc: Global, rows: &[(&str, &str)]) -> Result<Option<usize>, NoMemory> {
+fn first_other_program(alloc: Global, rows: &[(&str, &str)]) -> Option<usize> {
     for (index, (source, text)) in rows.iter().enumerate() {
-        if !is_program(alloc, source, text)? {
-            return Ok(Some(index));
+        if !is_program(alloc, source, text) {
+            return Some(index);
         }
     }
-    Ok(None)
+    None
 }
 
 // The first row that is no expression of its text.
-fn first_other_expression(alloc: Global, rows: &[(&str, &str)]) -> Result<Option<usize>, NoMemory> {
+fn first_other_expression(alloc: Global, rows: &[(&str, &str)]) -> Option<usize> {
     for (index, (expression, text)) in rows.iter().enumerate() {
-        if !is_expression(alloc, expression, text)? {
-            return Ok(Some(index));
+        if !is_expression(alloc, expression, text) {
+            return Some(index);
         }
     }
-    Ok(None)
+    None
 }
 
-fn whole_is_canonical(alloc: Global) -> Result<bool, NoMemory> {
+fn whole_is_canonical(alloc: Global) -> bool {
     is_canonical(alloc, WHOLE, TEXT_OF_WHOLE)
 }
 
-fn first_other_of_programs(alloc: Global) -> Result<Option<usize>, NoMemory> {
+fn first_other_of_programs(alloc: Global) -> Option<usize> {
     first_other_program(alloc, &PROGRAMS)
 }
 
-fn first_other_of_expressions(alloc: Global) -> Result<Option<usize>, NoMemory> {
+fn first_other_of_expressions(alloc: Global) -> Option<usize> {
     first_other_expression(alloc, &EXPRESSIONS)
 }
 
 #[test]
 fn programs_have_canonical_texts(rt: HostRuntime) {
-    assert!(rt; whole_is_canonical(rt.alloc()) == Ok(true));
-    let program = first_other_of_programs(rt.alloc());
-    assert!(rt; program == Ok(None), "{program:?}");
-    let expression = first_other_of_expressions(rt.alloc());
-    assert!(rt; expression == Ok(None), "{expression:?}");
+    assert!(rt; whole_is_canonical(rt.alloc()));
+    expect_none(&rt, "PROGRAMS", first_other_of_programs(rt.alloc()));
+    expect_none(&rt, "EXPRESSIONS", first_other_of_expressions(rt.alloc()));
 }
 
-// `a other b` in brackets, between two texts. Whether the canonical text keeps the brackets exactly if
-// it needs them.
-fn has_brackets(
+// Whether an expression with brackets keeps them, or else has the text without them.
+fn keeps_brackets(alloc: Global, with: &str, without: &str, needs: bool) -> bool {
+    is_expression(alloc, with, if needs { with } else { without })
+}
+
+// `a other b` between two texts, with brackets and without.
+fn bracketed(
     alloc: Global,
     before: &str,
     other: &str,
     after: &str,
-    needs: bool,
-) -> Result<bool, NoMemory> {
-    let source = format!(in alloc; "{before}(a {other} b){after}")?;
-    if needs {
-        return is_expression(alloc, source.as_str(), source.as_str());
+) -> Result<(String, String), NoMemory> {
+    let with = format!(in alloc; "{before}(a {other} b){after}")?;
+    let without = format!(in alloc; "{before}a {other} b{after}")?;
+    Ok((with, without))
+}
+
+// Whether the canonical text of that keeps the brackets exactly if it needs them.
+fn has_brackets(alloc: Global, before: &str, other: &str, after: &str, needs: bool) -> bool {
+    match bracketed(alloc, before, other, after) {
+        Ok((with, without)) => { keeps_brackets(alloc, with.as_str(), without.as_str(), needs) }
+        Err(NoMemory) => false,
     }
-    let text = format!(in alloc; "{before}a {other} b{after}")?;
-    is_expression(alloc, source.as_str(), text.as_str())
 }
 
 // On the left of an operator, `a other b` has brackets if its level is lower.
-fn has_left_brackets(
-    alloc: Global,
-    outer: (&str, u32),
-    inner: (&str, u32),
-) -> Result<bool, NoMemory> {
-    let after = format!(in alloc; " {} c", outer.0)?;
-    has_brackets(alloc, "", inner.0, after.as_str(), inner.1 < outer.1)
+fn has_left_brackets(alloc: Global, outer: (&str, u32), inner: (&str, u32)) -> bool {
+    match format!(in alloc; " {} c", outer.0) {
+        Ok(after) => has_brackets(alloc, "", inner.0, after.as_str(), inner.1 < outer.1),
+        Err(_) => false,
+    }
 }
 
 // On the right it has them if its level is lower or the same.
-fn has_right_brackets(
-    alloc: Global,
-    outer: (&str, u32),
-    inner: (&str, u32),
-) -> Result<bool, NoMemory> {
-    let before = format!(in alloc; "c {} ", outer.0)?;
-    has_brackets(alloc, before.as_str(), inner.0, "", inner.1 <= outer.1)
+fn has_right_brackets(alloc: Global, outer: (&str, u32), inner: (&str, u32)) -> bool {
+    match format!(in alloc; "c {} ", outer.0) {
+        Ok(before) => has_brackets(alloc, before.as_str(), inner.0, "", inner.1 <= outer.1),
+        Err(_) => false,
+    }
 }
 
 // The first operator that has other brackets as an operand of `outer`.
@@ -238,34 +260,30 @@ fn first_other_operand(
     alloc: Global,
     outer: (&str, u32),
     operators: &[(&str, u32)],
-) -> Result<Option<usize>, NoMemory> {
+) -> Option<usize> {
     for (index, inner) in operators.iter().enumerate() {
-        if !has_left_brackets(alloc, outer, *inner)? || !has_right_brackets(alloc, outer, *inner)? {
-            return Ok(Some(index));
+        if !has_left_brackets(alloc, outer, *inner) || !has_right_brackets(alloc, outer, *inner) {
+            return Some(index);
         }
     }
-    Ok(None)
+    None
 }
 
 // The first pair of an operator and another one in its operand that has other brackets.
-fn first_other_pair(
-    alloc: Global,
-    operators: &[(&str, u32)],
-) -> Result<Option<(usize, usize)>, NoMemory> {
+fn first_other_pair(alloc: Global, operators: &[(&str, u32)]) -> Option<(usize, usize)> {
     for (index, outer) in operators.iter().enumerate() {
-        if let Some(inner) = first_other_operand(alloc, *outer, operators)? {
-            return Ok(Some((index, inner)));
+        if let Some(inner) = first_other_operand(alloc, *outer, operators) {
+            return Some((index, inner));
         }
     }
-    Ok(None)
+    None
 }
 
-fn first_other_of_operators(alloc: Global) -> Result<Option<(usize, usize)>, NoMemory> {
+fn first_other_of_operators(alloc: Global) -> Option<(usize, usize)> {
     first_other_pair(alloc, &OPERATORS)
 }
 
 #[test]
 fn operands_have_the_brackets_that_they_need(rt: HostRuntime) {
-    let other = first_other_of_operators(rt.alloc());
-    assert!(rt; other == Ok(None), "{other:?}");
+    expect_no_pair(&rt, "OPERATORS", first_other_of_operators(rt.alloc()));
 }

@@ -82,23 +82,27 @@ fn printed(alloc: Global, fault: SourceFault) -> Result<String, NoMemory> {
     })
 }
 
+// Whether a fault is printed like this.
+fn is_printed(alloc: Global, fault: SourceFault, expected: &str) -> bool {
+    match printed(alloc, fault) {
+        Ok(found) => found.as_str() == expected,
+        Err(NoMemory) => false,
+    }
+}
+
 // Whether this is the fault of a kind at an offset, or at a mark.
-fn is_fault(
-    alloc: Global,
-    fault: Option<SourceFault>,
-    kind: &str,
-    number: usize,
-) -> Result<bool, NoMemory> {
+fn is_fault(alloc: Global, fault: Option<SourceFault>, kind: &str, number: usize) -> bool {
     let Some(fault) = fault else {
-        return Ok(false);
+        return false;
     };
-    let found = printed(alloc, fault)?;
-    let expected = format!(in alloc; "{kind}({number})")?;
-    Ok(found == expected)
+    match format!(in alloc; "{kind}({number})") {
+        Ok(expected) => is_printed(alloc, fault, expected.as_str()),
+        Err(_) => false,
+    }
 }
 
 // Whether the source has this fault at this offset.
-fn has_fault_at(alloc: Global, kind: &str, source: &[u8], offset: usize) -> Result<bool, NoMemory> {
+fn has_fault_at(alloc: Global, kind: &str, source: &[u8], offset: usize) -> bool {
     let found = find_fault(alloc, source);
     // The fault of a rule has the number of the mark, counted from 0.
     let mark = number_of_mark(found.places.as_slice(), offset);
@@ -112,12 +116,14 @@ fn number_of_mark(places: &[i64], offset: usize) -> Option<usize> {
 }
 
 /// Returns whether the source without its first `@` has this fault at the offset of that `@`.
-pub fn has_fault(alloc: Global, kind: &str, source: &str) -> Result<bool, NoMemory> {
+pub fn has_fault(alloc: Global, kind: &str, source: &str) -> bool {
     let Some((before, after)) = source.split_once('@') else {
-        return Ok(false);
+        return false;
     };
-    let source = format!(in alloc; "{before}{after}")?;
-    has_fault_at(alloc, kind, source.as_bytes(), before.len())
+    match format!(in alloc; "{before}{after}") {
+        Ok(source) => has_fault_at(alloc, kind, source.as_bytes(), before.len()),
+        Err(_) => false,
+    }
 }
 
 /// Sources of one kind of fault. Each is `before`, a row and `after`, and has the fault at the offset of
@@ -130,27 +136,29 @@ pub struct Faulty {
 }
 
 // Whether the source of a row has the fault.
-fn row_has_fault(alloc: Global, sources: &Faulty, row: &str) -> Result<bool, NoMemory> {
-    let source = format!(in alloc; "{}{row}{}", sources.before, sources.after)?;
-    has_fault(alloc, sources.kind, source.as_str())
+fn row_has_fault(alloc: Global, sources: &Faulty, row: &str) -> bool {
+    match format!(in alloc; "{}{row}{}", sources.before, sources.after) {
+        Ok(source) => has_fault(alloc, sources.kind, source.as_str()),
+        Err(_) => false,
+    }
 }
 
 // The first row whose source does not have the fault.
-fn first_other_row(alloc: Global, sources: &Faulty) -> Result<Option<usize>, NoMemory> {
+fn first_other_row(alloc: Global, sources: &Faulty) -> Option<usize> {
     for (index, row) in sources.rows.iter().enumerate() {
-        if !row_has_fault(alloc, sources, row)? {
-            return Ok(Some(index));
+        if !row_has_fault(alloc, sources, row) {
+            return Some(index);
         }
     }
-    Ok(None)
+    None
 }
 
 /// Returns where the first source is that does not have its fault: the number of its kind, and of its row.
-pub fn first_other(alloc: Global, kinds: &[Faulty]) -> Result<Option<(usize, usize)>, NoMemory> {
+pub fn first_other(alloc: Global, kinds: &[Faulty]) -> Option<(usize, usize)> {
     for (number, sources) in kinds.iter().enumerate() {
-        if let Some(row) = first_other_row(alloc, sources)? {
-            return Ok(Some((number, row)));
+        if let Some(row) = first_other_row(alloc, sources) {
+            return Some((number, row));
         }
     }
-    Ok(None)
+    None
 }

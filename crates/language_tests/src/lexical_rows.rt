@@ -1,6 +1,7 @@
 //! Sources with their tokens or their first lexical fault.
 
 use crate::faults_found::{Faulty, LIMITS, first_other, has_fault};
+use crate::first_rows::{expect_no_pair, expect_none};
 use pipe_lexer::fault::LexFault;
 use pipe_lexer::scan::tokens;
 use pipe_model::memory::NoMemory;
@@ -79,28 +80,30 @@ fn scanned(alloc: Global, source: &[u8]) -> Result<String, NoMemory> {
     }
 }
 
-fn is_scanned(alloc: Global, source: &[u8], expected: &str) -> Result<bool, NoMemory> {
-    Ok(scanned(alloc, source)?.as_str() == expected)
+fn is_scanned(alloc: Global, source: &[u8], expected: &str) -> bool {
+    match scanned(alloc, source) {
+        Ok(found) => found.as_str() == expected,
+        Err(NoMemory) => false,
+    }
 }
 
 // The first row with other tokens, or another fault.
-fn first_other_row(alloc: Global, rows: &[(&[u8], &str)]) -> Result<Option<usize>, NoMemory> {
+fn first_other_row(alloc: Global, rows: &[(&[u8], &str)]) -> Option<usize> {
     for (index, (source, expected)) in rows.iter().enumerate() {
-        if !is_scanned(alloc, source, expected)? {
-            return Ok(Some(index));
+        if !is_scanned(alloc, source, expected) {
+            return Some(index);
         }
     }
-    Ok(None)
+    None
 }
 
-fn first_other_of_tokens(alloc: Global) -> Result<Option<usize>, NoMemory> {
+fn first_other_of_tokens(alloc: Global) -> Option<usize> {
     first_other_row(alloc, &TOKENS)
 }
 
 #[test]
 fn sources_have_their_tokens(rt: HostRuntime) {
-    let other = first_other_of_tokens(rt.alloc());
-    assert!(rt; other == Ok(None), "{other:?}");
+    expect_none(&rt, "TOKENS", first_other_of_tokens(rt.alloc()));
 }
 
 const WORDS: &str =
@@ -132,31 +135,28 @@ fn are_words(alloc: Global, source: &str) -> bool {
 }
 
 // Whether no local may have this name.
-fn is_no_name(alloc: Global, word: &str) -> Result<bool, NoMemory> {
-    let source = format!(in alloc; "{LIMITS}pipe_while (0) {{ let @{word} = 1; }}")?;
-    has_fault(alloc, "Unexpected", source.as_str())
+fn is_no_name(alloc: Global, word: &str) -> bool {
+    match format!(in alloc; "{LIMITS}pipe_while (0) {{ let @{word} = 1; }}") {
+        Ok(source) => has_fault(alloc, "Unexpected", source.as_str()),
+        Err(_) => false,
+    }
 }
 
 // The first of some words, with blanks between them, that may be a name.
-fn first_name(alloc: Global, words: &str) -> Result<Option<usize>, NoMemory> {
+fn first_name(alloc: Global, words: &str) -> Option<usize> {
     for (index, word) in words.split(' ').enumerate() {
-        if !is_no_name(alloc, word)? {
-            return Ok(Some(index));
+        if !is_no_name(alloc, word) {
+            return Some(index);
         }
     }
-    Ok(None)
-}
-
-// Whether all words are tokens of their own kinds, and the first word that may be a name.
-fn words(alloc: Global) -> Result<(bool, Option<usize>), NoMemory> {
-    Ok((are_words(alloc, WORDS), first_name(alloc, WORDS)?))
+    None
 }
 
 // A reserved word is a token of its own kind, and no name.
 #[test]
 fn reserved_words_are_no_names(rt: HostRuntime) {
-    let words = words(rt.alloc());
-    assert!(rt; words == Ok((true, None)), "{words:?}");
+    assert!(rt; are_words(rt.alloc(), WORDS));
+    expect_none(&rt, "WORDS", first_name(rt.alloc(), WORDS));
 }
 
 const LEXICAL: [Faulty; 3] = [
@@ -187,29 +187,35 @@ const LEXICAL: [Faulty; 3] = [
     },
 ];
 
-fn first_other_of_lexical(alloc: Global) -> Result<Option<(usize, usize)>, NoMemory> {
+fn first_other_of_lexical(alloc: Global) -> Option<(usize, usize)> {
     first_other(alloc, &LEXICAL)
 }
 
 // A lexical fault counts before each fault of the syntax, even if it comes later in the text.
 #[test]
 fn lexical_faults_come_first(rt: HostRuntime) {
-    let other = first_other_of_lexical(rt.alloc());
-    assert!(rt; other == Ok(None), "{other:?}");
+    expect_no_pair(&rt, "LEXICAL", first_other_of_lexical(rt.alloc()));
 }
 
-// The number of tokens of a source that repeats a byte, or its fault.
-fn repeated(alloc: Global, byte: u8, count: usize) -> Result<Result<usize, LexFault>, NoMemory> {
-    let source = Vec::from_elem(alloc, byte, count)?;
-    match tokens(alloc, source.as_slice()) {
-        Ok(found) => Ok(Ok(found.len())),
-        Err(fault) => Ok(Err(fault)),
+// The number of tokens of a source, or its fault.
+fn token_count(alloc: Global, source: &[u8]) -> Result<usize, LexFault> {
+    match tokens(alloc, source) {
+        Ok(found) => Ok(found.len()),
+        Err(fault) => Err(fault),
+    }
+}
+
+// Whether a source that repeats a byte has this number of tokens, or this fault.
+fn has_count(alloc: Global, byte: u8, count: usize, wanted: Result<usize, LexFault>) -> bool {
+    match Vec::from_elem(alloc, byte, count) {
+        Ok(source) => token_count(alloc, source.as_slice()) == wanted,
+        Err(_) => false,
     }
 }
 
 #[test]
 fn the_longest_source_has_2_to_the_20_bytes(rt: HostRuntime) {
-    assert!(rt; repeated(rt.alloc(), b' ', LONGEST_SOURCE) == Ok(Ok(0)));
-    let longer = repeated(rt.alloc(), b'@', LONGEST_SOURCE + 1);
-    assert!(rt; longer == Ok(Err(LexFault::SourceTooLong)));
+    let too_long = Err(LexFault::SourceTooLong);
+    assert!(rt; has_count(rt.alloc(), b' ', LONGEST_SOURCE, Ok(0)));
+    assert!(rt; has_count(rt.alloc(), b'@', LONGEST_SOURCE + 1, too_long));
 }

@@ -9,6 +9,8 @@ mod canonical_rows;
 #[cfg(test)]
 mod faults_found;
 #[cfg(test)]
+mod first_rows;
+#[cfg(test)]
 mod lexical_rows;
 #[cfg(test)]
 mod operator_rows;

@@ -1,5 +1,6 @@
 //! Operators in their table.
 
+use crate::first_rows::expect_none;
 use op_table::operators::OPS;
 use op_table::table::OpTable;
 
@@ -46,8 +47,7 @@ fn first_other_of_all() -> Option<usize> {
 
 #[test]
 fn bytes_begin_with_operators(rt: HostRuntime) {
-    let other = first_other_of_all();
-    assert!(rt; other.is_none(), "{other:?}");
+    expect_none(&rt, "PREFIXES", first_other_of_all());
     assert!(rt; !is_code(14) && !is_code(255));
 }
 

@@ -1,8 +1,8 @@
 //! Sources with the first rule that they break, and what is known of a program that breaks none.
 
 use crate::faults_found::{Faulty, LIMITS, first_other};
+use crate::first_rows::expect_no_pair;
 use crate::sources::accepted;
-use pipe_model::memory::NoMemory;
 use std::alloc::Global;
 
 const UNKNOWN: [&str; 13] = [
@@ -101,14 +101,13 @@ const BROKEN: [Faulty; 7] = [
     },
 ];
 
-fn first_other_of_broken(alloc: Global) -> Result<Option<(usize, usize)>, NoMemory> {
+fn first_other_of_broken(alloc: Global) -> Option<(usize, usize)> {
     first_other(alloc, &BROKEN)
 }
 
 #[test]
 fn broken_rules_have_their_marks(rt: HostRuntime) {
-    let other = first_other_of_broken(rt.alloc());
-    assert!(rt; other == Ok(None), "{other:?}");
+    expect_no_pair(&rt, "BROKEN", first_other_of_broken(rt.alloc()));
 }
 
 const CELLS: &[u8] =

@@ -2,7 +2,7 @@
 
 use crate::faults_found::SourceFault::Syntactic;
 use crate::faults_found::{Faulty, LIMITS, first_fault, first_other, has_fault, is_accepted};
-use pipe_model::memory::NoMemory;
+use crate::first_rows::{expect_no_pair, expect_none};
 use pipe_parser::parse::ParseFault;
 use std::alloc::Global;
 
@@ -134,43 +134,46 @@ const UNEXPECTED: [Faulty; 4] = [
     },
 ];
 
-fn first_other_of_unexpected(alloc: Global) -> Result<Option<(usize, usize)>, NoMemory> {
+fn first_other_of_unexpected(alloc: Global) -> Option<(usize, usize)> {
     first_other(alloc, &UNEXPECTED)
 }
 
 #[test]
 fn syntax_faults_have_their_offsets(rt: HostRuntime) {
-    let other = first_other_of_unexpected(rt.alloc());
-    assert!(rt; other == Ok(None), "{other:?}");
+    expect_no_pair(&rt, "UNEXPECTED", first_other_of_unexpected(rt.alloc()));
 }
 
 // Whether the limits and the row are a program that breaks no rule.
-fn row_is_accepted(alloc: Global, row: &str) -> Result<bool, NoMemory> {
-    let source = format!(in alloc; "{LIMITS}{row}")?;
-    Ok(is_accepted(alloc, source.as_str()))
+fn row_is_accepted(alloc: Global, row: &str) -> bool {
+    match format!(in alloc; "{LIMITS}{row}") {
+        Ok(source) => is_accepted(alloc, source.as_str()),
+        Err(_) => false,
+    }
 }
 
-fn first_refused(alloc: Global, rows: &[&str]) -> Result<Option<usize>, NoMemory> {
+fn first_refused(alloc: Global, rows: &[&str]) -> Option<usize> {
     for (index, row) in rows.iter().enumerate() {
-        if !row_is_accepted(alloc, row)? {
-            return Ok(Some(index));
+        if !row_is_accepted(alloc, row) {
+            return Some(index);
         }
     }
-    Ok(None)
+    None
 }
 
-fn first_refused_of_all(alloc: Global) -> Result<Option<usize>, NoMemory> {
+fn first_refused_of_all(alloc: Global) -> Option<usize> {
     first_refused(alloc, &ACCEPTED)
 }
 
 #[test]
 fn programs_are_accepted(rt: HostRuntime) {
-    let refused = first_refused_of_all(rt.alloc());
-    assert!(rt; refused == Ok(None), "{refused:?}");
+    expect_none(&rt, "ACCEPTED", first_refused_of_all(rt.alloc()));
 }
 
 const COUNTING: &str =
     "limits iterations 2, stages 1, steps 50, emits 2; cell n = 0; pipe_while (n < 3) { n = n + 1; emit n; }";
+
+// A source that ends within a number.
+const SHORT: &str = "limits iterations 2, stages 1, steps 5@";
 
 // Whether the source has a token that may not come there, or ends too early.
 fn is_unexpected(alloc: Global, source: &str) -> bool {
@@ -193,20 +196,10 @@ fn first_other_prefix(alloc: Global, source: &str) -> Option<usize> {
     None
 }
 
-// Whether the program is accepted, and its first proper prefix that is not refused for that.
-fn prefixes(alloc: Global) -> (bool, Option<usize>) {
-    (
-        is_accepted(alloc, COUNTING),
-        first_other_prefix(alloc, COUNTING),
-    )
-}
-
 // A proper prefix of a program is no program: it ends too early, at a token that the rest would
 // make longer or at its end.
 #[test]
 fn proper_prefixes_are_refused(rt: HostRuntime) {
-    let prefixes = prefixes(rt.alloc());
-    assert!(rt; prefixes == (true, None), "{prefixes:?}");
-    let short = "limits iterations 2, stages 1, steps 5@";
-    assert!(rt; has_fault(rt.alloc(), "Unexpected", short) == Ok(true));
+    expect_none(&rt, "prefixes", first_other_prefix(rt.alloc(), COUNTING));
+    assert!(rt; is_accepted(rt.alloc(), COUNTING) && has_fault(rt.alloc(), "Unexpected", SHORT));
 }
