@@ -15,7 +15,8 @@ marks_at-requires g c =
 pub returns-then-is_empty-clause-marks : goal.returns-then-is_empty-clause-marks
 returns-then-is_empty-clause-marks g c =
     let none = head_marks_none c.args.rows.now (let t = c.if-is_empty.true in let e = c.is_empty.ensures in grind (arith)) in
-    c.start_first.ensures.marks ∙ ap (λ o. marks_after (length c.args.orders.now.down.log) (down_taken None o) (right_taken None o)) (sym none)
+    c.start_first.ensures.marks
+    ∙ ap (λ o. marks_after (length c.args.orders.now.down.log) (down_taken None o) (right_taken None o)) (sym none)
 
 pub returns-then-is_empty-clause-lists : goal.returns-then-is_empty-clause-lists
 returns-then-is_empty-clause-lists g c =
