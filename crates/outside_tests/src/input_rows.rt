@@ -4,7 +4,6 @@ use pipe_io::input_fault::InputFault;
 use pipe_io::numbers::numbers;
 use pipe_model::memory::NoMemory;
 use std::alloc::Global;
-use std::test::Fail;
 
 const LONGEST_INPUT: usize = 16_777_216;
 
@@ -51,35 +50,45 @@ const INPUTS: [(&[u8], &str); 37] = [
     (b"1 \xff", "BadByte(2)"),
 ];
 
-// The numbers of an input, or its fault.
-fn listed(alloc: Global, input: &[u8]) -> Result<String, NoMemory> {
-    let mut text = String::new(alloc);
-    match numbers(alloc, input) {
-        Err(fault) => write!(text, "{fault:?}")?,
-        Ok(found) => {
-            for number in found.as_slice() {
-                write!(text, "{number} ")?;
-            }
-        }
+fn push_numbers(text: &mut String, numbers: &[i64]) -> Result<(), NoMemory> {
+    for number in numbers {
+        write!(text, "{number} ")?;
     }
-    Ok(text)
+    Ok(())
 }
 
-// Fails the test unless an input has these numbers, or this fault.
-fn check_input(alloc: Global, input: &[u8], wanted: &str) -> Result<(), Fail> {
-    let found = listed(alloc, input)?;
-    if found.as_str() == wanted {
-        return Ok(());
+// Appends the numbers of an input, or its fault.
+fn push_listed(text: &mut String, alloc: Global, input: &[u8]) -> Result<(), NoMemory> {
+    match numbers(alloc, input) {
+        Err(fault) => Ok(write!(text, "{fault:?}")?),
+        Ok(found) => push_numbers(text, found.as_slice()),
     }
-    Err(Fail::new(format_args!("{found}, and not {wanted}")))
+}
+
+// Whether an input has these numbers, or this fault.
+fn is_listed(alloc: Global, input: &[u8], wanted: &str) -> bool {
+    let mut text = String::new(alloc);
+    push_listed(&mut text, alloc, input) == Ok(()) && text.as_str() == wanted
+}
+
+// The first input with other numbers, or another fault.
+fn first_other_input(alloc: Global, inputs: &[(&[u8], &str)]) -> Option<usize> {
+    for (index, (input, wanted)) in inputs.iter().enumerate() {
+        if !is_listed(alloc, input, wanted) {
+            return Some(index);
+        }
+    }
+    None
+}
+
+fn first_other_of_inputs(alloc: Global) -> Option<usize> {
+    first_other_input(alloc, &INPUTS)
 }
 
 #[test]
-fn inputs_have_their_numbers(rt: HostRuntime) -> Result<(), Fail> {
-    for (input, wanted) in &INPUTS {
-        check_input(rt.alloc(), input, wanted)?;
-    }
-    Ok(())
+fn inputs_have_their_numbers(rt: HostRuntime) {
+    let other = first_other_of_inputs(rt.alloc());
+    assert!(rt; other.is_none(), "{other:?}");
 }
 
 // A number of zeros, each with a space after it, then another text, and how many numbers or what fault
@@ -97,7 +106,7 @@ const ZEROS: [(usize, &[u8], Result<usize, InputFault>); 4] = [
     (MOST_NUMBERS, b"-", Err(InputFault::BadByte(2_097_153))),
 ];
 
-fn zeros(alloc: Global, count: usize, last: &[u8]) -> Result<Vec<u8>, InputFault> {
+fn zeros(alloc: Global, count: usize, last: &[u8]) -> Result<Vec<u8>, NoMemory> {
     let mut input = Vec::new(alloc);
     for _ in 0..count {
         input.extend_from_slice(b"0 ")?;
@@ -106,29 +115,49 @@ fn zeros(alloc: Global, count: usize, last: &[u8]) -> Result<Vec<u8>, InputFault
     Ok(input)
 }
 
-// How many numbers these zeros and the text are.
-fn zero_count(alloc: Global, count: usize, last: &[u8]) -> Result<usize, InputFault> {
-    let input = zeros(alloc, count, last)?;
-    Ok(numbers(alloc, input.as_slice())?.len())
+// How many numbers an input has, or its fault.
+fn number_count(alloc: Global, input: &[u8]) -> Result<usize, InputFault> {
+    match numbers(alloc, input) {
+        Ok(found) => Ok(found.len()),
+        Err(fault) => Err(fault),
+    }
+}
+
+// Whether these zeros and the text have this number of numbers, or this fault.
+fn zeros_are(alloc: Global, count: usize, last: &[u8], wanted: Result<usize, InputFault>) -> bool {
+    match zeros(alloc, count, last) {
+        Ok(input) => number_count(alloc, input.as_slice()) == wanted,
+        Err(NoMemory) => false,
+    }
+}
+
+// The first row with another number of numbers, or another fault.
+fn first_other_zeros(alloc: Global) -> Option<usize> {
+    for (index, (count, last, wanted)) in ZEROS.iter().enumerate() {
+        if !zeros_are(alloc, *count, last, *wanted) {
+            return Some(index);
+        }
+    }
+    None
 }
 
 #[test]
 fn numbers_are_counted(rt: HostRuntime) {
-    for (count, last, wanted) in &ZEROS {
-        let found = zero_count(rt.alloc(), *count, last);
-        assert!(rt; found == *wanted, "{found:?}, and not {wanted:?}");
-    }
+    let other = first_other_zeros(rt.alloc());
+    assert!(rt; other.is_none(), "{other:?}");
 }
 
-// How many numbers an input of spaces has.
-fn space_count(alloc: Global, count: usize) -> Result<usize, InputFault> {
-    let input = Vec::from_elem(alloc, b' ', count)?;
-    Ok(numbers(alloc, input.as_slice())?.len())
+// Whether an input of spaces has this number of numbers, or this fault.
+fn spaces_are(alloc: Global, count: usize, wanted: Result<usize, InputFault>) -> bool {
+    match Vec::from_elem(alloc, b' ', count) {
+        Ok(input) => number_count(alloc, input.as_slice()) == wanted,
+        Err(_) => false,
+    }
 }
 
 // The longest input is read, and one more byte is too long.
 #[test]
 fn bytes_are_counted(rt: HostRuntime) {
-    assert!(rt; space_count(rt.alloc(), LONGEST_INPUT) == Ok(0));
-    assert!(rt; space_count(rt.alloc(), LONGEST_INPUT + 1) == Err(InputFault::TooLong));
+    assert!(rt; spaces_are(rt.alloc(), LONGEST_INPUT, Ok(0)));
+    assert!(rt; spaces_are(rt.alloc(), LONGEST_INPUT + 1, Err(InputFault::TooLong)));
 }

@@ -5,7 +5,6 @@ use pipe_gen::workload::generate;
 use pipe_io::numbers::numbers;
 use pipe_model::memory::NoMemory;
 use std::alloc::Global;
-use std::test::Fail;
 
 const SOURCE: &str = "limits iterations 3, stages 6, steps 100, emits 3;
 cell sum = 0;
@@ -34,32 +33,35 @@ fn choices_are_mixed(rt: HostRuntime) {
 }
 
 // Whether the source and the input of seed 1 and size 3 are these.
-fn makes(alloc: Global, source: &[u8], input: &[u8]) -> Result<(bool, bool), NoMemory> {
-    let made = generate(alloc, 1, 3)?;
-    Ok((
-        made.source.as_slice() == source,
-        made.input.as_slice() == input,
-    ))
-}
-
-#[test]
-fn a_workload_is_generated(rt: HostRuntime) -> Result<(), Fail> {
-    let (source, input) = makes(rt.alloc(), SOURCE.as_bytes(), INPUT)?;
-    assert!(rt; source && input, "source {source}, input {input}");
-    Ok(())
-}
-
-// The number of items of the greatest workload, if its input is read as numbers.
-fn item_count(alloc: Global) -> Result<Option<usize>, NoMemory> {
-    let made = generate(alloc, 65_535, 40_000)?;
-    match numbers(alloc, made.input.as_slice()) {
-        Ok(items) => Ok(Some(items.len())),
-        Err(_) => Ok(None),
+fn makes(alloc: Global, source: &[u8], input: &[u8]) -> bool {
+    match generate(alloc, 1, 3) {
+        Ok(made) => made.source.as_slice() == source && made.input.as_slice() == input,
+        Err(NoMemory) => false,
     }
 }
 
 #[test]
-fn the_greatest_workload_is_generated(rt: HostRuntime) -> Result<(), Fail> {
-    assert!(rt; item_count(rt.alloc())? == Some(40_000));
-    Ok(())
+fn a_workload_is_generated(rt: HostRuntime) {
+    assert!(rt; makes(rt.alloc(), SOURCE.as_bytes(), INPUT));
+}
+
+// Whether an input is read as 40,000 numbers.
+fn has_40_000(alloc: Global, input: &[u8]) -> bool {
+    match numbers(alloc, input) {
+        Ok(items) => items.len() == 40_000,
+        Err(_) => false,
+    }
+}
+
+// The same for that of the greatest workload.
+fn greatest_has_its_items(alloc: Global) -> bool {
+    match generate(alloc, 65_535, 40_000) {
+        Ok(made) => has_40_000(alloc, made.input.as_slice()),
+        Err(NoMemory) => false,
+    }
+}
+
+#[test]
+fn the_greatest_workload_is_generated(rt: HostRuntime) {
+    assert!(rt; greatest_has_its_items(rt.alloc()));
 }
