@@ -74,6 +74,32 @@ fn list(alloc: Global, capacity: u32) -> Result<OmList, NoMemory>
     Ok(OmList::new(alloc, capacity)?)
 }
 
+// Two order lists without elements, each with room for this many.
+fn orders(alloc: Global, capacity: u32) -> Result<TwoOrders<OmList>, NoMemory>
+    requires positive { 0 < capacity }
+    requires bounded { capacity ≤ MOST_ELEMENTS }
+    ensures logs { IfOk result (λ o. (o.down.log ≡ []) × (o.right.log ≡ [])) }
+    ensures room { IfOk result (λ o. (o.down.capacity ≡ capacity) × (o.right.capacity ≡ capacity)) }
+    ensures identity { IfOk result (λ o. o.down.identity ≡ []) }
+{
+    let down = list(alloc, capacity)?;
+    let right = list(alloc, capacity)?;
+    Ok(TwoOrders::new(down, right))
+}
+
+// A book of a program, which has given no token.
+fn new_book(alloc: Global, source: Source, throttle: u32) -> Result<Book<Plan, OmList>, NoMemory>
+    requires small { IsSmall source }
+    requires throttle { 0 < throttle }
+{
+    let plan = Plan::new(source.turns, source.waits(), source.stages);
+    let program = program(alloc, source)?;
+    let input = Numbers::new(alloc);
+    let payloads = vec![in alloc; plan; throttle as usize]?;
+    let orders = orders(alloc, source.capacity())?;
+    Book::new(alloc, &program, &input, throttle, payloads, orders)
+}
+
 // Room for the tokens of some iterations; none is held.
 fn places(alloc: Global, count: u32) -> Result<Vec<Option<FrameToken<Plan>>>, NoMemory>
     ensures { IfOk result (λ places. (i : ℕ) → token_of places.items i ≡ None) }
@@ -102,17 +128,12 @@ impl Play {
         requires throttle { 0 < throttle }
         ensures { IfOk result (λ p. AreHeld p.book p.tokens.items) }
     {
-        let plan = Plan::new(source.turns, source.waits(), source.stages);
-        let payloads = vec![in alloc; plan; throttle as usize]?;
-        let capacity = source.capacity();
-        let orders = TwoOrders::new(list(alloc, capacity)?, list(alloc, capacity)?);
-        let program = program(alloc, source)?;
-        let input = Numbers::new(alloc);
-        let book = Book::new(alloc, &program, &input, throttle, payloads, orders)?;
+        let tokens = places(alloc, source.iterations + 1)?;
+        let book = new_book(alloc, source, throttle)?;
         Ok(Play {
             alloc,
             book,
-            tokens: places(alloc, source.iterations + 1)?,
+            tokens,
             ticket: 0,
         })
     }
