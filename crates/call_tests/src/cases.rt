@@ -6,9 +6,9 @@ use pipe_io::mem_sink::MemSink;
 use pipe_model::list::Bytes;
 use pipe_model::memory::NoMemory;
 use pipe_worker::gate::{Gate, OpenGate};
-use std::alloc::Global;
+use std::alloc::{AllocError, Global};
+use std::process::Abort;
 use std::sync::Wait;
-use std::test::Fail;
 use std::thread::Threads;
 
 // The words of calls. With one worker, `run` makes the serial run.
@@ -20,44 +20,50 @@ pub const SERIAL: &[&str] = &["serial", "a.pipe", "a.in"];
 
 pub const FORMAT: &[&str] = &["format", "a.pipe"];
 
-// The limits and the rest of a source, and the status and text of its call.
-pub type Row<'a> = ([u32; 4], &'a str, u8, &'a str);
-
-// A source of `rest` after these limits.
-pub fn source(alloc: Global, limits: [u32; 4], rest: &str) -> Result<String, NoMemory> {
-    let [iterations, stages, steps, emits] = limits;
-    Ok(format!(in alloc;
-        "limits iterations {iterations}, stages {stages}, steps {steps}, emits {emits}; {rest}"
-    )?)
+// A call to test, and how it is to end: its words, the texts of the source `a.pipe`, the input `a.in` and
+// the record `a.log`, the numbers of the reads and of the writes that fail, its status and what its sink
+// takes. Its files serve seven bytes a read, and its sink takes two a write.
+#[derive(Clone, Copy)]
+pub struct Case<'a> {
+    pub words: &'a [&'a str],
+    pub source: &'a str,
+    pub input: &'a str,
+    pub record: &'a str,
+    pub read_fails: &'a [u32],
+    pub write_fails: &'a [u32],
+    pub status: u8,
+    pub text: &'a str,
 }
 
-// A text `count` times.
-pub fn repeated(alloc: Global, text: &str, count: usize) -> Result<String, NoMemory> {
-    let mut all = String::new(alloc);
-    for _ in 0..count {
-        all.push_str(text)?;
+// A run with one worker, over empty files.
+pub const BLANK: Case<'static> = Case {
+    words: RUN,
+    source: "",
+    input: "",
+    record: "",
+    read_fails: &[],
+    write_fails: &[],
+    status: 0,
+    text: "",
+};
+
+// A call with these words over a source, with status 0 and without a text.
+pub fn case_of<'a>(words: &'a [&'a str], source: &'a str) -> Case<'a> {
+    Case {
+        words,
+        source,
+        ..BLANK
     }
-    Ok(all)
 }
 
-// Declarations of `count` locals.
-pub fn locals(alloc: Global, count: usize) -> Result<String, NoMemory> {
-    let mut text = String::new(alloc);
-    for k in 0..count {
-        write!(text, "let a{k} = 1; ")?;
-    }
-    Ok(text)
-}
-
-fn words(alloc: Global, texts: &[&str]) -> Result<Vec<String>, NoMemory> {
-    let mut words = Vec::new(alloc);
+fn push_words(words: &mut Vec<String>, alloc: Global, texts: &[&str]) -> Result<(), NoMemory> {
     for text in texts {
         words.push(String::from_str(alloc, text)?)?;
     }
-    Ok(words)
+    Ok(())
 }
 
-fn push_file(
+pub fn push_file(
     files: &mut Vec<(String, Bytes)>,
     alloc: Global,
     name: &str,
@@ -68,126 +74,40 @@ fn push_file(
     Ok(())
 }
 
-fn numbers(alloc: Global, number: Option<u32>) -> Result<Vec<u32>, NoMemory> {
-    let mut numbers = Vec::new(alloc);
-    if let Some(number) = number {
-        numbers.push(number)?;
-    }
-    Ok(numbers)
+// What a call is made of, besides its sink.
+#[derive(Drop)]
+struct Parts {
+    words: Vec<String>,
+    files: Vec<(String, Bytes)>,
+    read_fails: Vec<u32>,
+    write_fails: Vec<u32>,
 }
 
-// A call to test: its words, the texts of the source `a.pipe`, the input `a.in` and the record `a.log`,
-// and the numbers of a read and of a write that fail. Its files serve seven bytes a read, and its sink
-// takes two a write.
-#[derive(Clone, Copy)]
-pub struct Case<'a> {
-    words: &'a [&'a str],
-    source: &'a str,
-    input: &'a str,
-    record: &'a str,
-    read_fails: Option<u32>,
-    write_fails: Option<u32>,
-}
-
-impl<'a> Case<'a> {
-    // A run with one worker.
-    pub fn of(source: &'a str) -> Self {
-        Case {
-            words: RUN,
-            source,
-            input: "",
-            record: "",
-            read_fails: None,
-            write_fails: None,
+impl Parts {
+    fn new(alloc: Global) -> Self {
+        Parts {
+            words: Vec::new(alloc),
+            files: Vec::new(alloc),
+            read_fails: Vec::new(alloc),
+            write_fails: Vec::new(alloc),
         }
     }
 
-    pub fn with_words(self, words: &'a [&'a str]) -> Self {
-        Case { words, ..self }
+    fn push(&mut self, alloc: Global, case: &Case<'_>) -> Result<(), NoMemory> {
+        push_words(&mut self.words, alloc, case.words)?;
+        push_file(&mut self.files, alloc, "a.pipe", case.source)?;
+        push_file(&mut self.files, alloc, "a.in", case.input)?;
+        push_file(&mut self.files, alloc, "a.log", case.record)?;
+        self.read_fails.extend_from_slice(case.read_fails)?;
+        self.write_fails.extend_from_slice(case.write_fails)?;
+        Ok(())
     }
 
-    pub fn with_input(self, input: &'a str) -> Self {
-        Case { input, ..self }
-    }
-
-    pub fn with_record(self, record: &'a str) -> Self {
-        Case { record, ..self }
-    }
-
-    pub fn with_read_fault(self, read_fails: Option<u32>) -> Self {
-        Case { read_fails, ..self }
-    }
-
-    pub fn with_write_fault(self, write_fails: Option<u32>) -> Self {
-        Case {
-            write_fails,
-            ..self
-        }
-    }
-
-    fn files(self, alloc: Global) -> Result<Vec<(String, Bytes)>, NoMemory> {
-        let mut files = Vec::new(alloc);
-        push_file(&mut files, alloc, "a.pipe", self.source)?;
-        push_file(&mut files, alloc, "a.in", self.input)?;
-        push_file(&mut files, alloc, "a.log", self.record)?;
-        Ok(files)
-    }
-
-    fn mem_files(self, alloc: Global) -> Result<MemFiles, NoMemory> {
-        let fails = numbers(alloc, self.read_fails)?;
-        Ok(MemFiles::new(self.files(alloc)?, 7, fails))
-    }
-
-    // Makes the files, the words and the sink, but not the call.
-    pub fn set_up(self, alloc: Global) -> Result<Call, NoMemory> {
-        let sink = MemSink::new(alloc, 2, numbers(alloc, self.write_fails)?);
-        let words = words(alloc, self.words)?;
-        let files = self.mem_files(alloc)?;
-        Ok(Call { words, files, sink })
-    }
-
-    // Makes the call.
-    pub fn end(self, rt: &(impl Threads + Wait + Sync), alloc: Global) -> Result<Ended, NoMemory> {
-        self.end_at(rt, alloc, &OpenGate)
-    }
-
-    // Makes the call, with a gate for its workers.
-    pub fn end_at<G: Gate + Sync>(
-        self,
-        rt: &(impl Threads + Wait + Sync),
-        alloc: Global,
-        gate: &G,
-    ) -> Result<Ended, NoMemory> {
-        self.set_up(alloc)?.make(rt, alloc, gate)
-    }
-
-    // Makes the call. Returns its status and how many bytes it has written, unless it ends with this
-    // status and this text.
-    pub fn other_end<G: Gate + Sync>(
-        self,
-        rt: &(impl Threads + Wait + Sync),
-        alloc: Global,
-        gate: &G,
-        status: u8,
-        text: &str,
-    ) -> Result<Option<(u8, u64)>, NoMemory> {
-        self.set_up(alloc)?.other_end(rt, alloc, gate, status, text)
-    }
-
-    // Fails the test unless the call ends with this status and this text.
-    pub fn check(
-        self,
-        rt: &(impl Threads + Wait + Sync),
-        alloc: Global,
-        name: &str,
-        status: u8,
-        text: &str,
-    ) -> Result<(), Fail> {
-        match self.other_end(rt, alloc, &OpenGate, status, text)? {
-            None => Ok(()),
-            Some((other, written)) => Err(Fail::new(format_args!(
-                "{name}: status {other}, {written} bytes"
-            ))),
+    fn into_call(self, alloc: Global) -> Call {
+        Call {
+            words: self.words,
+            files: MemFiles::new(self.files, 7, self.read_fails),
+            sink: MemSink::new(alloc, 2, self.write_fails),
         }
     }
 }
@@ -198,6 +118,22 @@ pub struct Call {
     words: Vec<String>,
     files: MemFiles,
     sink: MemSink,
+}
+
+// Makes the files, the words and the sink, but not the call.
+pub fn set_up(alloc: Global, case: &Case<'_>) -> Result<Call, NoMemory> {
+    let mut parts = Parts::new(alloc);
+    match parts.push(alloc, case) {
+        Ok(()) => Ok(parts.into_call(alloc)),
+        Err(NoMemory) => Err(NoMemory),
+    }
+}
+
+// Whether a call that ended, and what its sink took, are as the case says.
+pub fn is_end(ended: &Ended, taken: &[u8], case: &Case<'_>) -> bool {
+    ended.status == case.status
+        && ended.written == case.text.len() as u64
+        && taken == case.text.as_bytes()
 }
 
 impl Call {
@@ -218,69 +154,166 @@ impl Call {
         )
     }
 
-    // Makes the call. Returns its status.
-    pub fn status(
-        &mut self,
-        rt: &(impl Threads + Wait + Sync),
-        alloc: Global,
-    ) -> Result<u8, NoMemory> {
-        Ok(self.make(rt, alloc, &OpenGate)?.status)
-    }
-
     // What the sink took.
     pub fn taken(&self) -> &[u8] {
         self.sink.taken().as_slice()
     }
 
-    fn other_end<G: Gate + Sync>(
+    fn ends<G: Gate + Sync>(
         &mut self,
         rt: &(impl Threads + Wait + Sync),
         alloc: Global,
         gate: &G,
-        status: u8,
-        text: &str,
-    ) -> Result<Option<(u8, u64)>, NoMemory> {
-        let Ended {
-            status: other,
-            run_log: _,
-            reports: _,
-            written,
-        } = self.make(rt, alloc, gate)?;
-        if other == status && written == text.len() as u64 && self.taken() == text.as_bytes() {
-            return Ok(None);
+        case: &Case<'_>,
+    ) -> bool {
+        match self.make(rt, alloc, gate) {
+            Ok(ended) => is_end(&ended, self.taken(), case),
+            Err(NoMemory) => false,
         }
-        Ok(Some((other, written)))
     }
 }
 
-// Fails the test unless the call with these words, over the source of the row, ends as the row says.
-pub fn check_words(
+// Makes the call with these words over a source, with a gate for its workers.
+pub fn ended_at<G: Gate + Sync>(
+    rt: &(impl Threads + Wait + Sync),
+    alloc: Global,
+    gate: &G,
+    words: &[&str],
+    source: &str,
+) -> Result<Ended, NoMemory> {
+    match set_up(alloc, &case_of(words, source)) {
+        Ok(mut call) => call.make(rt, alloc, gate),
+        Err(NoMemory) => Err(NoMemory),
+    }
+}
+
+// The same without a gate.
+pub fn ended(
+    rt: &(impl Threads + Wait + Sync),
+    alloc: Global,
+    words: &[&str],
+    source: &str,
+) -> Result<Ended, NoMemory> {
+    ended_at(rt, alloc, &OpenGate, words, source)
+}
+
+// Whether the call of a case, with a gate for its workers, ends as the case says.
+pub fn ends_at<G: Gate + Sync>(
+    rt: &(impl Threads + Wait + Sync),
+    alloc: Global,
+    gate: &G,
+    case: &Case<'_>,
+) -> bool {
+    match set_up(alloc, case) {
+        Ok(mut call) => call.ends(rt, alloc, gate, case),
+        Err(NoMemory) => false,
+    }
+}
+
+// The same without a gate.
+pub fn ends(rt: &(impl Threads + Wait + Sync), alloc: Global, case: &Case<'_>) -> bool {
+    ends_at(rt, alloc, &OpenGate, case)
+}
+
+// The first case that ends otherwise.
+pub fn first_other(
+    rt: &(impl Threads + Wait + Sync),
+    alloc: Global,
+    cases: &[Case<'_>],
+) -> Option<usize> {
+    for (index, case) in cases.iter().enumerate() {
+        if !ends(rt, alloc, case) {
+            return Some(index);
+        }
+    }
+    None
+}
+
+// Words, a source, and the status and text of their call.
+pub type CallRow<'a> = (&'a [&'a str], &'a str, u8, &'a str);
+
+// Whether the call of a row ends as the row says.
+pub fn call_ends(rt: &(impl Threads + Wait + Sync), alloc: Global, row: &CallRow<'_>) -> bool {
+    let (words, source, status, text) = *row;
+    ends(
+        rt,
+        alloc,
+        &Case {
+            status,
+            text,
+            ..case_of(words, source)
+        },
+    )
+}
+
+// The first row whose call ends otherwise.
+pub fn first_other_call(
+    rt: &(impl Threads + Wait + Sync),
+    alloc: Global,
+    rows: &[CallRow<'_>],
+) -> Option<usize> {
+    for (index, row) in rows.iter().enumerate() {
+        if !call_ends(rt, alloc, row) {
+            return Some(index);
+        }
+    }
+    None
+}
+
+// Whether the call with these words, over a source that is made, ends like this. It does not if memory ran out
+// before.
+pub fn made_source_ends(
+    rt: &(impl Threads + Wait + Sync),
+    alloc: Global,
+    words: &[&str],
+    source: Result<String, AllocError>,
+    status: u8,
+    text: &str,
+) -> bool {
+    match source {
+        Ok(source) => call_ends(rt, alloc, &(words, source.as_str(), status, text)),
+        Err(_) => false,
+    }
+}
+
+// The limits and the rest of a source, and the status and text of its call.
+pub type Row<'a> = ([u32; 4], &'a str, u8, &'a str);
+
+// A source of `rest` after these limits.
+pub fn source(alloc: Global, limits: [u32; 4], rest: &str) -> Result<String, AllocError> {
+    let [iterations, stages, steps, emits] = limits;
+    format!(in alloc;
+        "limits iterations {iterations}, stages {stages}, steps {steps}, emits {emits}; {rest}"
+    )
+}
+
+// Whether the call with these words, over the source of the row, ends as the row says.
+pub fn row_ends(
     rt: &(impl Threads + Wait + Sync),
     alloc: Global,
     words: &[&str],
     row: &Row<'_>,
-) -> Result<(), Fail> {
+) -> bool {
     let (limits, rest, status, text) = *row;
-    let source = source(alloc, limits, rest)?;
-    let case = Case::of(source.as_str()).with_words(words);
-    case.check(rt, alloc, rest, status, text)
+    made_source_ends(rt, alloc, words, source(alloc, limits, rest), status, text)
 }
 
-// The same for `run` with one worker.
-pub fn check_run(
+// The first row for which that is not so.
+pub fn first_other_row(
     rt: &(impl Threads + Wait + Sync),
     alloc: Global,
-    row: &Row<'_>,
-) -> Result<(), Fail> {
-    check_words(rt, alloc, RUN, row)
+    words: &[&str],
+    rows: &[Row<'_>],
+) -> Option<usize> {
+    for (index, row) in rows.iter().enumerate() {
+        if !row_ends(rt, alloc, words, row) {
+            return Some(index);
+        }
+    }
+    None
 }
 
-// The same for `run` and for `serial`.
-pub fn check_both(
-    rt: &(impl Threads + Wait + Sync),
-    alloc: Global,
-    row: &Row<'_>,
-) -> Result<(), Fail> {
-    check_words(rt, alloc, RUN, row)?;
-    check_words(rt, alloc, SERIAL, row)
+// Fails the test if there is a row of a table that is otherwise than the table says.
+pub fn expect_none(rt: &impl Abort, table: &str, row: Option<usize>) {
+    assert!(rt; row.is_none(), "{table}: row {row:?}");
 }

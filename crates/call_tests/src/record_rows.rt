@@ -1,10 +1,9 @@
 // Records that are checked, and wave loops that are run.
 
-use crate::cases::Case;
+use crate::cases::{BLANK, CallRow, Case, ended, expect_none, first_other, first_other_call};
 use pipe_model::memory::NoMemory;
 use std::alloc::Global;
 use std::sync::Wait;
-use std::test::Fail;
 use std::thread::Threads;
 
 const EMITS_ONE: &str =
@@ -15,112 +14,115 @@ const RACING: &str =
 
 const CHECK_RECORD: &[&str] = &["check-record", "a.pipe", "a.in", "a.log"];
 
-// A source and a record of it, with the status and the text of its check.
-type RecordRow<'a> = (&'a str, &'a str, u8, &'a str);
+const OF_EMITS_ONE: Case<'static> = Case {
+    words: CHECK_RECORD,
+    source: EMITS_ONE,
+    ..BLANK
+};
 
-const RECORDS: [RecordRow<'static>; 9] = [
-    (
-        EMITS_ONE,
-        "begin 0\nread 0 n 0\nwrite 0 n 1\nwait 0 1\nenter 0\nread 0 n 1\nread 0 output 0\nwrite 0 output 1\nend 0\nbegin 1\nread 1 n 1\nclosed 1\n",
-        0,
-        "run finished\n",
-    ),
-    (
-        EMITS_ONE,
-        "1\nbegin 0\nread 0 n 0\nwrite 0 n 1\nwait 0 1\nenter 0\nread 0 n 1\nread 0 output 0\nwrite 0 output 1\nend 0\nbegin 1\nread 1 n 1",
-        0,
-        "run unfinished\n",
-    ),
-    (
-        EMITS_ONE,
-        "begin 0\nread 0 n 0\nwrite 0 n 1\nwait 0 1\nread 0 n 1\n",
-        1,
-        "refused record NotAllowed at 4\n",
-    ),
-    (
-        EMITS_ONE,
-        "1\nbegin 0\nread 0 m 0\n",
-        1,
-        "refused record BadLine at 2\n",
-    ),
-    (EMITS_ONE, "begin 0\nstop\n", 0, "run stopped\n"),
-    (
-        EMITS_ONE,
-        "begin 0\nstop\nstop\n",
-        1,
-        "refused record NotAllowed at 2\n",
-    ),
-    (EMITS_ONE, "", 0, "run unfinished\n"),
-    (EMITS_ONE, "\n", 1, "refused record BadLine at 0\n"),
+const OF_RACING: Case<'static> = Case {
+    words: CHECK_RECORD,
+    source: RACING,
+    ..BLANK
+};
+
+const RECORDS: [Case<'static>; 9] = [
+    Case {
+        record: "begin 0\nread 0 n 0\nwrite 0 n 1\nwait 0 1\nenter 0\nread 0 n 1\nread 0 output 0\nwrite 0 output 1\nend 0\nbegin 1\nread 1 n 1\nclosed 1\n",
+        status: 0,
+        text: "run finished\n",
+        ..OF_EMITS_ONE
+    },
+    Case {
+        record: "1\nbegin 0\nread 0 n 0\nwrite 0 n 1\nwait 0 1\nenter 0\nread 0 n 1\nread 0 output 0\nwrite 0 output 1\nend 0\nbegin 1\nread 1 n 1",
+        status: 0,
+        text: "run unfinished\n",
+        ..OF_EMITS_ONE
+    },
+    Case {
+        record: "begin 0\nread 0 n 0\nwrite 0 n 1\nwait 0 1\nread 0 n 1\n",
+        status: 1,
+        text: "refused record NotAllowed at 4\n",
+        ..OF_EMITS_ONE
+    },
+    Case {
+        record: "1\nbegin 0\nread 0 m 0\n",
+        status: 1,
+        text: "refused record BadLine at 2\n",
+        ..OF_EMITS_ONE
+    },
+    Case {
+        record: "begin 0\nstop\n",
+        status: 0,
+        text: "run stopped\n",
+        ..OF_EMITS_ONE
+    },
+    Case {
+        record: "begin 0\nstop\nstop\n",
+        status: 1,
+        text: "refused record NotAllowed at 2\n",
+        ..OF_EMITS_ONE
+    },
+    Case {
+        record: "",
+        status: 0,
+        text: "run unfinished\n",
+        ..OF_EMITS_ONE
+    },
+    Case {
+        record: "\n",
+        status: 1,
+        text: "refused record BadLine at 0\n",
+        ..OF_EMITS_ONE
+    },
     // A run of two iterations that race, by its own log; another order of the accesses is another race.
-    (
-        RACING,
-        "begin 0\ncontinue 0 1\nbegin 1\ncontinue 1 1\nenter 1\nwrite 1 s 1\nenter 0\nwrite 0 s 1\nend 0\nend 1\nbegin 2\nclosed 2\n",
-        2,
-        "run finished\nrace s write 1/1 write 0/1\n",
-    ),
+    Case {
+        record: "begin 0\ncontinue 0 1\nbegin 1\ncontinue 1 1\nenter 1\nwrite 1 s 1\nenter 0\nwrite 0 s 1\nend 0\nend 1\nbegin 2\nclosed 2\n",
+        status: 2,
+        text: "run finished\nrace s write 1/1 write 0/1\n",
+        ..OF_RACING
+    },
 ];
 
-fn check_record(
-    rt: &(impl Threads + Wait + Sync),
-    alloc: Global,
-    row: &RecordRow<'_>,
-) -> Result<(), Fail> {
-    let (source, record, status, text) = *row;
-    let case = Case::of(source)
-        .with_words(CHECK_RECORD)
-        .with_record(record);
-    case.check(rt, alloc, text, status, text)
-}
-
 #[test]
-fn records_are_judged(rt: HostRuntime) -> Result<(), Fail> {
-    for row in &RECORDS {
-        check_record(&rt, rt.alloc(), row)?;
-    }
-    Ok(())
+fn records_are_judged(rt: HostRuntime) {
+    let other = first_other(&rt, rt.alloc(), &RECORDS);
+    expect_none(&rt, "RECORDS", other);
 }
 
-// Words, a read that fails, and the status and text of the call: a record that needs a greater throttling
-// limit, one that is not there, and one that cannot be read. The source takes eighteen reads, and the input
-// one; the last read of a file finds its end.
-type OtherRow<'a> = (&'a [&'a str], Option<u32>, u8, &'a str);
+// A beginning of a run of `RACING`.
+const BEGINNING: Case<'static> = Case {
+    record: "begin 0\ncontinue 0 1\nbegin 1\n",
+    ..OF_RACING
+};
 
-const OTHERS: [OtherRow<'static>; 3] = [
-    (
-        &["check-record", "a.pipe", "a.in", "a.log", "--throttle", "1"],
-        None,
-        1,
-        "refused record NotAllowed at 2\n",
-    ),
-    (
-        &["check-record", "a.pipe", "a.in", "b.log"],
-        None,
-        1,
-        "refused missing b.log\n",
-    ),
-    (CHECK_RECORD, Some(19), 4, "fault read a.log\n"),
+// A record that needs a greater throttling limit, one that is not there, and one that cannot be read. The
+// source takes eighteen reads, and the input one; the last read of a file finds its end.
+const OTHERS: [Case<'static>; 3] = [
+    Case {
+        words: &["check-record", "a.pipe", "a.in", "a.log", "--throttle", "1"],
+        status: 1,
+        text: "refused record NotAllowed at 2\n",
+        ..BEGINNING
+    },
+    Case {
+        words: &["check-record", "a.pipe", "a.in", "b.log"],
+        status: 1,
+        text: "refused missing b.log\n",
+        ..BEGINNING
+    },
+    Case {
+        read_fails: &[19],
+        status: 4,
+        text: "fault read a.log\n",
+        ..BEGINNING
+    },
 ];
 
-fn check_other(
-    rt: &(impl Threads + Wait + Sync),
-    alloc: Global,
-    row: &OtherRow<'_>,
-) -> Result<(), Fail> {
-    let (words, read, status, text) = *row;
-    let case = Case::of(RACING)
-        .with_words(words)
-        .with_record("begin 0\ncontinue 0 1\nbegin 1\n")
-        .with_read_fault(read);
-    case.check(rt, alloc, text, status, text)
-}
-
 #[test]
-fn other_records_are_refused(rt: HostRuntime) -> Result<(), Fail> {
-    for row in &OTHERS {
-        check_other(&rt, rt.alloc(), row)?;
-    }
-    Ok(())
+fn other_records_are_refused(rt: HostRuntime) {
+    let other = first_other(&rt, rt.alloc(), &OTHERS);
+    expect_none(&rt, "OTHERS", other);
 }
 
 const GRID: &str =
@@ -131,10 +133,7 @@ const RACING_GRID: &str =
 
 const WAVE: &[&str] = &["wave", "a.pipe", "a.in", "--workers", "8"];
 
-// Words, a source, and the status and text of the call.
-type WaveRow<'a> = (&'a [&'a str], &'a str, u8, &'a str);
-
-const WAVES: [WaveRow<'static>; 6] = [
+const WAVES: [CallRow<'static>; 6] = [
     (
         &["wave", "a.pipe", "a.in", "--workers", "1"],
         GRID,
@@ -164,36 +163,21 @@ const WAVES: [WaveRow<'static>; 6] = [
     ),
 ];
 
-fn check_wave(
-    rt: &(impl Threads + Wait + Sync),
-    alloc: Global,
-    row: &WaveRow<'_>,
-) -> Result<(), Fail> {
-    let (words, source, status, text) = *row;
-    let case = Case::of(source).with_words(words);
-    case.check(rt, alloc, source, status, text)
+#[test]
+fn waves_are_run(rt: HostRuntime) {
+    let other = first_other_call(&rt, rt.alloc(), &WAVES);
+    expect_none(&rt, "WAVES", other);
 }
 
-#[test]
-fn waves_are_run(rt: HostRuntime) -> Result<(), Fail> {
-    for row in &WAVES {
-        check_wave(&rt, rt.alloc(), row)?;
+// Whether the wave loop whose points race has one report.
+fn wave_races(rt: &(impl Threads + Wait + Sync), alloc: Global) -> bool {
+    match ended(rt, alloc, WAVE, RACING_GRID) {
+        Ok(ended) => ended.status == 2 && ended.reports.len() == 1,
+        Err(NoMemory) => false,
     }
-    Ok(())
-}
-
-// Runs the wave loop whose points race. Returns the status and the number of reports.
-fn reported(rt: &(impl Threads + Wait + Sync), alloc: Global) -> Result<(u8, usize), NoMemory> {
-    let ended = Case::of(RACING_GRID).with_words(WAVE).end(rt, alloc)?;
-    Ok((ended.status, ended.reports.len()))
 }
 
 #[test]
-fn waves_race(rt: HostRuntime) -> Result<(), Fail> {
-    let (status, reports) = reported(&rt, rt.alloc())?;
-    assert!(rt;
-        status == 2 && reports == 1,
-        "status {status}, {reports} reports"
-    );
-    Ok(())
+fn waves_race(rt: HostRuntime) {
+    assert!(rt; wave_races(&rt, rt.alloc()));
 }

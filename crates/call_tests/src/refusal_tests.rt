@@ -2,17 +2,41 @@
 // offset of the refusal, and is not part of the source. The crate `language_tests` has more sources
 // that are refused.
 
-use crate::cases::{Case, FORMAT, locals, repeated};
-use pipe_model::memory::NoMemory;
-use std::alloc::Global;
+use crate::cases::{FORMAT, RUN, call_ends, expect_none};
+use std::alloc::{AllocError, Global};
 use std::sync::Wait;
-use std::test::Fail;
 use std::thread::Threads;
 
 const LIMITS: &str = "limits iterations 1, stages 1, steps 1, emits 1; ";
 
+// At most 64 brackets are open at once.
+const TOO_DEEP: &str = "pipe_while \
+    ((((((((((((((((((((((((((((((((((((((((((((((((((((((((((((((((@(";
+
+// An expression has at most 256 symbols.
+const TOO_LONG: &str = "pipe_while (\
+    1+1+1+1+1+1+1+1+1+1+1+1+1+1+1+1+1+1+1+1+1+1+1+1+1+1+1+1+1+1+1+1+\
+    1+1+1+1+1+1+1+1+1+1+1+1+1+1+1+1+1+1+1+1+1+1+1+1+1+1+1+1+1+1+1+1+\
+    1+1+1+1+1+1+1+1+1+1+1+1+1+1+1+1+1+1+1+1+1+1+1+1+1+1+1+1+1+1+1+1+\
+    1+1+1+1+1+1+1+1+1+1+1+1+1+1+1+1+1+1+1+1+1+1+1+1+1+1+1+1+1+1+1+1+\
+    @1) { }";
+
+// A part has at most 64 locals.
+const TOO_MANY_LOCALS: &str = "pipe_while (0) { \
+    let a0 = 1; let a1 = 1; let a2 = 1; let a3 = 1; let a4 = 1; let a5 = 1; let a6 = 1; \
+    let a7 = 1; let a8 = 1; let a9 = 1; let a10 = 1; let a11 = 1; let a12 = 1; let a13 = 1; \
+    let a14 = 1; let a15 = 1; let a16 = 1; let a17 = 1; let a18 = 1; let a19 = 1; let a20 = 1; \
+    let a21 = 1; let a22 = 1; let a23 = 1; let a24 = 1; let a25 = 1; let a26 = 1; let a27 = 1; \
+    let a28 = 1; let a29 = 1; let a30 = 1; let a31 = 1; let a32 = 1; let a33 = 1; let a34 = 1; \
+    let a35 = 1; let a36 = 1; let a37 = 1; let a38 = 1; let a39 = 1; let a40 = 1; let a41 = 1; \
+    let a42 = 1; let a43 = 1; let a44 = 1; let a45 = 1; let a46 = 1; let a47 = 1; let a48 = 1; \
+    let a49 = 1; let a50 = 1; let a51 = 1; let a52 = 1; let a53 = 1; let a54 = 1; let a55 = 1; \
+    let a56 = 1; let a57 = 1; let a58 = 1; let a59 = 1; let a60 = 1; let a61 = 1; let a62 = 1; \
+    let a63 = 1; \
+    let @b = 1; }";
+
 // The kind of the refusal, and the source after its limits.
-const REFUSED: [(&str, &str); 12] = [
+const REFUSED: [(&str, &str); 15] = [
     ("source BadByte", "pipe_while (0) { } @#"),
     ("source TooWide", "pipe_while (@9223372036854775808) { }"),
     (
@@ -37,141 +61,146 @@ const REFUSED: [(&str, &str); 12] = [
     ),
     ("check NeedsIndex", "cell a[2] = 0; pipe_while (@a) { }"),
     ("check ZeroSize", "cell @a[0] = 0; pipe_while (0) { }"),
+    ("source TooDeep", TOO_DEEP),
+    ("source TooLong", TOO_LONG),
+    ("check TooManyLocals", TOO_MANY_LOCALS),
 ];
 
-// Fails the test unless `format` and `run` refuse the source with this line.
-fn check_line(
+// Whether `format` and `run` refuse the source with this line.
+fn is_refused(rt: &(impl Threads + Wait + Sync), alloc: Global, source: &str, line: &str) -> bool {
+    call_ends(rt, alloc, &(FORMAT, source, 1, line))
+        && call_ends(rt, alloc, &(RUN, source, 1, line))
+}
+
+// Whether the source is refused with a line of this kind and this offset.
+fn is_refused_at(
     rt: &(impl Threads + Wait + Sync),
     alloc: Global,
     source: &str,
-    line: &str,
-) -> Result<(), Fail> {
-    let run = Case::of(source);
-    let format = run.with_words(FORMAT);
-    format.check(rt, alloc, line, 1, line)?;
-    run.check(rt, alloc, line, 1, line)
+    kind: &str,
+    offset: usize,
+) -> bool {
+    match format!(in alloc; "refused {kind} at {offset}\n") {
+        Ok(line) => is_refused(rt, alloc, source, line.as_str()),
+        Err(_) => false,
+    }
 }
 
-// Fails the test unless the source of two parts after its limits is refused at the offset of the second.
-fn check_offset(
+// Whether the source of two parts after its limits is refused at the offset of the second.
+fn is_refused_between(
     rt: &(impl Threads + Wait + Sync),
     alloc: Global,
     kind: &str,
     before: &str,
     after: &str,
-) -> Result<(), Fail> {
-    let source = format!(in alloc; "{LIMITS}{before}{after}")?;
+) -> bool {
     let offset = LIMITS.len() + before.len();
-    let line = format!(in alloc; "refused {kind} at {offset}\n")?;
-    check_line(rt, alloc, source.as_str(), line.as_str())
+    match format!(in alloc; "{LIMITS}{before}{after}") {
+        Ok(source) => is_refused_at(rt, alloc, source.as_str(), kind, offset),
+        Err(_) => false,
+    }
 }
 
-// Fails the test unless the source after its limits is refused at the offset of the `@`.
-fn check_refusal(
+// Whether the source after its limits is refused at the offset of the `@`.
+fn is_refused_at_mark(
     rt: &(impl Threads + Wait + Sync),
     alloc: Global,
     kind: &str,
     rest: &str,
-) -> Result<(), Fail> {
+) -> bool {
     match rest.split_once('@') {
-        Some((before, after)) => check_offset(rt, alloc, kind, before, after),
-        None => Err(Fail::new(format_args!("{rest}: no offset"))),
+        Some((before, after)) => is_refused_between(rt, alloc, kind, before, after),
+        None => false,
     }
+}
+
+// The first source that is not refused so.
+fn first_other_refusal(rt: &(impl Threads + Wait + Sync), alloc: Global) -> Option<usize> {
+    for (index, (kind, rest)) in REFUSED.iter().enumerate() {
+        if !is_refused_at_mark(rt, alloc, kind, rest) {
+            return Some(index);
+        }
+    }
+    None
 }
 
 #[test]
-fn sources_are_refused(rt: HostRuntime) -> Result<(), Fail> {
-    for (kind, rest) in &REFUSED {
-        check_refusal(&rt, rt.alloc(), kind, rest)?;
-    }
-    Ok(())
+fn sources_are_refused(rt: HostRuntime) {
+    let other = first_other_refusal(&rt, rt.alloc());
+    expect_none(&rt, "REFUSED", other);
 }
 
-// Limits, and the number of the one that is out of range; the fault precedes that of the unknown
-// name.
-type RangeRow = ([i64; 4], u32);
-
-const RANGES: [RangeRow; 6] = [
-    ([0, 1, 1, 0], 1),
-    ([9_223_372_036_854_775_807, 4097, 1, 0], 1),
-    ([1, 4097, 1, 0], 2),
-    ([65_536, 5, 1, 0], 3),
-    ([64, 4096, 0, 0], 4),
-    ([1, 1, 1, 1_048_577], 5),
+// Sources and their lines. A limit that is out of range precedes the unknown name.
+const LINES: [(&str, &str); 7] = [
+    ("", "refused source Unexpected at 0\n"),
+    (
+        "limits iterations 0, stages 1, steps 1, emits 0; pipe_while (x) { }",
+        "refused check LimitOut 1\n",
+    ),
+    (
+        "limits iterations 9223372036854775807, stages 4097, steps 1, emits 0; pipe_while (x) { }",
+        "refused check LimitOut 1\n",
+    ),
+    (
+        "limits iterations 1, stages 4097, steps 1, emits 0; pipe_while (x) { }",
+        "refused check LimitOut 2\n",
+    ),
+    (
+        "limits iterations 65536, stages 5, steps 1, emits 0; pipe_while (x) { }",
+        "refused check LimitOut 3\n",
+    ),
+    (
+        "limits iterations 64, stages 4096, steps 0, emits 0; pipe_while (x) { }",
+        "refused check LimitOut 4\n",
+    ),
+    (
+        "limits iterations 1, stages 1, steps 1, emits 1048577; pipe_while (x) { }",
+        "refused check LimitOut 5\n",
+    ),
 ];
 
-fn check_limits(
-    rt: &(impl Threads + Wait + Sync),
-    alloc: Global,
-    row: &RangeRow,
-) -> Result<(), Fail> {
-    let ([iterations, stages, steps, emits], which) = *row;
-    let source = format!(in alloc;
-        "limits iterations {iterations}, stages {stages}, steps {steps}, emits {emits}; pipe_while (x) {{ }}"
-    )?;
-    let line = format!(in alloc; "refused check LimitOut {which}\n")?;
-    check_line(rt, alloc, source.as_str(), line.as_str())
+// The first source that is not refused with its line.
+fn first_other_line(rt: &(impl Threads + Wait + Sync), alloc: Global) -> Option<usize> {
+    for (index, (source, line)) in LINES.iter().enumerate() {
+        if !is_refused(rt, alloc, source, line) {
+            return Some(index);
+        }
+    }
+    None
 }
 
 #[test]
-fn limits_out_of_range_are_refused(rt: HostRuntime) -> Result<(), Fail> {
-    for row in &RANGES {
-        check_limits(&rt, rt.alloc(), row)?;
+fn limits_out_of_range_are_refused(rt: HostRuntime) {
+    let other = first_other_line(&rt, rt.alloc());
+    expect_none(&rt, "LINES", other);
+}
+
+fn push_blanks(source: &mut String, count: usize) -> Result<(), AllocError> {
+    for _ in 0..count {
+        source.push_str(" ")?;
     }
     Ok(())
 }
 
-// At most 64 brackets are open at once.
-fn too_deep(alloc: Global) -> Result<String, NoMemory> {
-    let brackets = repeated(alloc, "(", 64)?;
-    Ok(format!(in alloc; "pipe_while {brackets}@(")?)
-}
-
-// An expression has at most 256 symbols.
-fn too_long(alloc: Global) -> Result<String, NoMemory> {
-    let sum = repeated(alloc, "1+", 128)?;
-    Ok(format!(in alloc; "pipe_while ({sum}@1) {{ }}")?)
-}
-
-// A part has at most 64 locals.
-fn too_many_locals(alloc: Global) -> Result<String, NoMemory> {
-    let locals = locals(alloc, 64)?;
-    Ok(format!(in alloc; "pipe_while (0) {{ {locals}let @b = 1; }}")?)
-}
-
-#[test]
-fn bounds_are_kept(rt: HostRuntime) -> Result<(), Fail> {
-    let alloc = rt.alloc();
-    check_refusal(&rt, alloc, "source TooDeep", too_deep(alloc)?.as_str())?;
-    check_refusal(&rt, alloc, "source TooLong", too_long(alloc)?.as_str())?;
-    check_refusal(
-        &rt,
-        alloc,
-        "check TooManyLocals",
-        too_many_locals(alloc)?.as_str(),
-    )
-}
-
-// Fails the test unless a source of `count` blanks is refused with this line.
-fn check_blanks(
+// Whether a source of `count` blanks is refused with this line.
+fn blanks_are_refused(
     rt: &(impl Threads + Wait + Sync),
     alloc: Global,
     count: usize,
     line: &str,
-) -> Result<(), Fail> {
-    let source = repeated(alloc, " ", count)?;
-    check_line(rt, alloc, source.as_str(), line)
+) -> bool {
+    let mut source = String::new(alloc);
+    match push_blanks(&mut source, count) {
+        Ok(()) => is_refused(rt, alloc, source.as_str(), line),
+        Err(_) => false,
+    }
 }
 
 // A source has at most 1,048,576 bytes.
 #[test]
-fn longest_sources_are_read(rt: HostRuntime) -> Result<(), Fail> {
-    check_blanks(&rt, rt.alloc(), 0, "refused source Unexpected at 0\n")?;
-    check_blanks(
-        &rt,
-        rt.alloc(),
-        1_048_576,
-        "refused source Unexpected at 1048576\n",
-    )?;
-    check_blanks(&rt, rt.alloc(), 1_048_577, "refused source SourceTooLong\n")
+fn longest_sources_are_read(rt: HostRuntime) {
+    let longest = "refused source Unexpected at 1048576\n";
+    assert!(rt; blanks_are_refused(&rt, rt.alloc(), 1_048_576, longest));
+    let longer = "refused source SourceTooLong\n";
+    assert!(rt; blanks_are_refused(&rt, rt.alloc(), 1_048_577, longer));
 }

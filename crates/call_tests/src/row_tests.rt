@@ -1,14 +1,14 @@
 // Programs that run, and the status and the bytes written of each.
 
 use crate::cases::{
-    Call, Case, RUN, RUN_BY_FOUR, Row, SERIAL, check_both, check_run, check_words, locals, source,
+    Call, Case, RUN, RUN_BY_FOUR, Row, SERIAL, call_ends, case_of, ended, expect_none,
+    first_other_row, is_end, row_ends, set_up,
 };
 use pipe_model::memory::NoMemory;
-use pipe_model::report::Reports;
+use pipe_model::report::Report;
 use pipe_worker::gate::OpenGate;
 use std::alloc::Global;
 use std::sync::Wait;
-use std::test::Fail;
 use std::thread::Threads;
 
 const LET_AND_SET: &str = "cell n = 0; pipe_while (n < 1) { let m = 1; n = m; }";
@@ -18,15 +18,27 @@ const LET_ALONE: &str = "cell n = 0; pipe_while (n < 1) { let m = 1; }";
 const COUNT_UP: &str = "cell n = 0; pipe_while (n < 2) { n = n + 1; emit n; }";
 
 const PREFIX_SUMS: &str =
-    "cell n = 0; cell s = 0; pipe_while (n < 3) { n = n + 1; let t = n; pipe_wait(1); s = s + t; emit s; }";
+    "limits iterations 8, stages 4, steps 100, emits 8; cell n = 0; cell s = 0; pipe_while (n < 3) { n = n + 1; let t = n; pipe_wait(1); s = s + t; emit s; }";
 
 const RACING_SUMS: &str =
-    "cell n = 0; cell s = 0; pipe_while (n < 3) { n = n + 1; let t = n; pipe_continue(1); s = s + t; emit s; }";
+    "limits iterations 8, stages 4, steps 100, emits 8; cell n = 0; cell s = 0; pipe_while (n < 3) { n = n + 1; let t = n; pipe_continue(1); s = s + t; emit s; }";
 
 const RACING_LINES: &str = "race output write 0/1 read 1/1\nrace s write 0/1 read 1/1\n";
 
+const MOST_LOCALS: &str = "pipe_while (0) { \
+    let a0 = 1; let a1 = 1; let a2 = 1; let a3 = 1; let a4 = 1; let a5 = 1; let a6 = 1; \
+    let a7 = 1; let a8 = 1; let a9 = 1; let a10 = 1; let a11 = 1; let a12 = 1; let a13 = 1; \
+    let a14 = 1; let a15 = 1; let a16 = 1; let a17 = 1; let a18 = 1; let a19 = 1; let a20 = 1; \
+    let a21 = 1; let a22 = 1; let a23 = 1; let a24 = 1; let a25 = 1; let a26 = 1; let a27 = 1; \
+    let a28 = 1; let a29 = 1; let a30 = 1; let a31 = 1; let a32 = 1; let a33 = 1; let a34 = 1; \
+    let a35 = 1; let a36 = 1; let a37 = 1; let a38 = 1; let a39 = 1; let a40 = 1; let a41 = 1; \
+    let a42 = 1; let a43 = 1; let a44 = 1; let a45 = 1; let a46 = 1; let a47 = 1; let a48 = 1; \
+    let a49 = 1; let a50 = 1; let a51 = 1; let a52 = 1; let a53 = 1; let a54 = 1; let a55 = 1; \
+    let a56 = 1; let a57 = 1; let a58 = 1; let a59 = 1; let a60 = 1; let a61 = 1; let a62 = 1; \
+    let a63 = 1; }";
+
 // Programs that run.
-const PROGRAMS: [Row<'static>; 40] = [
+const PROGRAMS: [Row<'static>; 54] = [
     ([1, 1, 2, 0], "pipe_while (0) { }", 0, ""),
     (
         [1, 1, 1, 0],
@@ -88,9 +100,19 @@ const PROGRAMS: [Row<'static>; 40] = [
     ),
     // Pipelines: their output and trap, or their race lines.
     // The last stage runs in the order of the iterations.
-    ([8, 4, 100, 8], PREFIX_SUMS, 0, "1\n3\n6\n"),
+    (
+        [8, 4, 100, 8],
+        "cell n = 0; cell s = 0; pipe_while (n < 3) { n = n + 1; let t = n; pipe_wait(1); s = s + t; emit s; }",
+        0,
+        "1\n3\n6\n",
+    ),
     // Without the wait, both the sum and the output race.
-    ([8, 4, 100, 8], RACING_SUMS, 2, RACING_LINES),
+    (
+        [8, 4, 100, 8],
+        "cell n = 0; cell s = 0; pipe_while (n < 3) { n = n + 1; let t = n; pipe_continue(1); s = s + t; emit s; }",
+        2,
+        RACING_LINES,
+    ),
     // The next iteration may count before the last stage reads.
     (
         [8, 4, 100, 8],
@@ -221,180 +243,149 @@ const PROGRAMS: [Row<'static>; 40] = [
         3,
         "9223372036854775807\ntrap Overflow at 1/9223372036854775807\n",
     ),
+    // Small programs of each form, one with a comment, and a loop with the most locals, which take at most two
+    // steps.
+    ([1, 1, 2, 0], "pipe_while ((0)) { }", 0, ""),
+    ([1, 1, 2, 0], "cell n[2] = 0; pipe_while (0) { }", 0, ""),
+    ([1, 1, 2, 0], "init { } pipe_while (0) { }", 0, ""),
+    ([1, 1, 2, 0], "pipe_while (0) { } final { }", 0, ""),
+    ([1, 1, 2, 0], "pipe_while (iter()) { }", 0, ""),
+    ([1, 1, 2, 0], "pipe_while (0) { emit take(); }", 0, ""),
+    ([1, 1, 2, 0], "pipe_while (0) { emit -1; }", 0, ""),
+    ([1, 1, 2, 0], "pipe_while (0) { emit 1 && 0; }", 0, ""),
+    ([1, 1, 2, 0], "pipe_while (0) { if (1) { } }", 0, ""),
+    ([1, 1, 2, 0], "pipe_while (0) { while (0) { } }", 0, ""),
+    ([1, 1, 2, 0], "pipe_while (0) { pipe_wait((1)); }", 0, ""),
+    (
+        [1, 1, 2, 0],
+        "cell n[2] = 0; pipe_while (0) { n[0] = 1; }",
+        0,
+        "",
+    ),
+    ([1, 1, 2, 0], "pipe_while (0) { } // a comment", 0, ""),
+    ([1, 1, 2, 0], MOST_LOCALS, 0, ""),
 ];
 
-// Small programs of each form, and one with a comment, which take at most two steps.
-const FORMS: [&str; 13] = [
-    "pipe_while ((0)) { }",
-    "cell n[2] = 0; pipe_while (0) { }",
-    "init { } pipe_while (0) { }",
-    "pipe_while (0) { } final { }",
-    "pipe_while (iter()) { }",
-    "pipe_while (0) { emit take(); }",
-    "pipe_while (0) { emit -1; }",
-    "pipe_while (0) { emit 1 && 0; }",
-    "pipe_while (0) { if (1) { } }",
-    "pipe_while (0) { while (0) { } }",
-    "pipe_while (0) { pipe_wait((1)); }",
-    "cell n[2] = 0; pipe_while (0) { n[0] = 1; }",
-    "pipe_while (0) { } // a comment",
-];
+// The first row whose program does not end so with four workers, except for programs that race: the schedule
+// decides which of two races of a cell is reported.
+fn first_other_by_four(
+    rt: &(impl Threads + Wait + Sync),
+    alloc: Global,
+    rows: &[Row<'_>],
+) -> Option<usize> {
+    for (index, row) in rows.iter().enumerate() {
+        if row.2 != 2 && !row_ends(rt, alloc, RUN_BY_FOUR, row) {
+            return Some(index);
+        }
+    }
+    None
+}
+
+// A source, and the status and text of its calls.
+type EndingRow<'a> = (&'a str, u8, &'a str);
 
 // Programs that finish, race and trap.
-const ENDINGS: [Row<'static>; 3] = [
-    ([8, 4, 100, 8], PREFIX_SUMS, 0, "1\n3\n6\n"),
-    ([8, 4, 100, 8], RACING_SUMS, 2, RACING_LINES),
+const ENDINGS: [EndingRow<'static>; 3] = [
+    (PREFIX_SUMS, 0, "1\n3\n6\n"),
+    (RACING_SUMS, 2, RACING_LINES),
     (
-        [8, 4, 100, 8],
-        "init { emit 1; } pipe_while (0) { } final { emit 1 / 0; }",
+        "limits iterations 8, stages 4, steps 100, emits 8; init { emit 1; } pipe_while (0) { } final { emit 1 / 0; }",
         3,
         "1\ntrap DivZero in final\n",
     ),
 ];
 
-// Fails the test unless the program runs like this with one worker, and with four unless it races: the
-// schedule decides which of two races of a cell is reported.
-fn check_program(
+// Whether `serial` has no run log, and these reports.
+fn serial_reports(
     rt: &(impl Threads + Wait + Sync),
     alloc: Global,
-    row: &Row<'_>,
-) -> Result<(), Fail> {
-    check_run(rt, alloc, row)?;
-    if row.2 == 2 {
-        return Ok(());
-    }
-    check_words(rt, alloc, RUN_BY_FOUR, row)
-}
-
-// A loop with the most locals.
-fn check_most_locals(rt: &(impl Threads + Wait + Sync), alloc: Global) -> Result<(), Fail> {
-    let locals = locals(alloc, 64)?;
-    let rest = format!(in alloc; "pipe_while (0) {{ {locals}}}")?;
-    check_program(rt, alloc, &([1, 1, 2, 0], rest.as_str(), 0, ""))
-}
-
-// Whether the call of a program has a run log, and its reports.
-fn log_and_reports(
-    rt: &(impl Threads + Wait + Sync),
-    alloc: Global,
-    words: &[&str],
-    row: &Row<'_>,
-) -> Result<(bool, Reports), NoMemory> {
-    let source = source(alloc, row.0, row.1)?;
-    let case = Case::of(source.as_str()).with_words(words);
-    let ended = case.end(rt, alloc)?;
-    Ok((ended.run_log.is_some(), ended.reports))
-}
-
-// Whether `run` has a run log, whether `serial` has one, and whether they have the same reports.
-fn logs_and_reports(
-    rt: &(impl Threads + Wait + Sync),
-    alloc: Global,
-    row: &Row<'_>,
-) -> Result<(bool, bool, bool), NoMemory> {
-    let (run_log, by_run) = log_and_reports(rt, alloc, RUN, row)?;
-    let (serial_log, by_serial) = log_and_reports(rt, alloc, SERIAL, row)?;
-    let same = by_run.as_slice() == by_serial.as_slice();
-    Ok((run_log, serial_log, same))
-}
-
-// Fails the test unless `run` and `serial` end like this with the same reports, and only `run` has a run log.
-fn check_ending(
-    rt: &(impl Threads + Wait + Sync),
-    alloc: Global,
-    row: &Row<'_>,
-) -> Result<(), Fail> {
-    check_both(rt, alloc, row)?;
-    match logs_and_reports(rt, alloc, row)? {
-        (true, false, true) => Ok(()),
-        (ran, elided, same) => Err(Fail::new(format_args!(
-            "{}: logs {ran} and {elided}, same reports {same}",
-            row.1
-        ))),
+    source: &str,
+    reports: &[Report],
+) -> bool {
+    match ended(rt, alloc, SERIAL, source) {
+        Ok(ended) => ended.run_log.is_none() && ended.reports.as_slice() == reports,
+        Err(NoMemory) => false,
     }
 }
 
-// A call of `run` that is set up.
-fn call_of(alloc: Global, rest: &str) -> Result<Call, NoMemory> {
-    let source = source(alloc, [8, 4, 100, 8], rest)?;
-    Case::of(source.as_str()).set_up(alloc)
+// Whether `run` has a run log, and `serial` has none and the same reports.
+fn calls_agree(rt: &(impl Threads + Wait + Sync), alloc: Global, source: &str) -> bool {
+    match ended(rt, alloc, RUN, source) {
+        Ok(ended) => {
+            ended.run_log.is_some() && serial_reports(rt, alloc, source, ended.reports.as_slice())
+        }
+        Err(NoMemory) => false,
+    }
 }
 
-// Whether the call has this result, or runs out of memory after a prefix of the text.
+// Whether `run` and `serial` end as the row says, and agree.
+fn is_ending(rt: &(impl Threads + Wait + Sync), alloc: Global, row: &EndingRow<'_>) -> bool {
+    let (source, status, text) = *row;
+    call_ends(rt, alloc, &(RUN, source, status, text))
+        && call_ends(rt, alloc, &(SERIAL, source, status, text))
+        && calls_agree(rt, alloc, source)
+}
+
+// The first row for which that is not so.
+fn first_other_ending(rt: &(impl Threads + Wait + Sync), alloc: Global) -> Option<usize> {
+    for (index, row) in ENDINGS.iter().enumerate() {
+        if !is_ending(rt, alloc, row) {
+            return Some(index);
+        }
+    }
+    None
+}
+
+// Whether the call ends as the case says, or runs out of memory after a prefix of the text.
 fn is_usual(
     rt: &(impl Threads + Wait + Sync),
     alloc: Global,
     call: &mut Call,
-    status: u8,
-    text: &str,
+    case: &Case<'_>,
 ) -> bool {
     match call.make(rt, alloc, &OpenGate) {
-        Ok(ended) => ended.status == status && call.taken() == text.as_bytes(),
-        Err(NoMemory) => text.as_bytes().starts_with(call.taken()),
+        Ok(ended) => is_end(&ended, call.taken(), case),
+        Err(NoMemory) => case.text.as_bytes().starts_with(call.taken()),
     }
 }
 
 // The same for a program. Out of memory before the call is usual.
-fn is_usual_run(
+fn is_usual_run<'a>(
     rt: &(impl Threads + Wait + Sync),
     alloc: Global,
-    rest: &str,
+    source: &'a str,
     status: u8,
-    text: &str,
+    text: &'a str,
 ) -> bool {
-    match call_of(alloc, rest) {
-        Ok(mut call) => is_usual(rt, alloc, &mut call, status, text),
+    let case = Case {
+        status,
+        text,
+        ..case_of(RUN, source)
+    };
+    match set_up(alloc, &case) {
+        Ok(mut call) => is_usual(rt, alloc, &mut call, &case),
         Err(NoMemory) => true,
     }
 }
 
-// Fails the test unless the call has the usual result, or runs out of memory after a prefix of its
-// text. Out of memory before the call is not a failure.
-fn prefix_or_all(
-    rt: &(impl Threads + Wait + Sync),
-    alloc: Global,
-    rest: &str,
-    status: u8,
-    text: &str,
-) -> Result<(), Fail> {
-    if is_usual_run(rt, alloc, rest, status, text) {
-        return Ok(());
-    }
-    Err(Fail::new(format_args!("{rest}: another result")))
-}
-
 // Two calls for `checks/refused_memory`, which makes one allocation after the other fail.
 #[test]
-fn an_allocation_may_fail(rt: HostRuntime) -> Result<(), Fail> {
-    prefix_or_all(&rt, rt.alloc(), PREFIX_SUMS, 0, "1\n3\n6\n")?;
-    prefix_or_all(&rt, rt.alloc(), RACING_SUMS, 2, RACING_LINES)
+fn an_allocation_may_fail(rt: HostRuntime) {
+    assert!(rt; is_usual_run(&rt, rt.alloc(), PREFIX_SUMS, 0, "1\n3\n6\n"));
+    assert!(rt; is_usual_run(&rt, rt.alloc(), RACING_SUMS, 2, RACING_LINES));
 }
 
 #[test]
-fn programs_are_run(rt: HostRuntime) -> Result<(), Fail> {
-    for row in &PROGRAMS {
-        check_program(&rt, rt.alloc(), row)?;
-    }
-    Ok(())
+fn programs_are_run(rt: HostRuntime) {
+    let rows: &[Row<'_>] = &PROGRAMS;
+    let with_one = first_other_row(&rt, rt.alloc(), RUN, rows);
+    expect_none(&rt, "PROGRAMS", with_one);
+    let with_four = first_other_by_four(&rt, rt.alloc(), rows);
+    expect_none(&rt, "PROGRAMS by four", with_four);
 }
 
 #[test]
-fn each_form_is_run(rt: HostRuntime) -> Result<(), Fail> {
-    for rest in &FORMS {
-        check_run(&rt, rt.alloc(), &([1, 1, 2, 0], *rest, 0, ""))?;
-    }
-    Ok(())
-}
-
-#[test]
-fn most_locals_are_run(rt: HostRuntime) -> Result<(), Fail> {
-    check_most_locals(&rt, rt.alloc())
-}
-
-#[test]
-fn serial_agrees_with_run(rt: HostRuntime) -> Result<(), Fail> {
-    for row in &ENDINGS {
-        check_ending(&rt, rt.alloc(), row)?;
-    }
-    Ok(())
+fn serial_agrees_with_run(rt: HostRuntime) {
+    let other = first_other_ending(&rt, rt.alloc());
+    expect_none(&rt, "ENDINGS", other);
 }

@@ -1,10 +1,8 @@
 // Work, span and the heaviest paths of programs. The steps of each stage instance were counted by hand.
 
-use crate::cases::{Case, Row, check_words};
-use pipe_model::memory::NoMemory;
-use std::alloc::Global;
+use crate::cases::{Row, call_ends, expect_none, first_other_row};
+use std::alloc::{AllocError, Global};
 use std::sync::Wait;
-use std::test::Fail;
 use std::thread::Threads;
 
 const SPAN: &[&str] = &["span", "a.pipe", "a.in"];
@@ -83,65 +81,67 @@ const ROWS: [Row<'static>; 10] = [
 ];
 
 #[test]
-fn heaviest_paths_are_printed(rt: HostRuntime) -> Result<(), Fail> {
-    for row in &ROWS {
-        check_words(&rt, rt.alloc(), SPAN, row)?;
-    }
-    Ok(())
+fn heaviest_paths_are_printed(rt: HostRuntime) {
+    let other = first_other_row(&rt, rt.alloc(), SPAN, &ROWS);
+    expect_none(&rt, "ROWS", other);
 }
 
-// A path through the stages of iteration 0.
-fn down(alloc: Global, head: &str, count: u32) -> Result<String, NoMemory> {
-    let mut text = String::from_str(alloc, head)?;
-    for k in 0..count {
-        writeln!(text, "0/{k}")?;
-    }
-    Ok(text)
-}
-
-// A path through a stage of the first iterations.
-fn across(alloc: Global, head: &str, count: u32, stage: u32) -> Result<String, NoMemory> {
-    let mut text = String::from_str(alloc, head)?;
-    for i in 0..count {
-        writeln!(text, "{i}/{stage}")?;
-    }
-    Ok(text)
-}
-
-// Fails the test unless this is printed of a source.
-fn check_span(
-    rt: &(impl Threads + Wait + Sync),
-    alloc: Global,
-    source: &str,
-    text: &str,
-) -> Result<(), Fail> {
-    let case = Case::of(source).with_words(SPAN);
-    case.check(rt, alloc, source, 0, text)
-}
+// A source, the first lines of its text, and the path after them: how many iterations it goes through, in each
+// of which it has the stages from the first number up to the second.
+type PathRow<'a> = (&'a str, &'a str, u32, u32, u32);
 
 const CHAIN: &str =
     "limits iterations 50, stages 2, steps 20, emits 200; pipe_while (iter() < 50) { pipe_wait(1); emit 1; emit 1; emit 1; emit 1; }";
 
-#[test]
-fn a_long_chain_is_printed(rt: HostRuntime) -> Result<(), Fail> {
-    let path = across(rt.alloc(), "work 704\nspan 406\n0/0\n", 50, 1)?;
-    check_span(&rt, rt.alloc(), CHAIN, path.as_str())
-}
-
 const ONE_ITERATION: &str =
     "limits iterations 1, stages 4096, steps 20, emits 0; pipe_while (iter() < 1) { let k = 1; while (k < 4096) { pipe_continue(); k = k + 1; } }";
-
-#[test]
-fn most_stages_are_printed(rt: HostRuntime) -> Result<(), Fail> {
-    let path = down(rt.alloc(), "work 36869\nspan 36865\n", 4096)?;
-    check_span(&rt, rt.alloc(), ONE_ITERATION, path.as_str())
-}
 
 const ONE_STAGE: &str =
     "limits iterations 65536, stages 1, steps 20, emits 0; pipe_while (iter() < 65536) { }";
 
+// A long chain, the most stages and the most iterations.
+const PATHS: [PathRow<'static>; 3] = [
+    (CHAIN, "work 704\nspan 406\n0/0\n", 50, 1, 2),
+    (ONE_ITERATION, "work 36869\nspan 36865\n", 1, 0, 4096),
+    (ONE_STAGE, "work 262148\nspan 262148\n", 65_537, 0, 1),
+];
+
+fn push_stages(text: &mut String, iteration: u32, from: u32, to: u32) -> Result<(), AllocError> {
+    for stage in from..to {
+        writeln!(text, "{iteration}/{stage}")?;
+    }
+    Ok(())
+}
+
+fn push_path(text: &mut String, row: &PathRow<'_>) -> Result<(), AllocError> {
+    text.push_str(row.1)?;
+    for iteration in 0..row.2 {
+        push_stages(text, iteration, row.3, row.4)?;
+    }
+    Ok(())
+}
+
+// Whether the path of a row is printed.
+fn path_is_printed(rt: &(impl Threads + Wait + Sync), alloc: Global, row: &PathRow<'_>) -> bool {
+    let mut text = String::new(alloc);
+    match push_path(&mut text, row) {
+        Ok(()) => call_ends(rt, alloc, &(SPAN, row.0, 0, text.as_str())),
+        Err(_) => false,
+    }
+}
+
+// The first row of which another path is printed.
+fn first_other_path(rt: &(impl Threads + Wait + Sync), alloc: Global) -> Option<usize> {
+    for (index, row) in PATHS.iter().enumerate() {
+        if !path_is_printed(rt, alloc, row) {
+            return Some(index);
+        }
+    }
+    None
+}
+
 #[test]
-fn most_iterations_are_printed(rt: HostRuntime) -> Result<(), Fail> {
-    let path = across(rt.alloc(), "work 262148\nspan 262148\n", 65537, 0)?;
-    check_span(&rt, rt.alloc(), ONE_STAGE, path.as_str())
+fn long_paths_are_printed(rt: HostRuntime) {
+    let other = first_other_path(&rt, rt.alloc());
+    expect_none(&rt, "PATHS", other);
 }

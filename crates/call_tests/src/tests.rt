@@ -1,84 +1,86 @@
 // The real files and the real sink, and the files and sinks in memory that never fail. `call_rows` has
 // those that fail.
 
+use crate::cases::push_file;
 use pipe_io::files::{Files, ReadPart};
 use pipe_io::mem_files::CleanFiles;
 use pipe_io::mem_sink::CleanSink;
 use pipe_io::real::{RealFiles, RealSink};
 use pipe_io::sink::{Sink, WritePart};
 use pipe_io::whole::{Whole, WriteEnd, read_whole, write_text};
-use pipe_model::list::Bytes;
 use pipe_model::memory::NoMemory;
 use std::alloc::Global;
+use std::io::Print;
 use std::test::Fail;
 use std::{fs, rt};
 
-const TEXT: &[u8] = b"twenty bytes of text";
+const TEXT: &str = "twenty bytes of text";
 
-fn is_text(whole: &Whole) -> bool {
-    match whole {
-        Whole::Bytes(bytes) => bytes.as_slice() == TEXT,
-        _ => false,
+// Reads a file with a limit on its length. Returns whether it is read and has the text, and whether it is too
+// long.
+fn read_text<F: Files>(alloc: Global, files: &mut F, name: &str, limit: usize) -> (bool, bool) {
+    match read_whole(alloc, files, name, limit) {
+        Ok(Whole::Bytes(bytes)) => (bytes.as_slice() == TEXT.as_bytes(), false),
+        Ok(Whole::TooLong(_)) => (false, true),
+        _ => (false, false),
     }
 }
 
-// Files in memory, of which one has the text.
-fn clean_files(alloc: Global) -> Result<CleanFiles, NoMemory> {
-    let name = String::from_str(alloc, "text")?;
-    let bytes = Bytes::from_vec(TEXT.to_vec(alloc)?);
-    let files = vec![in alloc; (name, bytes)]?;
-    Ok(CleanFiles::new(files, 7))
-}
-
-// Reads the text with a limit on its length. Returns whether it is read, and whether it is too long.
-fn read_clean(alloc: Global, limit: usize) -> Result<(bool, bool), NoMemory> {
-    let mut files = clean_files(alloc)?;
-    let whole = read_whole(alloc, &mut files, "text", limit)?;
-    Ok((is_text(&whole), matches!(&whole, Whole::TooLong(_))))
+// The same for a file in memory that has the text.
+fn read_clean(alloc: Global, limit: usize) -> (bool, bool) {
+    let mut files = Vec::new(alloc);
+    match push_file(&mut files, alloc, "text", TEXT) {
+        Ok(()) => read_text(alloc, &mut CleanFiles::new(files, 7), "text", limit),
+        Err(NoMemory) => (false, false),
+    }
 }
 
 #[test]
-fn clean_files_are_read(rt: HostRuntime) -> Result<(), Fail> {
-    assert!(rt; read_clean(rt.alloc(), 20)? == (true, false));
-    assert!(rt; read_clean(rt.alloc(), 19)? == (false, true));
-    Ok(())
+fn clean_files_are_read(rt: HostRuntime) {
+    assert!(rt; read_clean(rt.alloc(), 20) == (true, false));
+    assert!(rt; read_clean(rt.alloc(), 19) == (false, true));
+}
+
+// Whether a sink in memory takes the text.
+fn clean_sink_takes_all(alloc: Global) -> bool {
+    let mut sink = CleanSink::new(alloc, 7);
+    let end = write_text(&mut sink, TEXT.as_bytes()).end;
+    end == WriteEnd::Whole && sink.taken().as_slice() == TEXT.as_bytes()
 }
 
 #[test]
 fn clean_sinks_take_all(rt: HostRuntime) {
-    let mut sink = CleanSink::new(rt.alloc(), 7);
-    let end = write_text(&mut sink, TEXT).end;
-    assert!(rt; end == WriteEnd::Whole, "{end:?}");
-    assert!(rt; sink.taken().as_slice() == TEXT);
+    assert!(rt; clean_sink_takes_all(rt.alloc()));
 }
 
-// Reads a real file that has the text: from offset 14, from its end, and the whole of it. Returns the first
-// two results, whether the whole is the text, and the number of faults.
-fn read_real(
-    rt: &impl rt::Files,
-    alloc: Global,
-    name: &str,
-) -> Result<(ReadPart, ReadPart, bool, u64), NoMemory> {
-    let mut real = RealFiles::new(rt);
+// Reads a file that has the text from offset 14, and from its end.
+fn read_parts<F: Files>(files: &mut F, name: &str) -> (ReadPart, ReadPart) {
     let mut part = [0; 8];
-    let got = real.read_part(name, 14, &mut part);
-    let end = real.read_part(name, 20, &mut part);
-    let whole = read_whole(alloc, &mut real, name, 20)?;
-    Ok((got, end, is_text(&whole), real.faults.get()))
+    let got = files.read_part(name, 14, &mut part);
+    let end = files.read_part(name, 20, &mut part);
+    (got, end)
+}
+
+// Whether a file with the text is read from offset 14, from its end, and as a whole, without a fault.
+fn is_read<R: rt::Files>(alloc: Global, real: &mut RealFiles<R>, name: &str) -> bool {
+    read_parts(real, name) == (ReadPart::Got(6), ReadPart::Got(0))
+        && read_text(alloc, real, name, 20).0
+        && real.faults.get() == 0
+}
+
+// The same for a real file.
+fn real_file_is_read(rt: &impl rt::Files, alloc: Global, name: &str) -> bool {
+    let mut real = RealFiles::new(rt);
+    is_read(alloc, &mut real, name)
 }
 
 #[test]
 fn real_files_are_read(rt: HostRuntime) -> Result<(), Fail> {
     let name = "cilkp_program_real_files.txt";
-    fs::write(&rt, name, TEXT)?;
-    let read = read_real(&rt, rt.alloc(), name);
+    fs::write(&rt, name, TEXT.as_bytes())?;
+    let is_read = real_file_is_read(&rt, rt.alloc(), name);
     fs::remove_file(&rt, name)?;
-    let (got, end, is_text, faults) = read?;
-    assert!(rt;
-        got == ReadPart::Got(6) && end == ReadPart::Got(0),
-        "{got:?}, {end:?}"
-    );
-    assert!(rt; is_text && faults == 0, "{faults} faults");
+    assert!(rt; is_read);
     Ok(())
 }
 
@@ -93,19 +95,21 @@ fn read_one(rt: &impl rt::Files, name: &str) -> (ReadPart, u64) {
 // A folder can be opened but not read.
 #[test]
 fn real_reads_fail(rt: HostRuntime) {
-    let (missing, faults) = read_one(&rt, "no_such_file.txt");
-    assert!(rt; missing == ReadPart::Missing && faults == 0, "{missing:?}");
-    let (folder, faults) = read_one(&rt, ".");
-    assert!(rt; folder == ReadPart::Failed && faults == 1, "{folder:?}");
+    assert!(rt; read_one(&rt, "no_such_file.txt") == (ReadPart::Missing, 0));
+    assert!(rt; read_one(&rt, ".") == (ReadPart::Failed, 1));
+}
+
+// Writes a line to the real sink, and then nothing. Returns how the first write ends, the result of the second, and
+// the number of faults.
+fn write_real(rt: &impl Print) -> (WriteEnd, WritePart, u64) {
+    let mut real = RealSink::new(rt);
+    let end = write_text(&mut real, b"written\n").end;
+    let nothing = real.write_part(b"");
+    (end, nothing, real.faults.get())
 }
 
 // A write that takes nothing is a fault.
 #[test]
 fn real_sinks_take_all(rt: HostRuntime) {
-    let mut real = RealSink::new(&rt);
-    let end = write_text(&mut real, b"written\n").end;
-    assert!(rt; end == WriteEnd::Whole, "{end:?}");
-    let nothing = real.write_part(b"");
-    assert!(rt; nothing == WritePart::Failed, "{nothing:?}");
-    assert!(rt; real.faults.get() == 1);
+    assert!(rt; write_real(&rt) == (WriteEnd::Whole, WritePart::Failed, 1));
 }

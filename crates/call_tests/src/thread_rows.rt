@@ -1,6 +1,6 @@
 // Runs by several workers, and instances that overlap.
 
-use crate::cases::Case;
+use crate::cases::{CallRow, Case, case_of, ended_at, ends_at, expect_none, first_other_call};
 use pipe_model::column::ColumnEnd;
 use pipe_model::event::{Event, RunLog};
 use pipe_model::memory::NoMemory;
@@ -8,37 +8,32 @@ use pipe_model::node::NodeId;
 use pipe_worker::hold::HoldGate;
 use std::alloc::Global;
 use std::sync::Wait;
-use std::test::Fail;
 use std::thread::Threads;
 
 // Prefix sums: the last stage runs in the order of the iterations.
 const PREFIX_SUMS: &str =
     "limits iterations 8, stages 4, steps 100, emits 8; cell n = 0; cell s = 0; pipe_while (n < 3) { n = n + 1; let t = n; pipe_wait(1); s = s + t; emit s; }";
 
-// Fails the test unless four workers print the sums.
-fn check_sums(
-    rt: &(impl Threads + Wait + Sync),
-    alloc: Global,
-    throttle: &str,
-) -> Result<(), Fail> {
-    let words = [
-        "run",
-        "a.pipe",
-        "a.in",
-        "--workers",
-        "4",
-        "--throttle",
-        throttle,
-    ];
-    let case = Case::of(PREFIX_SUMS).with_words(&words);
-    case.check(rt, alloc, "prefix sums", 0, "1\n3\n6\n")
-}
+// Four workers, with one iteration alive, and with eight.
+const SUMS: [CallRow<'static>; 2] = [
+    (
+        &["run", "a.pipe", "a.in", "--workers", "4", "--throttle", "1"],
+        PREFIX_SUMS,
+        0,
+        "1\n3\n6\n",
+    ),
+    (
+        &["run", "a.pipe", "a.in", "--workers", "4", "--throttle", "8"],
+        PREFIX_SUMS,
+        0,
+        "1\n3\n6\n",
+    ),
+];
 
-// One iteration is alive, or eight.
 #[test]
-fn four_workers_keep_the_order(rt: HostRuntime) -> Result<(), Fail> {
-    check_sums(&rt, rt.alloc(), "1")?;
-    check_sums(&rt, rt.alloc(), "8")
+fn four_workers_keep_the_order(rt: HostRuntime) {
+    let other = first_other_call(&rt, rt.alloc(), &SUMS);
+    expect_none(&rt, "SUMS", other);
 }
 
 // The words of runs with two workers.
@@ -78,75 +73,51 @@ fn enters_before_end(log: &Option<RunLog>, enters: u32, ends: u32) -> bool {
     }
 }
 
-// Runs the two iterations with a gate. Returns the status, and whether the last stage of `other` is entered
-// before `held` ends.
-fn gated_run(
+// Runs the two iterations with a gate. Returns whether the run finishes, and the last stage of `other` is
+// entered before `held` ends.
+fn gated_run_overlaps(
     rt: &(impl Threads + Wait + Sync),
     alloc: Global,
     gate: &HoldGate,
     held: u32,
     other: u32,
-) -> Result<(u8, bool), NoMemory> {
-    let case = Case::of(TWO_ITERATIONS).with_words(RUN_BY_TWO);
-    let ended = case.end_at(rt, alloc, gate)?;
-    Ok((ended.status, enters_before_end(&ended.run_log, other, held)))
-}
-
-// Holds the last stage of one iteration until the other is at its own. Returns the status, whether the two
-// met, and whether the other is entered before the held iteration ends.
-fn held_run(
-    rt: &(impl Threads + Wait + Sync),
-    alloc: Global,
-    held: u32,
-    other: u32,
-) -> Result<(u8, bool, bool), NoMemory> {
-    let gate = HoldGate::new(last_stage(held), last_stage(other), TURNS);
-    let (status, overlap) = gated_run(rt, alloc, &gate, held, other)?;
-    Ok((status, gate.met(), overlap))
-}
-
-// Fails the test unless the two met, so that they overlap.
-fn check_overlap(
-    rt: &(impl Threads + Wait + Sync),
-    alloc: Global,
-    held: u32,
-    other: u32,
-) -> Result<(), Fail> {
-    match held_run(rt, alloc, held, other)? {
-        (0, true, true) => Ok(()),
-        (status, met, overlap) => Err(Fail::new(format_args!(
-            "status {status}, met {met}, overlap {overlap}"
-        ))),
+) -> bool {
+    match ended_at(rt, alloc, gate, RUN_BY_TWO, TWO_ITERATIONS) {
+        Ok(ended) => ended.status == 0 && enters_before_end(&ended.run_log, other, held),
+        Err(NoMemory) => false,
     }
+}
+
+// Holds the last stage of one iteration until the other is at its own. Returns whether the run finishes, the
+// two met, and the other is entered before the held iteration ends, so that they overlap.
+fn overlaps(rt: &(impl Threads + Wait + Sync), alloc: Global, held: u32, other: u32) -> bool {
+    let gate = HoldGate::new(last_stage(held), last_stage(other), TURNS);
+    gated_run_overlaps(rt, alloc, &gate, held, other) && gate.met()
 }
 
 // Each iteration is in its last stage before the other ends. One thread could not pass both gates.
 #[test]
-fn workers_overlap(rt: HostRuntime) -> Result<(), Fail> {
-    check_overlap(&rt, rt.alloc(), 0, 1)?;
-    check_overlap(&rt, rt.alloc(), 1, 0)
+fn workers_overlap(rt: HostRuntime) {
+    assert!(rt; overlaps(&rt, rt.alloc(), 0, 1));
+    assert!(rt; overlaps(&rt, rt.alloc(), 1, 0));
 }
 
-// Holds the last stage of iteration 0 until an instance that never comes. Returns how the run ends, unless it
-// prints the sums, and whether the instance came.
-fn starved_run(
-    rt: &(impl Threads + Wait + Sync),
-    alloc: Global,
-) -> Result<(Option<(u8, u64)>, bool), NoMemory> {
+// Holds the last stage of iteration 0 until an instance that never comes. Returns whether the run goes on after
+// the turns of its gate, and prints the sums.
+fn goes_on(rt: &(impl Threads + Wait + Sync), alloc: Global) -> bool {
     let never = NodeId {
         iteration: 5,
         index: 0,
     };
     let gate = HoldGate::new(last_stage(0), never, 1000);
-    let case = Case::of(PREFIX_SUMS).with_words(RUN_BY_TWO);
-    let other = case.other_end(rt, alloc, &gate, 0, "1\n3\n6\n")?;
-    Ok((other, gate.met()))
+    let case = Case {
+        text: "1\n3\n6\n",
+        ..case_of(RUN_BY_TWO, PREFIX_SUMS)
+    };
+    ends_at(rt, alloc, &gate, &case) && !gate.met()
 }
 
-// The run goes on after the turns of its gate.
 #[test]
-fn a_held_instance_goes_on(rt: HostRuntime) -> Result<(), Fail> {
-    let (other, met) = starved_run(&rt, rt.alloc())?;
-    assert!(rt; other.is_none() && !met, "{other:?}, met {met}");
-    Ok(())
+fn a_held_instance_goes_on(rt: HostRuntime) {
+    assert!(rt; goes_on(&rt, rt.alloc()));
 }
