@@ -8,7 +8,7 @@ ghost use Rattle.hall_table.specs.WorkerSeats.{hall_name};
 ghost use Rattle.pipe_model.specs.Language.SyntaxTree.{tree_of};
 ghost use Rattle.pipe_worker.specs.Machines.{cells_of};
 
-use crate::closing::close_logs;
+use crate::closing::close_with_tickets;
 use crate::opening::open;
 use crate::sources::{PREFIX_SUMS, Prepared, prepare};
 use pipe_frame::hall::Hall;
@@ -16,7 +16,6 @@ use pipe_frame::results::{Begun, Reply};
 use pipe_frame::token::FrameToken;
 use pipe_hall::seat::HallSeat;
 use pipe_model::access::{Access, AccessKind, Accesses, CellId};
-use pipe_model::memory::NoMemory;
 use pipe_model::ticket::Trace;
 use program_hall::carried::{Carried, RunCode};
 use std::alloc::Global;
@@ -29,12 +28,22 @@ type Asked = (u32, Option<i64>, Reply);
 // A shard, and the tickets of the accesses to its cells.
 type Tickets = (usize, &'static [u64]);
 
-const READ_AND_WRITTEN: [Asked; 2] = [(2, None, Reply::Value(0)), (2, Some(1), Reply::Done)];
+// A source, whether 5 was written to cell 2 before, the accesses, and tickets.
+type Row = (&'static str, bool, &'static [Asked], &'static [Tickets]);
 
-const AFTER_A_WRITE: [Asked; 2] = [(2, None, Reply::Value(5)), (3, None, Reply::Value(0))];
+const ONE_CELL: &str =
+    "limits iterations 1, stages 1, steps 10, emits 0; cell a = 7; pipe_while (0) { }";
 
 const THIRTY_CELLS: &str =
     "limits iterations 1, stages 1, steps 10, emits 0; cell a[30] = 0; pipe_while (0) { }";
+
+// The last cell is 4097.
+const MANY_CELLS: &str =
+    "limits iterations 1, stages 1, steps 10, emits 0; cell a[4096] = 3; pipe_while (0) { }";
+
+const READ_AND_WRITTEN: [Asked; 2] = [(2, None, Reply::Value(0)), (2, Some(1), Reply::Done)];
+
+const AFTER_A_WRITE: [Asked; 2] = [(2, None, Reply::Value(5)), (3, None, Reply::Value(0))];
 
 // Cells 15 and 31 are in shard 15, 16 is in shard 0, and 17 in shard 1.
 const OF_SEVERAL_SHARDS: [Asked; 8] = [
@@ -50,24 +59,27 @@ const OF_SEVERAL_SHARDS: [Asked; 8] = [
 
 const TICKETS_OF_SEVERAL: [Tickets; 3] = [(15, &[2, 5, 6, 9]), (0, &[3, 7]), (1, &[4, 8])];
 
-// A program of one cell, and one of 4,096 cells; the last cell is read and written.
-const SIZES: [(&str, [Asked; 3]); 2] = [
-    (
-        "limits iterations 1, stages 1, steps 10, emits 0; cell a = 7; pipe_while (0) { }",
-        [
-            (2, None, Reply::Value(7)),
-            (2, Some(9), Reply::Done),
-            (2, None, Reply::Value(9)),
-        ],
-    ),
-    (
-        "limits iterations 1, stages 1, steps 10, emits 0; cell a[4096] = 3; pipe_while (0) { }",
-        [
-            (4097, None, Reply::Value(3)),
-            (4097, Some(9), Reply::Done),
-            (4097, None, Reply::Value(9)),
-        ],
-    ),
+const OF_ONE_CELL: [Asked; 3] = [
+    (2, None, Reply::Value(7)),
+    (2, Some(9), Reply::Done),
+    (2, None, Reply::Value(9)),
+];
+
+const OF_THE_LAST_CELL: [Asked; 3] = [
+    (4097, None, Reply::Value(3)),
+    (4097, Some(9), Reply::Done),
+    (4097, None, Reply::Value(9)),
+];
+
+// A cell that is read and written: the accesses have the two tickets after the ticket of the beginning. A
+// hall that begins after an earlier access. Cells of several shards, which are read back. Programs of one
+// cell, and of 4,096.
+const ROWS: [Row; 5] = [
+    (PREFIX_SUMS, false, &READ_AND_WRITTEN, &[(2, &[2, 3])]),
+    (PREFIX_SUMS, true, &AFTER_A_WRITE, &[]),
+    (THIRTY_CELLS, false, &OF_SEVERAL_SHARDS, &TICKETS_OF_SEVERAL),
+    (ONE_CELL, false, &OF_ONE_CELL, &[]),
+    (MANY_CELLS, false, &OF_THE_LAST_CELL, &[]),
 ];
 
 // Makes an access. Returns whether there is the cell, and this is the reply.
@@ -125,14 +137,17 @@ fn begins_with<'a, R: Wait, B: RunCode>(
     requires cells { cells ≡ cells_of (hall_name seat.old.hall).tree }
     ensures hall { hall_name seat.new.hall ≡ hall_name seat.old.hall }
 {
-    match seat.begin(rt) {
-        Begun::Started(mut token) => have_replies(rt, alloc, cells, seat, &mut token, asked),
-        _ => false,
-    }
+    let Begun::Started(token) = seat.begin(rt) else {
+        return false;
+    };
+    let mut token = token;
+    let have_replies = have_replies(rt, alloc, cells, seat, &mut token, asked);
+    drop(token);
+    have_replies
 }
 
 // Opens a hall whose cells are those after some accesses, begins iteration 0 and makes accesses for it.
-// Returns whether they have these replies and tickets.
+// Returns whether they have these replies and tickets; false also if memory runs out.
 fn first_accesses<R: Wait, B: RunCode>(
     rt: &R,
     alloc: Global,
@@ -140,17 +155,19 @@ fn first_accesses<R: Wait, B: RunCode>(
     before: &Accesses,
     asked: &[Asked],
     tickets: &[Tickets],
-) -> Result<bool, NoMemory>
+) -> bool
     requires prepared { IsPrepared (tree_of prepared.now.checked) prepared.now.code }
     requires code { prepared.now.code ≡ B.code }
 {
     let cells = prepared.cells();
-    let (hall, key) = open::<B>(alloc, prepared, 1, before)?;
+    let Ok((hall, key)) = open::<B>(alloc, prepared, 1, before) else {
+        return false;
+    };
     let mut seat = HallSeat::new(&hall, key);
     let have_replies = begins_with(rt, alloc, cells, &mut seat, asked);
     let key = seat.into_key();
-    let logs = close_logs(rt, alloc, hall, key)?;
-    Ok(have_replies && logs.have_tickets(tickets))
+    let have_tickets = close_with_tickets(rt, alloc, hall, key, tickets);
+    have_replies && have_tickets
 }
 
 // The same for a source; false also if the source is refused.
@@ -161,87 +178,45 @@ fn are_made_after<R: Wait>(
     before: &Accesses,
     asked: &[Asked],
     tickets: &[Tickets],
-) -> Result<bool, NoMemory> {
-    match prepare(alloc, source) {
-        Some(prepared) => {
-            first_accesses::<R, Brand>(rt, alloc, &prepared, before, asked, tickets)
-        }
-        None => Ok(false),
-    }
+) -> bool {
+    let Some(prepared) = prepare(alloc, source) else {
+        return false;
+    };
+    let are_made = first_accesses::<R, Brand>(rt, alloc, &prepared, before, asked, tickets);
+    drop(prepared);
+    are_made
 }
 
-// The same where no access was made before.
-fn are_made<R: Wait>(
-    rt: &R,
-    alloc: Global,
-    source: &str,
-    asked: &[Asked],
-    tickets: &[Tickets],
-) -> Result<bool, NoMemory> {
-    are_made_after(rt, alloc, source, &Accesses::new(alloc), asked, tickets)
-}
-
-// The accesses have the two tickets after the ticket of the beginning.
-#[test]
-fn a_cell_is_read_and_written(rt: HostRuntime) {
-    let made = are_made(
-        &rt,
-        rt.alloc(),
-        PREFIX_SUMS,
-        &READ_AND_WRITTEN,
-        &[(2, &[2, 3])],
-    );
-    assert!(rt; made == Ok(true));
-}
-
-// Makes accesses after a write to cell 2.
-fn are_made_after_write<R: Wait>(rt: &R, alloc: Global, asked: &[Asked]) -> Result<bool, NoMemory> {
-    let mut before = Accesses::new(alloc);
-    before.push(Access {
+// Notes that 5 was written to cell 2. Returns whether there is memory for that.
+fn write_before(before: &mut Accesses) -> bool {
+    let written = before.push(Access {
         cell: CellId(2),
         kind: AccessKind::Write,
         value: 5,
-    })?;
-    are_made_after(rt, alloc, PREFIX_SUMS, &before, asked, &[])
+    });
+    written.is_ok()
 }
 
-#[test]
-fn a_hall_begins_after_earlier_accesses(rt: HostRuntime) {
-    assert!(rt; are_made_after_write(&rt, rt.alloc(), &AFTER_A_WRITE) == Ok(true));
+// Whether the accesses of a row have its replies and tickets.
+fn is_made<R: Wait>(rt: &R, alloc: Global, row: &Row) -> bool {
+    let (source, has_write, asked, tickets) = *row;
+    let mut before = Accesses::new(alloc);
+    let is_ready = !has_write || write_before(&mut before);
+    is_ready && are_made_after(rt, alloc, source, &before, asked, tickets)
 }
 
-// Makes the accesses to cells of several shards.
-fn shards_are_read_back<R: Wait>(rt: &R, alloc: Global) -> Result<bool, NoMemory> {
-    are_made(
-        rt,
-        alloc,
-        THIRTY_CELLS,
-        &OF_SEVERAL_SHARDS,
-        &TICKETS_OF_SEVERAL,
-    )
-}
-
-#[test]
-fn cells_of_several_shards_are_read_back(rt: HostRuntime) {
-    assert!(rt; shards_are_read_back(&rt, rt.alloc()) == Ok(true));
-}
-
-// The first program for which the accesses have other replies.
-fn first_other<R: Wait>(
-    rt: &R,
-    alloc: Global,
-    rows: &[(&str, [Asked; 3])],
-) -> Result<Option<usize>, NoMemory> {
-    for (index, (source, asked)) in rows.iter().enumerate() {
-        if !are_made(rt, alloc, source, asked, &[])? {
-            return Ok(Some(index));
+// The first row for which it is otherwise.
+fn first_other<R: Wait>(rt: &R, alloc: Global) -> Option<usize> {
+    for (index, row) in ROWS.iter().enumerate() {
+        if !is_made(rt, alloc, row) {
+            return Some(index);
         }
     }
-    Ok(None)
+    None
 }
 
 #[test]
-fn programs_have_one_cell_or_many(rt: HostRuntime) {
-    let other = first_other(&rt, rt.alloc(), &SIZES);
-    assert!(rt; other == Ok(None), "{other:?}");
+fn accesses_have_their_replies_and_tickets(rt: HostRuntime) {
+    let other = first_other(&rt, rt.alloc());
+    assert!(rt; other.is_none(), "{other:?}");
 }

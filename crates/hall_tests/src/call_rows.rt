@@ -1,15 +1,15 @@
 //! Calls of two workers of one hall. Each row of a script has the worker, its call and the result.
 
-ghost use Rattle.std.specs.Prelude.{◌≡◌, ◌<◌, IfOk};
+ghost use Rattle.std.specs.Prelude.{◌≡◌, ◌<◌};
 ghost use Rattle.hall_tests.specs.PreparedPrograms.{IsPrepared};
 ghost use Rattle.pipe_worker.specs.Machines.{CanDrive};
 ghost use Rattle.hall_tests.specs.Workers.{IsWorkerOf};
-ghost use Rattle.hall_table.specs.WorkerSeats.{hall_name};
+ghost use Rattle.hall_table.specs.WorkerSeats.{IsSameHall, hall_name};
 ghost use Rattle.pipe_model.specs.Language.SyntaxTree.{tree_of};
 
 use crate::call_rows::Caller::{First, Second};
 use crate::closing::close_logs;
-use crate::opening::open;
+use crate::opening::open_new;
 use crate::sources::{PREFIX_SUMS, Prepared, RACING, prepare};
 use crate::worker::Call::{Begin, CheckRight, LeaveReady, Rescue, Run};
 use crate::worker::{Call, Worker};
@@ -17,11 +17,10 @@ use book_tests::play::Seen;
 use book_tests::play::Seen::{
     Absent, Done, Ended, MayBegin, NotYet, Nothing, Stopped, Suspended, Throttled, Token,
 };
-use pipe_hall::hall::HallKey;
+use pipe_hall::hall::{HallKey, HallOf};
 use pipe_hall::seat::HallSeat;
-use pipe_model::access::{Accesses, CellId};
+use pipe_model::access::CellId;
 use pipe_model::list::Numbers;
-use pipe_model::memory::NoMemory;
 use program_hall::carried::{Carried, RunCode};
 use stage_code::code::Code;
 use std::alloc::Global;
@@ -29,7 +28,7 @@ use std::marker::Brand;
 use std::sync::Wait;
 
 // One of two workers.
-#[derive(Clone, Copy, PartialEq, Eq, Debug)]
+#[derive(Clone, Copy)]
 enum Caller {
     First,
     Second,
@@ -38,8 +37,11 @@ enum Caller {
 // A worker, its call and the result.
 type Row = (Caller, Call, Seen);
 
+// A source, the throttling limit, a script, and the cell of the race, if there is one.
+type Script = (&'static str, u32, &'static [Row], Option<CellId>);
+
 // What came of a script, and of its hall, which was closed after it.
-#[derive(Clone, Copy, PartialEq, Eq, Debug)]
+#[derive(Clone, Copy)]
 struct Played {
     // The first row whose result is another one, with that result.
     other: Option<(usize, Seen)>,
@@ -49,60 +51,52 @@ struct Played {
     stopped: bool,
 }
 
-// Two workers of one hall.
-#[derive(Drop)]
-struct Workers<'a, B: RunCode> {
-    first: Worker<'a, B>,
-    second: Worker<'a, B>,
+// Makes a call of one of two workers of a hall.
+fn make<'a, R: Wait, B: RunCode>(
+    alloc: Global,
+    rt: &R,
+    code: &Code,
+    input: &Numbers,
+    first: &mut Worker<'a, B>,
+    second: &mut Worker<'a, B>,
+    caller: Caller,
+    call: Call,
+) -> Seen
+    requires drives { CanDrive B.code (hall_name first.old.seat.hall) code.now input.now }
+    requires first { IsWorkerOf B.code (hall_name first.old.seat.hall) first.old.seat first.old.token }
+    requires second { IsWorkerOf B.code (hall_name first.old.seat.hall) second.old.seat second.old.token }
+    ensures first { IsWorkerOf B.code (hall_name first.old.seat.hall) first.new.seat first.new.token }
+    ensures second { IsWorkerOf B.code (hall_name first.old.seat.hall) second.new.seat second.new.token }
+{
+    match caller {
+        Caller::First => first.make(alloc, rt, code, input, call),
+        Caller::Second => second.make(alloc, rt, code, input, call),
+    }
 }
 
-impl<'a, B: RunCode> Workers<'a, B> {
-    // Makes a call of one of the workers.
-    fn make<R: Wait>(
-        &mut self,
-        alloc: Global,
-        rt: &R,
-        code: &Code,
-        input: &Numbers,
-        caller: Caller,
-        call: Call,
-    ) -> Seen
-        requires drives { CanDrive B.code (hall_name self.old.first.seat.hall) code.now input.now }
-        requires first { IsWorkerOf B.code (hall_name self.old.first.seat.hall) self.old.first.seat self.old.first.token }
-        requires second { IsWorkerOf B.code (hall_name self.old.first.seat.hall) self.old.second.seat self.old.second.token }
-        ensures first { IsWorkerOf B.code (hall_name self.old.first.seat.hall) self.new.first.seat self.new.first.token }
-        ensures second { IsWorkerOf B.code (hall_name self.old.first.seat.hall) self.new.second.seat self.new.second.token }
-    {
-        match caller {
-            Caller::First => self.first.make(alloc, rt, code, input, call),
-            Caller::Second => self.second.make(alloc, rt, code, input, call),
+// Makes the calls up to the first row whose result is another one, which is returned with that result.
+fn play_rows<'a, R: Wait, B: RunCode>(
+    alloc: Global,
+    rt: &R,
+    code: &Code,
+    input: &Numbers,
+    first: &mut Worker<'a, B>,
+    second: &mut Worker<'a, B>,
+    rows: &[Row],
+) -> Option<(usize, Seen)>
+    requires drives { CanDrive B.code (hall_name first.old.seat.hall) code.now input.now }
+    requires first { IsWorkerOf B.code (hall_name first.old.seat.hall) first.old.seat first.old.token }
+    requires second { IsWorkerOf B.code (hall_name first.old.seat.hall) second.old.seat second.old.token }
+    ensures first { IsWorkerOf B.code (hall_name first.old.seat.hall) first.new.seat first.new.token }
+    ensures second { IsWorkerOf B.code (hall_name first.old.seat.hall) second.new.seat second.new.token }
+{
+    for (index, (caller, call, seen)) in rows.iter().enumerate() {
+        let got = make(alloc, rt, code, input, first, second, *caller, *call);
+        if got != *seen {
+            return Some((index, got));
         }
     }
-
-    // Makes the calls up to the first row whose result is another one, which is returned with that
-    // result.
-    fn play<R: Wait>(
-        &mut self,
-        alloc: Global,
-        rt: &R,
-        code: &Code,
-        input: &Numbers,
-        rows: &[Row],
-    ) -> Option<(usize, Seen)>
-        requires drives { CanDrive B.code (hall_name self.old.first.seat.hall) code.now input.now }
-        requires first { IsWorkerOf B.code (hall_name self.old.first.seat.hall) self.old.first.seat self.old.first.token }
-        requires second { IsWorkerOf B.code (hall_name self.old.first.seat.hall) self.old.second.seat self.old.second.token }
-        ensures first { IsWorkerOf B.code (hall_name self.old.first.seat.hall) self.new.first.seat self.new.first.token }
-        ensures second { IsWorkerOf B.code (hall_name self.old.first.seat.hall) self.new.second.seat self.new.second.token }
-    {
-        for (index, (caller, call, seen)) in rows.iter().enumerate() {
-            let got = self.make(alloc, rt, code, input, *caller, *call);
-            if got != *seen {
-                return Some((index, got));
-            }
-        }
-        None
-    }
+    None
 }
 
 // Plays a script by two workers. Returns the first row whose result is another one, with that result,
@@ -119,43 +113,58 @@ fn play_at<'a, R: Wait, B: RunCode>(
     ensures { hall_name result.1.hall ≡ hall_name seat.entry.hall }
 {
     let mut seat = seat;
-    let second = Worker {
+    let mut second = Worker {
         seat: seat.split(),
         token: None,
     };
-    let first = Worker { seat, token: None };
-    let mut workers = Workers { first, second };
-    let other = workers.play(alloc, rt, code, input, rows);
-    let Workers { first, second } = workers;
-    let mut seat = first.seat;
-    seat.join(second.seat.into_key());
+    let mut first = Worker { seat, token: None };
+    let other = play_rows(alloc, rt, code, input, &mut first, &mut second, rows);
+    let mut seat = first.into_seat();
+    seat.join(second.into_seat().into_key());
     (other, seat.into_key())
 }
 
-// Plays a script at a new hall, and closes it.
-fn play<R: Wait, B: RunCode>(
+// Closes the hall of a script. Returns nothing only if memory runs out.
+fn close_played<R: Wait, B: RunCode>(
     rt: &R,
     alloc: Global,
-    prepared: &Prepared,
-    throttle: u32,
-    rows: &[Row],
-) -> Result<Played, NoMemory>
-    requires prepared { IsPrepared (tree_of prepared.now.checked) prepared.now.code }
-    requires code { prepared.now.code ≡ B.code }
-    requires throttle { 0 < throttle }
+    hall: HallOf<Carried<B>>,
+    key: HallKey<Carried<B>>,
+    other: Option<(usize, Seen)>,
+) -> Option<Played>
+    requires same_hall { IsSameHall key.hall hall.hall }
 {
-    let (hall, key) = open::<B>(alloc, prepared, throttle, &Accesses::new(alloc))?;
-    let seat = HallSeat::new(&hall, key);
-    let (other, key) = play_at(rt, alloc, &prepared.code, &prepared.input, seat, rows);
-    let logs = close_logs(rt, alloc, hall, key)?;
-    Ok(Played {
+    let Ok(logs) = close_logs(rt, alloc, hall, key) else {
+        return None;
+    };
+    Some(Played {
         other,
         racing: logs.racing_cell(),
         stopped: logs.end_with_stop(),
     })
 }
 
-// The same for a source; nothing if the source is refused or memory runs out.
+// Plays a script at a new hall, and closes it. Returns nothing only if memory runs out.
+fn play<R: Wait, B: RunCode>(
+    rt: &R,
+    alloc: Global,
+    prepared: &Prepared,
+    throttle: u32,
+    rows: &[Row],
+) -> Option<Played>
+    requires prepared { IsPrepared (tree_of prepared.now.checked) prepared.now.code }
+    requires code { prepared.now.code ≡ B.code }
+    requires throttle { 0 < throttle }
+{
+    let Ok((hall, key)) = open_new::<B>(alloc, prepared, throttle) else {
+        return None;
+    };
+    let seat = HallSeat::new(&hall, key);
+    let (other, key) = play_at(rt, alloc, &prepared.code, &prepared.input, seat, rows);
+    close_played(rt, alloc, hall, key, other)
+}
+
+// The same for a source; nothing also if the source is refused.
 fn play_source<R: Wait>(
     rt: &R,
     alloc: Global,
@@ -165,19 +174,15 @@ fn play_source<R: Wait>(
 ) -> Option<Played>
     requires throttle { 0 < throttle }
 {
-    match prepare(alloc, source) {
-        Some(prepared) => play::<R, Brand>(rt, alloc, &prepared, throttle, rows).ok(),
-        None => None,
-    }
+    let Some(prepared) = prepare(alloc, source) else {
+        return None;
+    };
+    let played = play::<R, Brand>(rt, alloc, &prepared, throttle, rows);
+    drop(prepared);
+    played
 }
 
-// All results are those of the script; there is no race, and no stop.
-const AS_WRITTEN: Played = Played {
-    other: None,
-    racing: None,
-    stopped: false,
-};
-
+// An instance that was left ready is returned by `rescue`, and only once.
 const LEFT_READY: [Row; 6] = [
     (First, Begin, Token(0, 0)),
     (First, LeaveReady, Done),
@@ -187,13 +192,7 @@ const LEFT_READY: [Row; 6] = [
     (First, Begin, NotYet),
 ];
 
-// An instance that was left ready is returned by `rescue`, and only once.
-#[test]
-fn an_instance_that_was_left_is_found_once(rt: HostRuntime) {
-    let played = play_source(&rt, rt.alloc(), PREFIX_SUMS, 4, &LEFT_READY);
-    assert!(rt; played == Some(AS_WRITTEN), "{played:?}");
-}
-
+// What one worker has done is there for the next call of the other.
 const ONE_AFTER_THE_OTHER: [Row; 18] = [
     (Second, Rescue, MayBegin),
     (First, Begin, Token(0, 0)),
@@ -215,13 +214,8 @@ const ONE_AFTER_THE_OTHER: [Row; 18] = [
     (Second, Begin, Token(3, 0)),
 ];
 
-// What one worker has done is there for the next call of the other.
-#[test]
-fn calls_see_what_the_other_worker_did(rt: HostRuntime) {
-    let played = play_source(&rt, rt.alloc(), PREFIX_SUMS, 2, &ONE_AFTER_THE_OTHER);
-    assert!(rt; played == Some(AS_WRITTEN), "{played:?}");
-}
-
+// Iteration 1 reads what instance 1 of iteration 0 has written, which is not known to be before it. So
+// the order lists get their labels, or this script would not end.
 const RACE: [Row; 5] = [
     (First, Begin, Token(0, 0)),
     (First, Run, Token(0, 1)),
@@ -230,19 +224,44 @@ const RACE: [Row; 5] = [
     (Second, Run, Token(1, 1)),
 ];
 
-// All results are those of the script, and `f` has a race.
-const RACE_OF_F: Played = Played {
-    other: None,
-    racing: Some(CellId(3)),
-    stopped: false,
-};
+// The race is that of `f`.
+const SCRIPTS: [Script; 3] = [
+    (PREFIX_SUMS, 4, &LEFT_READY, None),
+    (PREFIX_SUMS, 2, &ONE_AFTER_THE_OTHER, None),
+    (RACING, 2, &RACE, Some(CellId(3))),
+];
 
-// Iteration 1 reads what instance 1 of iteration 0 has written, which is not known to be before it. So
-// the order lists get their labels, or this test would not end.
+// Whether all results are those of a script, without a stop, and its race alone is found.
+fn is_as_written(played: Played, racing: Option<CellId>) -> bool {
+    played.other.is_none() && played.racing == racing && !played.stopped
+}
+
+// Whether a script is played so.
+fn plays<R: Wait>(rt: &R, alloc: Global, script: &Script) -> bool {
+    let (source, throttle, rows, racing) = *script;
+    if throttle == 0 {
+        return false;
+    }
+    match play_source(rt, alloc, source, throttle, rows) {
+        Some(played) => is_as_written(played, racing),
+        None => false,
+    }
+}
+
+// The first script for which it is otherwise.
+fn first_other<R: Wait>(rt: &R, alloc: Global) -> Option<usize> {
+    for (index, script) in SCRIPTS.iter().enumerate() {
+        if !plays(rt, alloc, script) {
+            return Some(index);
+        }
+    }
+    None
+}
+
 #[test]
-fn an_access_that_asks_has_the_orders_labelled(rt: HostRuntime) {
-    let played = play_source(&rt, rt.alloc(), RACING, 2, &RACE);
-    assert!(rt; played == Some(RACE_OF_F), "{played:?}");
+fn calls_of_two_workers_have_their_results(rt: HostRuntime) {
+    let other = first_other(&rt, rt.alloc());
+    assert!(rt; other.is_none(), "{other:?}");
 }
 
 const THREE_OUT: [Row; 7] = [
@@ -256,13 +275,18 @@ const THREE_OUT: [Row; 7] = [
 ];
 
 // Whether the log ends with `Stop` exactly if a result is another one, and that is `Stopped`.
-fn is_stopped_or_not(played: Option<Played>) -> bool {
-    let Some(played) = played else {
-        return false;
-    };
+fn is_stopped_or_not(played: Played) -> bool {
     match played.other {
         Some((_row, seen)) => seen == Stopped && played.stopped,
         None => !played.stopped,
+    }
+}
+
+// Whether this is so for three instances that are out.
+fn is_closed_with_three_out<R: Wait>(rt: &R, alloc: Global) -> bool {
+    match play_source(rt, alloc, RACING, 3, &THREE_OUT) {
+        Some(played) => is_stopped_or_not(played),
+        None => false,
     }
 }
 
@@ -271,6 +295,5 @@ fn is_stopped_or_not(played: Option<Played>) -> bool {
 // instance fails; then the row of that instance has another result, and the log ends with `Stop`.
 #[test]
 fn a_hall_is_closed_with_tokens_out(rt: HostRuntime) {
-    let played = play_source(&rt, rt.alloc(), RACING, 3, &THREE_OUT);
-    assert!(rt; is_stopped_or_not(played), "{played:?}");
+    assert!(rt; is_closed_with_three_out(&rt, rt.alloc()));
 }

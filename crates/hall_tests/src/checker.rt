@@ -11,15 +11,14 @@ mod replay;
 mod values;
 
 use crate::sources::Prepared;
-use control::control_fault;
+use control::control_verdict;
 use pipe_model::event::Event;
-use pipe_model::memory::NoMemory;
-use replay::program_fault;
+use replay::program_verdict;
 use std::alloc::Global;
-use values::value_fault;
+use values::value_verdict;
 
 /// What is wrong with a log.
-#[derive(Clone, Copy, PartialEq, Eq, Debug)]
+#[derive(Clone, Copy, PartialEq, Eq)]
 pub enum Verdict {
     /// Each event is allowed, and the run is finished.
     Finished,
@@ -29,26 +28,22 @@ pub enum Verdict {
     Value(usize),
     /// This iteration does not do what its program does.
     Program(u32),
+    /// Memory ran out before all was looked at.
+    OutOfMemory,
 }
 
 /// Checks the log of a finished run, under a throttling limit, of a program whose cells are 0 at first,
-/// and which uses neither the input nor the output. Returns an error only if memory runs out.
-pub fn check(
-    alloc: Global,
-    prepared: &Prepared,
-    throttle: u32,
-    events: &[Event],
-) -> Result<Verdict, NoMemory>
+/// and which uses neither the input nor the output.
+pub fn check(alloc: Global, prepared: &Prepared, throttle: u32, events: &[Event]) -> Verdict
     requires prepared { IsPrepared (tree_of prepared.now.checked) prepared.now.code }
 {
-    if let Some(index) = control_fault(alloc, throttle, events)? {
-        return Ok(Verdict::Control(index));
+    let control = control_verdict(alloc, throttle, events);
+    if control != Verdict::Finished {
+        return control;
     }
-    if let Some(index) = value_fault(alloc, prepared.cells(), events)? {
-        return Ok(Verdict::Value(index));
+    let values = value_verdict(alloc, prepared.cells(), events);
+    if values != Verdict::Finished {
+        return values;
     }
-    if let Some(iteration) = program_fault(alloc, prepared, events)? {
-        return Ok(Verdict::Program(iteration));
-    }
-    Ok(Verdict::Finished)
+    program_verdict(alloc, prepared, events)
 }

@@ -10,7 +10,6 @@ use crate::sources::{Prepared, prepare};
 use pipe_model::access::{Access, AccessKind, CellId};
 use pipe_model::column::ColumnEnd::{Closed, End};
 use pipe_model::event::Event;
-use pipe_model::memory::NoMemory;
 use pipe_model::node::Kind;
 use std::alloc::Global;
 
@@ -90,44 +89,36 @@ fn changed(index: usize, event: Event) -> [Event; 7] {
 }
 
 // The verdict on them.
-fn verdict_of(
-    alloc: Global,
-    prepared: &Prepared,
-    index: usize,
-    event: Event,
-) -> Result<Verdict, NoMemory>
+fn verdict_of(alloc: Global, prepared: &Prepared, index: usize, event: Event) -> Verdict
     requires { IsPrepared (tree_of prepared.now.checked) prepared.now.code }
 {
     check(alloc, prepared, 1, changed(index, event).as_slice())
 }
 
-// The first row for which the verdict is another one, with that verdict.
-fn first_other(
-    alloc: Global,
-    prepared: &Prepared,
-    rows: &[(usize, Event, Verdict)],
-) -> Result<Option<(usize, Verdict)>, NoMemory>
+// The first row for which the verdict is another one.
+fn first_other(alloc: Global, prepared: &Prepared) -> Option<usize>
     requires { IsPrepared (tree_of prepared.now.checked) prepared.now.code }
 {
-    for (row, (index, event, verdict)) in rows.iter().enumerate() {
-        let found = verdict_of(alloc, prepared, *index, *event)?;
-        if found != *verdict {
-            return Ok(Some((row, found)));
+    for (row, (index, event, verdict)) in ROWS.iter().enumerate() {
+        if verdict_of(alloc, prepared, *index, *event) != *verdict {
+            return Some(row);
         }
     }
-    Ok(None)
+    None
 }
 
-// The same for all rows; nothing if the source is refused or memory runs out.
-fn first_other_of_all(alloc: Global) -> Option<Option<(usize, Verdict)>> {
-    match prepare(alloc, COUNTING) {
-        Some(prepared) => first_other(alloc, &prepared, &ROWS).ok(),
-        None => None,
-    }
+// The same for the program of `COUNTING`; the number of rows if it is refused or memory runs out.
+fn first_other_of_all(alloc: Global) -> Option<usize> {
+    let Some(prepared) = prepare(alloc, COUNTING) else {
+        return Some(ROWS.len());
+    };
+    let other = first_other(alloc, &prepared);
+    drop(prepared);
+    other
 }
 
 #[test]
 fn wrong_logs_are_rejected(rt: HostRuntime) {
     let other = first_other_of_all(rt.alloc());
-    assert!(rt; other == Some(None), "{other:?}");
+    assert!(rt; other.is_none(), "{other:?}");
 }

@@ -76,6 +76,23 @@ pub fn close_logs<R: Wait, B: RunCode>(
     logs_with(alloc, book.into_log(), shards)
 }
 
+/// Closes the hall that the key belongs to. Returns whether for each row, of a shard and tickets, the
+/// accesses to the cells of the shard have these tickets; false also if memory runs out.
+pub fn close_with_tickets<R: Wait, B: RunCode>(
+    rt: &R,
+    alloc: Global,
+    hall: HallOf<Carried<B>>,
+    key: HallKey<Carried<B>>,
+    rows: &[(usize, &[u64])],
+) -> bool
+    requires same_hall { IsSameHall key.hall hall.hall }
+{
+    let Ok(logs) = close_logs(rt, alloc, hall, key) else {
+        return false;
+    };
+    logs.have_tickets(rows)
+}
+
 // Whether the entries have these tickets.
 fn are_tickets(entries: &[ShardEntry], tickets: &[u64]) -> bool {
     for (index, entry) in entries.iter().enumerate() {
@@ -95,9 +112,8 @@ impl Logs {
         }
     }
 
-    /// Returns whether for each row, of a shard and tickets, the accesses to the cells of the shard have
-    /// these tickets.
-    pub fn have_tickets(&self, rows: &[(usize, &[u64])]) -> bool {
+    // Whether this is so for each row, of a shard and tickets.
+    fn have_tickets(&self, rows: &[(usize, &[u64])]) -> bool {
         for (number, tickets) in rows {
             if !self.has_tickets(*number, *tickets) {
                 return false;
@@ -108,11 +124,11 @@ impl Logs {
 
     /// Returns the cell of the race, if just one race was found.
     pub fn racing_cell(&self) -> Option<CellId> {
-        if self.found.len() != 1 {
-            return None;
+        if self.found.len() == 1 {
+            Some(self.found[0].0)
+        } else {
+            None
         }
-        let (cell, _race) = self.found.first()?;
-        Some(*cell)
     }
 
     /// Returns whether the last event of the book is a stop.

@@ -7,13 +7,12 @@ use pipe_frame::results::{Begun, Next, Reply, Rescue};
 use pipe_frame::stands::Stands;
 use pipe_frame::token::FrameToken;
 use pipe_model::access::CellId;
-use pipe_model::memory::NoMemory;
 use pipe_model::stage::StageEnd;
 use pipe_model::ticket::Trace;
 use std::sync::Wait;
 
 /// How often each call of a hall was made.
-#[derive(Clone, Copy, PartialEq, Eq, Debug)]
+#[derive(Clone, Copy, PartialEq, Eq)]
 pub struct Calls {
     pub begin: u32,
     pub advance: u32,
@@ -50,14 +49,9 @@ impl<H> Counting<H> {
         }
     }
 
-    /// Returns how often each call was made. Returns an error if an access was refused, as memory ran
-    /// out.
-    pub fn counted(&self) -> Result<Calls, NoMemory> {
-        if self.stopped {
-            Err(NoMemory)
-        } else {
-            Ok(self.calls)
-        }
+    /// Returns whether each call was made this often, and no access was refused, as memory ran out.
+    pub fn has_counted(&self, calls: Calls) -> bool {
+        !self.stopped && self.calls == calls
     }
 }
 

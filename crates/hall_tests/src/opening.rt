@@ -37,3 +37,19 @@ pub fn open<B: RunCode>(
     };
     open_prepared::<B>(alloc, &program, throttle, before)
 }
+
+/// Returns a hall of a program in which no access was made, and the seat of its first worker.
+pub fn open_new<B: RunCode>(
+    alloc: Global,
+    prepared: &Prepared,
+    throttle: u32,
+) -> Result<(HallOf<Carried<B>>, HallKey<Carried<B>>), NoMemory>
+    requires prepared { IsPrepared (tree_of prepared.now.checked) prepared.now.code }
+    requires code { prepared.now.code ≡ B.code }
+    requires throttle { 0 < throttle }
+    ensures hall { IfOk result (λ opened. IsHallOf (hall_name opened.0.hall) (tree_of prepared.now.checked) prepared.now.input) }
+    ensures key { IfOk result (λ opened. opened.1.hall ≡ opened.0.hall) }
+    ensures drives { IfOk result (λ opened. CanDrive B.code (hall_name opened.0.hall) prepared.now.code prepared.now.input) }
+{
+    open::<B>(alloc, prepared, throttle, &Accesses::new(alloc))
+}

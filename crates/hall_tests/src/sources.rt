@@ -63,14 +63,15 @@ fn with_code(alloc: Global, checked: Checked) -> Option<Prepared>
     requires { BreaksNoRule (tree_of checked) }
     ensures { IfSome result (λ prepared. IsPrepared (tree_of prepared.checked) prepared.code) }
 {
-    match lower(alloc, &checked) {
-        Ok(code) => Some(Prepared {
-            checked,
-            code,
-            input: Numbers::new(alloc),
-        }),
-        Err(_) => None,
-    }
+    let Ok(code) = lower(alloc, &checked) else {
+        drop(checked);
+        return None;
+    };
+    Some(Prepared {
+        checked,
+        code,
+        input: Numbers::new(alloc),
+    })
 }
 
 /// Returns the program of a source with its code, or nothing if the source is refused or memory runs
@@ -78,10 +79,10 @@ fn with_code(alloc: Global, checked: Checked) -> Option<Prepared>
 pub fn prepare(alloc: Global, source: &str) -> Option<Prepared>
     ensures { IfSome result (λ prepared. IsPrepared (tree_of prepared.checked) prepared.code) }
 {
-    match accepted(alloc, source.as_bytes()) {
-        Some(checked) => with_code(alloc, checked),
-        None => None,
-    }
+    let Some(checked) = accepted(alloc, source.as_bytes()) else {
+        return None;
+    };
+    with_code(alloc, checked)
 }
 
 impl Prepared {

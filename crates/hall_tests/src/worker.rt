@@ -16,12 +16,13 @@ use pipe_worker::advance::run_and_advance;
 use program_hall::carried::{Carried, RunCode};
 use stage_code::code::Code;
 use std::alloc::Global;
+use std::mem;
 use std::sync::Wait;
 use std::thread::yield_now;
 
 /// A call of the hall; `u32` is an iteration. `Run` runs the instance of the worker's token, and ends
 /// it.
-#[derive(Clone, Copy, PartialEq, Eq, Debug)]
+#[derive(Clone, Copy)]
 pub enum Call {
     Begin,
     Run,
@@ -44,7 +45,7 @@ impl<'a, B: RunCode> Worker<'a, B> {
         ensures { IsWorkerOf B.code (hall_name self.old.seat.hall) self.new.seat self.new.token }
     {
         let seen = Seen::Token(token.iteration, token.index);
-        self.token = Some(token);
+        drop(mem::replace(&mut self.token, Some(token)));
         seen
     }
 
@@ -115,6 +116,15 @@ impl<'a, B: RunCode> Worker<'a, B> {
         }
     }
 
+    /// Returns the seat. A token that the worker holds is dropped.
+    pub fn into_seat(self) -> HallSeat<'a, Carried<B>>
+        ensures { result ≡ self.entry.seat }
+    {
+        let Worker { seat, token } = self;
+        drop(token);
+        seat
+    }
+
     /// Makes a call, and returns the result.
     pub fn make<R: Wait>(
         &mut self,
@@ -163,7 +173,7 @@ pub fn work<'a, R: Wait, B: RunCode>(
     for _ in rt.forever() {
         seen = worker.make(alloc, rt, code, input, next_call(seen));
         match seen {
-            Seen::Finished | Seen::Stopped => return worker.seat,
+            Seen::Finished | Seen::Stopped => return worker.into_seat(),
             Seen::Nothing => yield_now(),
             _ => {}
         }

@@ -1,8 +1,8 @@
 //! The control part: which iterations have begun, and what each does.
 
+use crate::checker::Verdict;
 use pipe_model::column::ColumnEnd;
 use pipe_model::event::Event;
-use pipe_model::memory::NoMemory;
 use pipe_model::node::Kind;
 use pipe_model::status::Status;
 use std::alloc::Global;
@@ -116,6 +116,14 @@ impl Control {
         iteration as usize == self.iterations.len() && self.alive() < u64::from(throttle) && follows
     }
 
+    // Whether an iteration has begun, and is past this stage.
+    fn has_passed(&self, iteration: u32, stage: i64) -> bool {
+        match self.get(iteration) {
+            Some(passing) => passing.has_passed(stage),
+            None => false,
+        }
+    }
+
     // Whether an iteration has named a stage that does not wait, or that its left neighbour has passed.
     fn may_enter(&self, iteration: u32) -> bool {
         let Some(entering) = self.get(iteration) else {
@@ -123,7 +131,7 @@ impl Control {
         };
         match entering.status {
             Status::Pending(Kind::Wait, stage) => match iteration.checked_sub(1) {
-                Some(left) => self.get(left).is_some_and(|left| left.has_passed(stage)),
+                Some(left) => self.has_passed(left, stage),
                 None => true,
             },
             Status::Pending(_, _) => true,
@@ -131,17 +139,40 @@ impl Control {
         }
     }
 
+    // The iteration, if it runs an instance.
+    fn running(&self, iteration: u32) -> Option<Iteration> {
+        let found = self.get(iteration)?;
+        if found.is_running() {
+            Some(found)
+        } else {
+            None
+        }
+    }
+
+    // Whether the instance that an iteration runs may name a stage.
+    fn may_name(&self, iteration: u32, kind: Kind, stage: i64) -> bool {
+        match self.running(iteration) {
+            Some(naming) => kind != Kind::Zero && naming.stage < stage,
+            None => false,
+        }
+    }
+
+    // Whether an iteration may end so.
+    fn may_finish(&self, iteration: u32, end: ColumnEnd) -> bool {
+        match self.running(iteration) {
+            Some(ending) => end != ColumnEnd::Closed || ending.instances == 1,
+            None => false,
+        }
+    }
+
     // Whether an event may come next.
     fn allows(&self, throttle: u32, event: Event) -> bool {
         match event {
             Event::Begin(i) => self.may_begin(throttle, i),
-            Event::Access(i, _) => self.get(i).is_some_and(|it| it.is_running()),
-            Event::Advance(i, kind, stage) => self.get(i).is_some_and(|it| it.is_running()
-                && kind != Kind::Zero
-                && it.stage < stage),
+            Event::Access(i, _) => self.running(i).is_some(),
+            Event::Advance(i, kind, stage) => self.may_name(i, kind, stage),
             Event::Enter(i) => self.may_enter(i),
-            Event::Finish(i, end) => self.get(i).is_some_and(|it| it.is_running()
-                && (end != ColumnEnd::Closed || it.instances == 1)),
+            Event::Finish(i, end) => self.may_finish(i, end),
             Event::Stop => true,
         }
     }
@@ -159,21 +190,24 @@ impl Control {
         }
     }
 
-    // Makes an event.
-    fn make(&mut self, event: Event) -> Result<(), NoMemory> {
+    // Enters the stage that an iteration has named.
+    fn enter(&mut self, iteration: u32) {
+        if let Some(entering) = self.get(iteration) {
+            self.set(iteration, entering.entered());
+        }
+    }
+
+    // Makes an event. Returns whether there is memory for that.
+    fn make(&mut self, event: Event) -> bool {
         match event {
-            Event::Begin(_) => self.iterations.push(BEGUN)?,
+            Event::Begin(_) => return self.iterations.push(BEGUN).is_ok(),
             Event::Access(_, _) => {}
             Event::Advance(i, kind, stage) => self.set_status(i, Status::Pending(kind, stage)),
-            Event::Enter(i) => {
-                if let Some(entering) = self.get(i) {
-                    self.set(i, entering.entered());
-                }
-            }
+            Event::Enter(i) => self.enter(i),
             Event::Finish(i, end) => self.set_status(i, Status::Completed(end)),
             Event::Stop => self.stopped = true,
         }
-        Ok(())
+        true
     }
 
     // Whether all iterations have ended, and the loop is closed.
@@ -184,28 +218,30 @@ impl Control {
         };
         closed && self.alive() == 0
     }
+
+    // Makes the events, up to the first that is not allowed. At the end, the run has to be finished.
+    fn verdict(&mut self, throttle: u32, events: &[Event]) -> Verdict {
+        for (index, event) in events.iter().enumerate() {
+            if self.stopped || !self.allows(throttle, *event) {
+                return Verdict::Control(index);
+            }
+            if !self.make(*event) {
+                return Verdict::OutOfMemory;
+            }
+        }
+        if self.is_finished() {
+            Verdict::Finished
+        } else {
+            Verdict::Control(events.len())
+        }
+    }
 }
 
-/// Returns the index of the first event that is not allowed; that of the end, if the run is not
-/// finished there; and otherwise none.
-pub fn control_fault(
-    alloc: Global,
-    throttle: u32,
-    events: &[Event],
-) -> Result<Option<usize>, NoMemory> {
+/// Returns what is wrong with the control part of a log.
+pub fn control_verdict(alloc: Global, throttle: u32, events: &[Event]) -> Verdict {
     let mut control = Control {
         iterations: Vec::new(alloc),
         stopped: false,
     };
-    for (index, event) in events.iter().enumerate() {
-        if control.stopped || !control.allows(throttle, *event) {
-            return Ok(Some(index));
-        }
-        control.make(*event)?;
-    }
-    if control.is_finished() {
-        Ok(None)
-    } else {
-        Ok(Some(events.len()))
-    }
+    control.verdict(throttle, events)
 }

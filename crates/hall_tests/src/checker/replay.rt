@@ -8,19 +8,20 @@ ghost use Rattle.pipe_model.specs.Pipelines.Behaviour.{Behaviour};
 ghost use Rattle.stage_interp.specs.MachineState.{IsMadeFor};
 ghost use Rattle.stage_interp.specs.RemainingBehaviour.{Represents};
 
+use crate::checker::Verdict;
 use crate::checker::recorded::Recorded;
 use crate::sources::Prepared;
 use pipe_model::access::Access;
 use pipe_model::column::ColumnEnd;
 use pipe_model::event::Event;
 use pipe_model::list::Numbers;
-use pipe_model::memory::NoMemory;
 use pipe_model::node::Kind;
 use pipe_model::stage::StageEnd;
 use stage_code::code::Code;
 use stage_code::instr::Part;
 use stage_interp::machine::Machine;
 use std::alloc::Global;
+use std::mem;
 
 // An action of one iteration.
 #[derive(Clone, Copy)]
@@ -81,42 +82,54 @@ fn replay(
     (end, memory.is_done())
 }
 
-// Whether the actions of an iteration in the log are those of its program, for the machine at the
-// start of the iteration.
-fn is_replayed(
+// The verdict on an iteration, which does or does not do what its program does.
+fn verdict(iteration: u32, same: bool) -> Verdict {
+    if same {
+        Verdict::Finished
+    } else {
+        Verdict::Program(iteration)
+    }
+}
+
+// Goes through the actions of an iteration in the log, with the machine at the start of the iteration.
+fn replay_all(
     alloc: Global,
     machine: &mut Machine,
     prepared: &Prepared,
     events: &[Event],
     iteration: u32,
-) -> Result<bool, NoMemory>
+) -> Verdict
     requires prepared { IsPrepared (tree_of prepared.now.checked) prepared.now.code }
     requires made { IsMadeFor prepared.now.code machine.old }
 {
     let cells = prepared.cells();
-    let Prepared {
-        checked: _,
-        code,
-        input,
-    } = prepared;
     machine.reset(Part::Pipe, iteration);
     let mut accesses = Vec::new(alloc);
     for event in events {
         match action_of(*event, iteration) {
             None => {}
-            Some(Action::Access(access)) => accesses.push(access)?,
+            Some(Action::Access(access)) => {
+                if accesses.push(access).is_err() {
+                    return Verdict::OutOfMemory;
+                }
+            }
             Some(Action::End(end)) => {
-                let these = accesses;
-                accesses = Vec::new(alloc);
-                let (own_end, done) = replay(machine, code, input, cells, these);
+                let these = mem::replace(&mut accesses, Vec::new(alloc));
+                let (own_end, done) = replay(
+                    machine,
+                    &prepared.code,
+                    &prepared.input,
+                    cells,
+                    these,
+                );
                 let same = own_end == end && done;
                 if !same || !goes_on(own_end) {
-                    return Ok(same);
+                    return verdict(iteration, same);
                 }
             }
         }
     }
-    Ok(false)
+    Verdict::Program(iteration)
 }
 
 // How many iterations have begun.
@@ -130,19 +143,32 @@ fn begun(events: &[Event]) -> u32 {
     begun
 }
 
-/// Returns the first iteration that does not do, up to its end, what the program does.
-pub fn program_fault(
+// Replays an iteration by a machine of its own.
+fn iteration_verdict(
     alloc: Global,
     prepared: &Prepared,
     events: &[Event],
-) -> Result<Option<u32>, NoMemory>
+    iteration: u32,
+) -> Verdict
+    requires prepared { IsPrepared (tree_of prepared.now.checked) prepared.now.code }
+{
+    let Ok(mut machine) = Machine::new(alloc, &prepared.code) else {
+        return Verdict::OutOfMemory;
+    };
+    let verdict = replay_all(alloc, &mut machine, prepared, events, iteration);
+    drop(machine);
+    verdict
+}
+
+/// Returns what is wrong with the first iteration that does not do, up to its end, what the program does.
+pub fn program_verdict(alloc: Global, prepared: &Prepared, events: &[Event]) -> Verdict
     requires prepared { IsPrepared (tree_of prepared.now.checked) prepared.now.code }
 {
     for iteration in 0..begun(events) {
-        let mut machine = Machine::new(alloc, &prepared.code)?;
-        if !is_replayed(alloc, &mut machine, prepared, events, iteration)? {
-            return Ok(Some(iteration));
+        let verdict = iteration_verdict(alloc, prepared, events, iteration);
+        if verdict != Verdict::Finished {
+            return verdict;
         }
     }
-    Ok(None)
+    Verdict::Finished
 }

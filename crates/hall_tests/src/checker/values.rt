@@ -1,8 +1,8 @@
 //! The values of cells: a read has the value that was written last.
 
+use crate::checker::Verdict;
 use pipe_model::access::{Access, AccessKind};
 use pipe_model::event::Event;
-use pipe_model::memory::NoMemory;
 use std::alloc::Global;
 
 // The first cell that a program declares; those before it are the input and the output.
@@ -23,16 +23,23 @@ fn make(values: &mut [i64], access: Access) -> bool {
     }
 }
 
-/// Returns the index of the first access that is to no declared cell, or is a read of another value
-/// than its cell has. The program has `cells` cells, which are 0 at first.
-pub fn value_fault(alloc: Global, cells: u32, events: &[Event]) -> Result<Option<usize>, NoMemory> {
-    let mut values = vec![in alloc; 0; cells as usize]?;
+// Makes the accesses, up to the first that is to no declared cell, or is a read of another value than its
+// cell has.
+fn verdict(values: &mut [i64], events: &[Event]) -> Verdict {
     for (index, event) in events.iter().enumerate() {
         if let Event::Access(_, access) = *event
-            && !make(values.as_mut_slice(), access)
+            && !make(values, access)
         {
-            return Ok(Some(index));
+            return Verdict::Value(index);
         }
     }
-    Ok(None)
+    Verdict::Finished
+}
+
+/// Returns what is wrong with the values of a log. The program has `cells` cells, which are 0 at first.
+pub fn value_verdict(alloc: Global, cells: u32, events: &[Event]) -> Verdict {
+    let Ok(mut values) = vec![in alloc; 0; cells as usize] else {
+        return Verdict::OutOfMemory;
+    };
+    verdict(values.as_mut_slice(), events)
 }

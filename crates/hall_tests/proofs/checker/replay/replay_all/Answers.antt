@@ -1,5 +1,5 @@
 use Rattle.pipe_model.specs.Language.SyntaxTree.{tree_of}
-use Rattle.hall_tests.proofs.checker.replay.is_replayed.Goals as goal
+use Rattle.hall_tests.proofs.checker.replay.replay_all.Goals as goal
 
 pub loop-event-init : goal.loop-event-init
 loop-event-init c =
