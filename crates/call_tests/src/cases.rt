@@ -5,7 +5,9 @@ use pipe_io::mem_files::MemFiles;
 use pipe_io::mem_sink::MemSink;
 use pipe_model::list::Bytes;
 use pipe_model::memory::NoMemory;
+use pipe_model::node::NodeId;
 use pipe_worker::gate::{Gate, OpenGate};
+use pipe_worker::hold::HoldGate;
 use std::alloc::{AllocError, Global};
 use std::process::Abort;
 use std::sync::Wait;
@@ -19,6 +21,33 @@ pub const RUN_BY_FOUR: &[&str] = &["run", "a.pipe", "a.in", "--workers", "4", "-
 pub const SERIAL: &[&str] = &["serial", "a.pipe", "a.in"];
 
 pub const FORMAT: &[&str] = &["format", "a.pipe"];
+
+// The gate of a call: the open one, or one that holds an instance. All calls have a gate of this type, so that
+// the runtime is compiled once.
+#[derive(Drop)]
+pub enum CallGate {
+    Open(OpenGate),
+    Hold(HoldGate),
+}
+
+impl CallGate {
+    // Whether an instance was held until the other was at the gate.
+    pub fn met(&self) -> bool {
+        match self {
+            CallGate::Open(_) => false,
+            CallGate::Hold(gate) => gate.met(),
+        }
+    }
+}
+
+impl Gate for CallGate {
+    fn at<R: Wait>(&self, rt: &R, worker: u32, node: NodeId) {
+        match self {
+            CallGate::Open(gate) => gate.at(rt, worker, node),
+            CallGate::Hold(gate) => gate.at(rt, worker, node),
+        }
+    }
+}
 
 // A call to test, and how it is to end: its words, the texts of the source `a.pipe`, the input `a.in` and
 // the record `a.log`, the numbers of the reads and of the writes that fail, its status and what its sink
@@ -138,11 +167,11 @@ pub fn is_end(ended: &Ended, taken: &[u8], case: &Case<'_>) -> bool {
 
 impl Call {
     // Makes the call, with a gate for its workers.
-    pub fn make<G: Gate + Sync>(
+    pub fn make_at(
         &mut self,
         rt: &(impl Threads + Wait + Sync),
         alloc: Global,
-        gate: &G,
+        gate: &CallGate,
     ) -> Result<Ended, NoMemory> {
         cilkp(
             rt,
@@ -154,19 +183,28 @@ impl Call {
         )
     }
 
+    // Makes the call.
+    pub fn make(
+        &mut self,
+        rt: &(impl Threads + Wait + Sync),
+        alloc: Global,
+    ) -> Result<Ended, NoMemory> {
+        self.make_at(rt, alloc, &CallGate::Open(OpenGate))
+    }
+
     // What the sink took.
     pub fn taken(&self) -> &[u8] {
         self.sink.taken().as_slice()
     }
 
-    fn ends<G: Gate + Sync>(
+    fn ends(
         &mut self,
         rt: &(impl Threads + Wait + Sync),
         alloc: Global,
-        gate: &G,
+        gate: &CallGate,
         case: &Case<'_>,
     ) -> bool {
-        match self.make(rt, alloc, gate) {
+        match self.make_at(rt, alloc, gate) {
             Ok(ended) => is_end(&ended, self.taken(), case),
             Err(NoMemory) => false,
         }
@@ -174,15 +212,15 @@ impl Call {
 }
 
 // Makes the call with these words over a source, with a gate for its workers.
-pub fn ended_at<G: Gate + Sync>(
+pub fn ended_at(
     rt: &(impl Threads + Wait + Sync),
     alloc: Global,
-    gate: &G,
+    gate: &CallGate,
     words: &[&str],
     source: &str,
 ) -> Result<Ended, NoMemory> {
     match set_up(alloc, &case_of(words, source)) {
-        Ok(mut call) => call.make(rt, alloc, gate),
+        Ok(mut call) => call.make_at(rt, alloc, gate),
         Err(NoMemory) => Err(NoMemory),
     }
 }
@@ -194,14 +232,14 @@ pub fn ended(
     words: &[&str],
     source: &str,
 ) -> Result<Ended, NoMemory> {
-    ended_at(rt, alloc, &OpenGate, words, source)
+    ended_at(rt, alloc, &CallGate::Open(OpenGate), words, source)
 }
 
 // Whether the call of a case, with a gate for its workers, ends as the case says.
-pub fn ends_at<G: Gate + Sync>(
+pub fn ends_at(
     rt: &(impl Threads + Wait + Sync),
     alloc: Global,
-    gate: &G,
+    gate: &CallGate,
     case: &Case<'_>,
 ) -> bool {
     match set_up(alloc, case) {
@@ -212,7 +250,7 @@ pub fn ends_at<G: Gate + Sync>(
 
 // The same without a gate.
 pub fn ends(rt: &(impl Threads + Wait + Sync), alloc: Global, case: &Case<'_>) -> bool {
-    ends_at(rt, alloc, &OpenGate, case)
+    ends_at(rt, alloc, &CallGate::Open(OpenGate), case)
 }
 
 // The first case that ends otherwise.

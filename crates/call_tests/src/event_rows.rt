@@ -13,7 +13,7 @@ use std::alloc::Global;
 use std::sync::Wait;
 use std::thread::Threads;
 
-// The event of an access by iteration 0 or 1.
+// The event of an access.
 macro_rules! access {
     ($iteration:expr, $kind:expr, $cell:expr, $value:expr) => {
         Event::Access(

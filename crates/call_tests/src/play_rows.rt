@@ -2,7 +2,6 @@
 
 use crate::cases::{Call, CallRow, case_of, expect_none, first_other_call, set_up};
 use pipe_model::memory::NoMemory;
-use pipe_worker::gate::OpenGate;
 use std::alloc::Global;
 use std::sync::Wait;
 use std::thread::Threads;
@@ -20,7 +19,7 @@ fn line_count(text: &[u8]) -> usize {
 
 // Whether the call ends with one race, of `f`.
 fn has_race_of_f(rt: &(impl Threads + Wait + Sync), alloc: Global, call: &mut Call) -> bool {
-    match call.make(rt, alloc, &OpenGate) {
+    match call.make(rt, alloc) {
         Ok(ended) => {
             ended.status == 2
                 && call.taken().starts_with(b"race f ")

@@ -6,7 +6,6 @@ use crate::cases::{
 };
 use pipe_model::memory::NoMemory;
 use pipe_model::report::Report;
-use pipe_worker::gate::OpenGate;
 use std::alloc::Global;
 use std::sync::Wait;
 use std::thread::Threads;
@@ -343,7 +342,7 @@ fn is_usual(
     call: &mut Call,
     case: &Case<'_>,
 ) -> bool {
-    match call.make(rt, alloc, &OpenGate) {
+    match call.make(rt, alloc) {
         Ok(ended) => is_end(&ended, call.taken(), case),
         Err(NoMemory) => case.text.as_bytes().starts_with(call.taken()),
     }

@@ -1,6 +1,8 @@
 // Runs by several workers, and instances that overlap.
 
-use crate::cases::{CallRow, Case, case_of, ended_at, ends_at, expect_none, first_other_call};
+use crate::cases::{
+    CallGate, CallRow, Case, case_of, ended_at, ends_at, expect_none, first_other_call,
+};
 use pipe_model::column::ColumnEnd;
 use pipe_model::event::{Event, RunLog};
 use pipe_model::memory::NoMemory;
@@ -78,7 +80,7 @@ fn enters_before_end(log: &Option<RunLog>, enters: u32, ends: u32) -> bool {
 fn gated_run_overlaps(
     rt: &(impl Threads + Wait + Sync),
     alloc: Global,
-    gate: &HoldGate,
+    gate: &CallGate,
     held: u32,
     other: u32,
 ) -> bool {
@@ -91,7 +93,7 @@ fn gated_run_overlaps(
 // Holds the last stage of one iteration until the other is at its own. Returns whether the run finishes, the
 // two met, and the other is entered before the held iteration ends, so that they overlap.
 fn overlaps(rt: &(impl Threads + Wait + Sync), alloc: Global, held: u32, other: u32) -> bool {
-    let gate = HoldGate::new(last_stage(held), last_stage(other), TURNS);
+    let gate = CallGate::Hold(HoldGate::new(last_stage(held), last_stage(other), TURNS));
     gated_run_overlaps(rt, alloc, &gate, held, other) && gate.met()
 }
 
@@ -109,7 +111,7 @@ fn goes_on(rt: &(impl Threads + Wait + Sync), alloc: Global) -> bool {
         iteration: 5,
         index: 0,
     };
-    let gate = HoldGate::new(last_stage(0), never, 1000);
+    let gate = CallGate::Hold(HoldGate::new(last_stage(0), never, 1000));
     let case = Case {
         text: "1\n3\n6\n",
         ..case_of(RUN_BY_TWO, PREFIX_SUMS)
