@@ -47,8 +47,8 @@ enum Outcome {
     Other,
 }
 
-// Some lines, from a first one up to another, that others stand in place of; the throttling limit; and
-// what the record is.
+// A change of the record: the first line that is replaced, the line after the last one, and the new lines.
+// Then the throttling limit, and what the changed record is.
 type Row = (usize, usize, &'static [&'static str], u32, Outcome);
 
 const ROWS: [Row; 33] = [
