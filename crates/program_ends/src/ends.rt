@@ -1,23 +1,23 @@
 //! The output and the trap of a program, and whether `final` runs.
 
-ghost use Rattle.std.specs.Prelude.{◌≡◌, ◌++◌, ◌&&◌, ℕ, Bool, IfOk, IsTrue, false, is_some, not};
+ghost use Rattle.std.specs.Prelude.{◌≡◌, ◌&&◌, ℕ, Bool, IfOk, IsTrue, List, false, is_some, not};
 ghost use Rattle.cell_store.specs.ShardState.{IsStateAfter};
 ghost use Rattle.pipe_model.specs.Language.CheckingRules.{BreaksNoRule};
 ghost use Rattle.pipe_model.specs.Language.Programs.{store_of};
-ghost use Rattle.pipe_model.specs.Language.ProgramsOfTrees.{pipeline_after_init, whole_of};
+ghost use Rattle.pipe_model.specs.Language.ProgramsOfTrees.{whole_of};
 ghost use Rattle.pipe_model.specs.Language.SyntaxTree.{tree_of};
 ghost use Rattle.pipe_model.specs.Pipelines.WholePrograms as whole_programs;
 ghost use Rattle.pipe_model.specs.Pipelines.WholePrograms.{init_accesses};
-ghost use Rattle.pipe_model.specs.Runs.Run.{Run};
-ghost use Rattle.pipe_model.specs.Runs.RunLogs.{accesses_after, ended_columns_after, state_after};
-ghost use Rattle.pipe_model.specs.Runs.State.{accesses_of, initial_state};
-ghost use Rattle.program_ends.specs.ProgramEnds.{HasResults, reaches_final};
+ghost use Rattle.pipe_model.specs.Runs.RunLogs.{state_after};
+ghost use Rattle.pipe_model.specs.Runs.State.{initial_state};
+ghost use Rattle.pipe_model.specs.declared.event.Event.{Event};
+ghost use Rattle.program_ends.specs.ProgramEnds.{HasResults, IsAfterLoop, reaches_final};
 ghost use Rattle.serial_elision.specs.PartRuns.{Serves};
 ghost use Rattle.stage_interp.specs.MachineState.{IsMadeFor};
 ghost use Rattle.stage_interp.specs.RemainingBehaviour.{IsCodeOf};
 
 use cell_store::cells::Cells;
-use pipe_model::event::RunLog;
+use pipe_model::column::Columns;
 use pipe_model::list::Numbers;
 use pipe_model::memory::NoMemory;
 use pipe_model::report::Reports;
@@ -62,14 +62,14 @@ fn runs_final(finished: bool, reports: &Reports, trap: Option<TrapAt>) -> bool
     finished && reports.is_empty() && trap.is_none()
 }
 
-/// Ends a program after a run of its loop, of which these are the log, the reports, and the cells. Runs
-/// `final` exactly if the run is finished and there is neither a report nor a trap. Returns an error
-/// only if memory runs out; the machine is of no use then.
+/// Ends a program after a run of its loop, of which these are the columns, the reports, and the cells.
+/// Runs `final` exactly if the run is finished and there is neither a report nor a trap. Returns an
+/// error only if memory runs out; the machine is of no use then.
 pub fn end_after_loop(
     alloc: Global,
     machine: &mut Machine,
     prepared: &Prepared,
-    run_log: &RunLog,
+    columns: &Columns,
     reports: &Reports,
     finished: bool,
     cells: Cells,
@@ -78,17 +78,15 @@ pub fn end_after_loop(
     requires made { IsMadeFor prepared.now.code.now machine.old }
     requires accepted { BreaksNoRule (tree_of prepared.now.checked.now) }
     requires no_trap { is_some (whole_programs.init_trap (whole_of (tree_of prepared.now.checked.now) prepared.now.input.now)) ≡ false }
-    requires run { (limit : ℕ) × Run (pipeline_after_init (tree_of prepared.now.checked.now) prepared.now.input.now) limit
-        run_log.now.events (state_after run_log.now.events) }
-    requires columns { run_log.now.columns ≡ ended_columns_after run_log.now.events }
+    requires run { (limit : ℕ) × (events : List Event) × IsAfterLoop (tree_of prepared.now.checked.now) prepared.now.input.now limit
+        events columns.now cells }
     requires serves { Serves (tree_of prepared.now.checked.now) cells }
-    requires state { IsStateAfter (store_of (tree_of prepared.now.checked.now))
-        (init_accesses (whole_of (tree_of prepared.now.checked.now) prepared.now.input.now) ++ accesses_of
-        (accesses_after run_log.now.events)) cells }
-    ensures { IfOk result (HasResults (whole_of (tree_of prepared.now.checked.now) prepared.now.input.now)
-        (reaches_final finished reports.now) (state_after run_log.now.events)) }
+    ensures { IfOk result (λ r. (limit : ℕ) (events : List Event) → IsAfterLoop (tree_of prepared.now.checked.now) prepared.now.input.now
+        limit events columns.now cells
+        → HasResults (whole_of (tree_of prepared.now.checked.now) prepared.now.input.now) (reaches_final finished reports.now)
+        (state_after events) r) }
 {
-    let trap = least_trap(run_log.columns.as_slice());
+    let trap = least_trap(columns.as_slice());
     if !runs_final(finished, reports, trap) {
         return Ok(ProgramResults {
             output: cells.into_output(),

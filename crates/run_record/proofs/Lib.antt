@@ -1,4 +1,5 @@
 pub mod LogTexts
+pub mod MergedColumns
 pub mod MergeSteps
 pub mod NextEntries
 pub mod NextLogs
@@ -6,3 +7,4 @@ pub mod Outlines
 pub mod RestsOfLogs
 pub mod RisingLists
 pub mod RunColumns
+pub mod SortedEntries

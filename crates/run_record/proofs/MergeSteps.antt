@@ -10,7 +10,7 @@ use Rattle.pipe_model.proofs.Members.{among_either, none_among, only_one}
 
 -- ---- entries of a merge
 
-book_member : (b : BookEntry) (xs : List LogEntry) → Among (OfBook b) xs → Among b (book_in xs)
+pub book_member : (b : BookEntry) (xs : List LogEntry) → Among (OfBook b) xs → Among b (book_in xs)
 book_member b [] m = absurd (none_among (OfBook b) m)
 book_member b (OfBook d ∷ xs) m = elim (among_either (OfBook b) (OfBook d ∷ []) xs m) [
   | inl here ↦ (
@@ -24,7 +24,7 @@ book_member b (OfShard k e ∷ xs) m = elim (among_either (OfBook b) (OfShard k 
   | inr there ↦ book_member b xs there
 ]
 
-shard_member : (k : ℕ) (e : ShardEntry) (xs : List LogEntry) → Among (OfShard k e) xs → Among e (shard_in k xs)
+pub shard_member : (k : ℕ) (e : ShardEntry) (xs : List LogEntry) → Among (OfShard k e) xs → Among e (shard_in k xs)
 shard_member k e [] m = absurd (none_among (OfShard k e) m)
 shard_member k e (OfBook d ∷ xs) m = elim (among_either (OfShard k e) (OfBook d ∷ []) xs m) [
   | inl here ↦ (let other = only_one (OfShard k e) (OfBook d) here in absurd (cc))

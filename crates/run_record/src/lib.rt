@@ -6,5 +6,6 @@ mod cursors;
 pub mod examples;
 pub mod law;
 pub mod log_text;
+pub mod logged_run;
 pub mod merge;
 pub mod own_columns;

@@ -106,7 +106,11 @@ fn push_event(
 }
 
 // The lines of events, with the names of the declared cells.
-fn lines_of(alloc: Global, cells: &[Declaration], events: &[Event]) -> Result<Vec<u8>, AllocError>
+pub(crate) fn lines_of(
+    alloc: Global,
+    cells: &[Declaration],
+    events: &[Event],
+) -> Result<Vec<u8>, AllocError>
     ensures { IfOk result (λ text. text.items ≡ log_text cells.now events.now) }
 {
     let mut text = Vec::new(alloc);

@@ -3,9 +3,10 @@
 ghost use Rattle.std.specs.Prelude.{◌≡◌, All, IfOk};
 ghost use Rattle.run_record.specs.MergedLogs.{AreMerged, BookRises, ShardRises};
 ghost use Rattle.run_record.specs.OwnColumns.{made_columns};
+ghost use Rattle.run_record.specs.SortedEntries.{merged_events};
 
 use crate::cursors::Cursors;
-use crate::own_columns::columns_of;
+use crate::own_columns::columns_in;
 use pipe_model::event::{Events, RunLog};
 use pipe_model::list::ListOf;
 use pipe_model::memory::NoMemory;
@@ -22,10 +23,15 @@ fn entry_count(book: &[BookEntry], shards: &[ShardLog]) -> usize {
 }
 
 // The events of the merge of the logs.
-fn merged_events(alloc: Global, book: &[BookEntry], shards: &[ShardLog]) -> Result<Events, NoMemory>
+pub(crate) fn merged_events(
+    alloc: Global,
+    book: &[BookEntry],
+    shards: &[ShardLog],
+) -> Result<Events, NoMemory>
     requires book { BookRises book.now }
     requires shards { All ShardRises shards.now }
-    ensures { IfOk result (AreMerged book.now shards.now) }
+    ensures merged { IfOk result (AreMerged book.now shards.now) }
+    ensures sorted { IfOk result (λ events. events ≡ merged_events book.now shards.now) }
 {
     let mut events = Vec::with_capacity(alloc, entry_count(book, shards))?;
     let mut cursors = Cursors::new(alloc, shards)?;
@@ -46,6 +52,6 @@ pub fn merge(alloc: Global, book: BookLog, shards: Vec<ShardLog>) -> Result<RunL
     ensures columns { IfOk result (λ log. log.columns ≡ made_columns log.events) }
 {
     let events = merged_events(alloc, book.as_slice(), shards.as_slice())?;
-    let columns = columns_of(alloc, events.as_slice())?;
+    let columns = columns_in(alloc, book.as_slice())?;
     Ok(RunLog { columns, events })
 }

@@ -13,6 +13,7 @@ use pipe_model::list::ListOf;
 use pipe_model::memory::NoMemory;
 use pipe_model::node::{Kind, Node, Nodes};
 use pipe_model::status::Status;
+use pipe_model::ticket::BookEntry;
 use std::alloc::Global;
 
 // An iteration after some events.
@@ -98,6 +99,17 @@ fn iterations_of(alloc: Global, events: &[Event]) -> Result<Vec<Iteration>, NoMe
     Ok(iterations)
 }
 
+// The iterations after all events of a book.
+fn iterations_in(alloc: Global, book: &[BookEntry]) -> Result<Vec<Iteration>, NoMemory>
+    ensures { IfOk result (λ its. frames_of its.items ≡ outlines_of (control_after (map (λ b. b.event) book.now)).frames) }
+{
+    let mut iterations = Vec::new(alloc);
+    for entry in book {
+        apply(alloc, &mut iterations, entry.event)?;
+    }
+    Ok(iterations)
+}
+
 fn end_of(status: Status) -> Option<ColumnEnd>
     ensures { result ≡ end_of_status status }
 {
@@ -127,5 +139,14 @@ pub fn columns_of(alloc: Global, events: &[Event]) -> Result<Columns, NoMemory>
     ensures { IfOk result (λ columns. columns ≡ made_columns events.now) }
 {
     let iterations = iterations_of(alloc, events)?;
+    into_columns(alloc, iterations)
+}
+
+/// Returns the columns that the events of a book make, which are those of every merge of the book with
+/// accesses. Returns an error only if memory runs out.
+pub fn columns_in(alloc: Global, book: &[BookEntry]) -> Result<Columns, NoMemory>
+    ensures { IfOk result (λ columns. columns ≡ made_columns (map (λ b. b.event) book.now)) }
+{
+    let iterations = iterations_in(alloc, book)?;
     into_columns(alloc, iterations)
 }
