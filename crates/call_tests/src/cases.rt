@@ -3,11 +3,13 @@
 use cilkp_program::call::{Ended, cilkp};
 use pipe_io::mem_files::MemFiles;
 use pipe_io::mem_sink::MemSink;
+use pipe_model::event::RunLog;
 use pipe_model::list::Bytes;
 use pipe_model::memory::NoMemory;
 use pipe_model::node::NodeId;
 use pipe_worker::gate::{Gate, OpenGate};
 use pipe_worker::hold::HoldGate;
+use run_record::logged_run::LoggedRun;
 use std::alloc::{AllocError, Global};
 use std::process::Abort;
 use std::sync::Wait;
@@ -47,6 +49,11 @@ impl Gate for CallGate {
             CallGate::Hold(gate) => gate.at(rt, worker, node),
         }
     }
+}
+
+// The events of a run and its columns, if there is a log and memory to merge it.
+pub fn merged(alloc: Global, log: Option<LoggedRun>) -> Option<RunLog> {
+    log?.into_run_log(alloc).ok()
 }
 
 // A call to test, and how it is to end: its words, the texts of the source `a.pipe`, the input `a.in` and

@@ -1,14 +1,15 @@
 // The events of runs with one worker.
 
-use crate::cases::{RUN, ended, expect_none};
+use crate::cases::{RUN, ended, expect_none, merged};
 use pipe_model::access::AccessKind::{self, Read, Write};
 use pipe_model::access::{Access, CellId};
 use pipe_model::column::ColumnEnd;
+use pipe_model::event::Event;
 use pipe_model::event::Event::{Advance, Begin, Enter, Finish};
-use pipe_model::event::{Event, RunLog};
 use pipe_model::memory::NoMemory;
 use pipe_model::node::Kind;
 use pipe_model::trap::Trap;
+use run_record::logged_run::LoggedRun;
 use std::alloc::Global;
 use std::sync::Wait;
 use std::thread::Threads;
@@ -87,8 +88,8 @@ const RUNS: [(&str, &[Event]); 3] = [
 ];
 
 // Whether a log has these events, and two columns.
-fn has_events(log: &Option<RunLog>, events: &[Event]) -> bool {
-    match log {
+fn has_events(alloc: Global, log: Option<LoggedRun>, events: &[Event]) -> bool {
+    match merged(alloc, log) {
         Some(log) => log.columns.len() == 2 && log.events.as_slice() == events,
         None => false,
     }
@@ -102,7 +103,7 @@ fn run_has_events(
     events: &[Event],
 ) -> bool {
     match ended(rt, alloc, RUN, source) {
-        Ok(ended) => has_events(&ended.run_log, events),
+        Ok(ended) => has_events(alloc, ended.run_log, events),
         Err(NoMemory) => false,
     }
 }

@@ -1,13 +1,14 @@
 // Runs by several workers, and instances that overlap.
 
 use crate::cases::{
-    CallGate, CallRow, Case, case_of, ended_at, ends_at, expect_none, first_other_call,
+    CallGate, CallRow, Case, case_of, ended_at, ends_at, expect_none, first_other_call, merged,
 };
 use pipe_model::column::ColumnEnd;
 use pipe_model::event::{Event, RunLog};
 use pipe_model::memory::NoMemory;
 use pipe_model::node::NodeId;
 use pipe_worker::hold::HoldGate;
+use run_record::logged_run::LoggedRun;
 use std::alloc::Global;
 use std::sync::Wait;
 use std::thread::Threads;
@@ -66,10 +67,11 @@ fn place_of(log: &RunLog, event: Event) -> usize {
 }
 
 // Whether the last stage of one iteration is entered before another iteration ends.
-fn enters_before_end(log: &Option<RunLog>, enters: u32, ends: u32) -> bool {
-    match log {
+fn enters_before_end(alloc: Global, log: Option<LoggedRun>, enters: u32, ends: u32) -> bool {
+    match merged(alloc, log) {
         Some(log) => {
-            place_of(log, Event::Enter(enters)) < place_of(log, Event::Finish(ends, ColumnEnd::End))
+            place_of(&log, Event::Enter(enters))
+                < place_of(&log, Event::Finish(ends, ColumnEnd::End))
         }
         None => false,
     }
@@ -85,7 +87,7 @@ fn gated_run_overlaps(
     other: u32,
 ) -> bool {
     match ended_at(rt, alloc, gate, RUN_BY_TWO, TWO_ITERATIONS) {
-        Ok(ended) => ended.status == 0 && enters_before_end(&ended.run_log, other, held),
+        Ok(ended) => ended.status == 0 && enters_before_end(alloc, ended.run_log, other, held),
         Err(NoMemory) => false,
     }
 }

@@ -21,11 +21,11 @@ use command_results::execute::execute;
 use pipe_io::files::Files;
 use pipe_io::sink::Sink;
 use pipe_io::whole::{WriteEnd, write_text};
-use pipe_model::event::RunLog;
 use pipe_model::exit_status::WRITE_FAULT;
 use pipe_model::memory::NoMemory;
 use pipe_model::report::Reports;
 use pipe_worker::gate::Gate;
+use run_record::logged_run::LoggedRun;
 use std::alloc::Global;
 use std::sync::Wait;
 use std::thread::Threads;
@@ -41,7 +41,7 @@ pub struct Ended {
     /// The events of the run, or of the saved run that was checked, and its columns; `None` if there
     /// is none, or only the serial elision was run. With status 5 log and reports are still those of the
     /// complete result.
-    pub run_log: Option<RunLog>,
+    pub run_log: Option<LoggedRun>,
     /// A race of each cell that has one, rising by cell; empty if no program was run.
     pub reports: Reports,
     /// The number of bytes that the sink took in the call.

@@ -96,7 +96,7 @@ fn measured_run<R: Threads + Wait + Sync, G: Gate + Sync>(
 {
     let run = run_program(rt, alloc, checked, input, workers, throttle, gate)?;
     if run.reports.is_empty() {
-        return Ok(measure(workers, &run.run_log.columns, &run.output));
+        return Ok(measure(workers, run.run_log.columns(), &run.output));
     }
     let elision = elide(alloc, checked, input)?;
     Ok(measure(workers, &elision.columns, &elision.output))

@@ -5,11 +5,11 @@ ghost use Rattle.pipe_model.specs.Texts.{fault_read};
 ghost use Rattle.pipe_model.specs.declared.exit_status.TheConstants as statuses;
 
 use crate::text::named_line;
-use pipe_model::event::RunLog;
 use pipe_model::exit_status::{READ_FAULT, REFUSED};
 use pipe_model::list::Bytes;
 use pipe_model::memory::NoMemory;
 use pipe_model::report::Reports;
+use run_record::logged_run::LoggedRun;
 use std::alloc::Global;
 
 /// The result of a command before its text is printed.
@@ -17,7 +17,7 @@ use std::alloc::Global;
 pub struct CommandResult {
     pub status: u8,
     pub text: Bytes,
-    pub run_log: Option<RunLog>,
+    pub run_log: Option<LoggedRun>,
     pub reports: Reports,
 }
 

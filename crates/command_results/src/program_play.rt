@@ -10,6 +10,7 @@ use crate::program_run::FinishedRun;
 use pipe_check::checked::Checked;
 use pipe_model::list::Numbers;
 use pipe_model::memory::NoMemory;
+use run_record::logged_run::LoggedRun;
 use schedule_play::choices::choices;
 use schedule_play::program_play::{Played, enough_turns, play};
 use stage_code::lower::lower;
@@ -53,7 +54,7 @@ pub fn play_program(
     Ok(FinishedRun {
         output,
         trap,
-        run_log,
+        run_log: LoggedRun::of_run_log(run_log),
         reports,
     })
 }

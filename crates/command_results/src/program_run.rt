@@ -20,7 +20,6 @@ use dag_build::dag::Dag;
 use pipe_check::checked::Checked;
 use pipe_engine::run::{EngineRun, run};
 use pipe_model::column::Columns;
-use pipe_model::event::RunLog;
 use pipe_model::exit_status::{FINISHED, RACES, TRAPPED};
 use pipe_model::list::{Bytes, Numbers};
 use pipe_model::memory::NoMemory;
@@ -29,7 +28,7 @@ use pipe_model::trap::TrapAt;
 use pipe_worker::gate::Gate;
 use race_report::outcome::outcome_text;
 use race_report::race_text::text;
-use run_record::log_text;
+use run_record::logged_run::LoggedRun;
 use serial_elision::elision::{SerialRun, run_serial};
 use stage_code::lower::lower;
 use std::alloc::Global;
@@ -47,7 +46,7 @@ pub struct FinishedRun {
     /// The trap, if the program trapped.
     pub trap: Option<TrapAt>,
     /// The events of the run, and its columns.
-    pub run_log: RunLog,
+    pub run_log: LoggedRun,
     /// A race of each cell that has one, rising by cell.
     pub reports: Reports,
 }
@@ -159,7 +158,7 @@ pub fn recorded(
     alloc: Global,
     checked: &Checked,
     with_log: bool,
-    run_log: &RunLog,
+    run_log: &LoggedRun,
     text: Bytes,
 ) -> Result<Bytes, NoMemory>
     ensures { IfOk result (λ whole. whole ≡ recorded with_log checked.now.cells run_log.now text) }
@@ -167,7 +166,7 @@ pub fn recorded(
     if !with_log {
         return Ok(text);
     }
-    let lines = log_text::text(alloc, run_log, checked)?;
+    let lines = run_log.text(alloc, checked)?;
     let mut whole = text.into_vec();
     whole.extend_from_slice(lines.as_slice())?;
     Ok(Bytes::from_vec(whole))

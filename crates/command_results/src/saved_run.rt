@@ -27,6 +27,7 @@ use record_check::check_record::check_record;
 use record_parser::bounds::LONGEST_RECORD;
 use record_parser::fault::RecordFault;
 use record_parser::parse::parse_record;
+use run_record::logged_run::LoggedRun;
 use stage_code::lower::lower;
 use std::alloc::Global;
 
@@ -124,7 +125,7 @@ fn result_of_run(
     Ok(CommandResult {
         status,
         text,
-        run_log: Some(run_log),
+        run_log: Some(LoggedRun::of_run_log(run_log)),
         reports,
     })
 }

@@ -41,7 +41,7 @@ module _ (before : List CellAccess) (b : BookState) (shards : List ShardValue) (
       let all = (has_shard before b shards h k l).shard.cells.cells in
       omega (arith, declared, all)
 
-  entry_inside : (k : ℕ) (e : ShardEntry) → Among e (shard_at (logs_of shards) k) → e.access.cell.0 < cells
+  pub entry_inside : (k : ℕ) (e : ShardEntry) → Among e (shard_at (logs_of shards) k) → e.access.cell.0 < cells
   entry_inside k e m = elim (cases_lt k 16) [
     | inl less ↦ subst (λ n. e.access.cell.0 < n) (cells_are k less)
         ((has_shard before b shards h k less).shard.there e (subst (λ l. Among e l) (log_is before b shards h k less) m))

@@ -1,5 +1,5 @@
 pub mod OverRuns
 pub mod JoinedSeats
-pub mod EventLogs
+pub mod ReplayedLogs
 pub mod LoopEnds
 pub mod EngineRuns

@@ -1,34 +1,47 @@
 -- From the end of a hall to the end of its loop.
-use Rattle.std.proofs.Common.{◌≡◌, ◌∙◌, ap, sym, subst, ℕ, ℤ, List, All, false, Option, Some}
+use Rattle.std.proofs.Common.{◌≡◌, ◌∙◌, ap, sym, subst, ℕ, ℤ, ◌%◌, ◌<◌, ◌≤◌, ◌+◌, List, [], ◌++◌, All, false, Option, Some, get_or, arith, inl, inr}
+use Rattle.std.proofs.lemmas.Bool.{cases_lt, false≢true}
+use Rattle.std.proofs.lemmas.List.{get_or_default}
+use Rattle.cell_store.specs.ShardState.{IsStateAfter, ShardState}
 use Rattle.std.specs.Prelude.{is_some, length}
 use Rattle.frame_book.specs.BookStates.{BookState, state_of}
 use Rattle.hall_headline.specs.EndedPrograms.{AreGathered, AreRacesOfLog, IsProgramEnd}
 use Rattle.hall_headline.specs.HallEnds.{IsHallEnd, found_by, logs_of}
-use Rattle.hall_headline.proofs.EndedLogs.{hall_ends_access_their_cells}
+use Rattle.hall_headline.proofs.EndedLogs.{entry_inside, hall_ends_are_runs}
 use Rattle.hall_headline.proofs.EndedPrograms.{hall_ends_are_merged, hall_ends_report_their_races}
-use Rattle.hall_headline.proofs.HallEnds.{logs_of_hall_ends_can_be_merged}
+use Rattle.hall_headline.proofs.HallEnds.{has_shard, log_is, log_past, logs_of_hall_ends_can_be_merged, width}
 use Rattle.hall_laws.specs.ClosedHalls.{IsSoundBook}
 use Rattle.hall_laws.specs.HallPrograms.{whole_in}
 use Rattle.hall_laws.proofs.HallPrograms.{merged_halls_are_program_runs}
 use Rattle.hall_laws.proofs.HallRuns.{finished_books_have_no_token_out}
 use Rattle.pipe_engine.specs.LoopEnds.{IsLoopEnd}
+use Rattle.pipe_engine.specs.ShardAccesses.{AreInside, accesses_in, accesses_in_all}
+use Rattle.pipe_engine.proofs.ReplayedLogs.{AreOfShards, own_log, same_cells}
 use Rattle.program_hall.specs.OpenedHalls.{IsOpenedAfterInit}
 use Rattle.hall_calls.specs.Closing.{EndedHall, StopIsLast, shard_in}
 use Rattle.hall_table.specs.SeatViews.{HallConstants, constants_of, start_of}
 use Rattle.hall_shards.specs.ShardValues.{ShardValue}
 use Rattle.hall_table.specs.WorkerSeats.{HallState}
 use Rattle.pipe_model.specs.declared.access.Access.{Access}
+use Rattle.pipe_model.specs.declared.bounds.TheConstants.{MOST_CELLS}
 use Rattle.pipe_model.specs.declared.event.Event.{Event}
 use Rattle.pipe_model.specs.declared.event.RunLog.{RunLog}
 use Rattle.pipe_model.specs.declared.report.Report.{Report}
-use Rattle.pipe_model.specs.Language.ProgramsOfTrees.{whole_of}
+use Rattle.pipe_model.specs.Language.Programs.{store_of}
+use Rattle.pipe_model.specs.Language.ProgramsOfTrees.{pipeline_after_init, whole_of}
 use Rattle.pipe_model.specs.Language.SyntaxTree.{SyntaxTree, tree_of}
-use Rattle.pipe_model.specs.Pipelines.WholePrograms.{init_accesses, init_trap}
-use Rattle.pipe_model.specs.Runs.Run.{IsFinished}
+use Rattle.pipe_model.specs.Pipelines.WholePrograms.{WholeProgram, init_accesses, init_trap, loop_after_init}
+use Rattle.pipe_model.specs.Pipelines.Store.{written}
+use Rattle.pipe_model.specs.Races.DeterminacyRaces.{Among}
+use Rattle.pipe_model.proofs.Members.{among_at, none_among}
+use Rattle.pipe_model.specs.Runs.Run.{IsFinished, Run}
+use Rattle.pipe_model.specs.Runs.RunLogs.{accesses_after, state_after}
+use Rattle.pipe_model.specs.Runs.State.{State, accesses_of}
 use Rattle.pipe_model.specs.Runs.Throttling.{IsThrottled}
-use Rattle.pipe_model.specs.Runs.WholeProgramRuns.{IsFinishedProgramRun}
-use Rattle.program_laws.specs.DeclaredCells.{IsInside, cell_count}
-use Rattle.run_record.specs.MergedLogs.{AreMerged, BookRises, ShardRises}
+use Rattle.pipe_model.specs.Runs.WholeProgramRuns.{IsFinishedProgramRun, NoLoop, OfLoop, ProgramRun}
+use Rattle.program_laws.specs.DeclaredCells.{cell_count}
+use Rattle.serial_elision.specs.PartRuns.{Serves}
+use Rattle.run_record.specs.MergedLogs.{AreMerged, BookRises, ShardRises, shard_at}
 use Rattle.run_record.specs.OwnColumns.{made_columns}
 
 -- a hall that `close` has ended, with a finished book
@@ -48,6 +61,31 @@ finished_end before seen b shards count ended stop sound finished = record {
 pub can_be_merged : (before : List Access) (b : BookState) (shards : List ShardValue) → IsFinishedEnd before b shards
     → BookRises b.log × All ShardRises (logs_of shards)
 can_be_merged before b shards h = logs_of_hall_ends_can_be_merged before b shards h.end
+
+-- each entry is in the log of the shard of its cell
+entries_are_own : (before : List Access) (b : BookState) (shards : List ShardValue) → IsHallEnd before b shards
+    → AreOfShards 16 0 (logs_of shards)
+entries_are_own before b shards h j e m = elim (cases_lt j 16) [
+  | inl less ↦ (
+      let own = (has_shard before b shards h j less).shard.own e (subst (λ l. Among e l) (log_is before b shards h j less) m) in
+      omega (arith, own))
+  | inr past ↦ absurd (none_among e (subst (λ l. Among e l) (log_past before b shards h j past) m))
+]
+
+-- each access is to a cell of the program
+logs_are_inside : (before : List Access) (b : BookState) (shards : List ShardValue) (n : ℕ) → IsHallEnd before b shards
+    → cell_count (tree_of b.program) ≡ n → All (AreInside n) (logs_of shards)
+logs_are_inside before b shards n h is k d within =
+    let log = shard_at (logs_of shards) k in
+    subst (AreInside n) (get_or_default (logs_of shards) k [] d within)
+    (λ i e less. subst (λ m. (get_or log i e).access.cell.0 < m) is
+    (entry_inside before b shards h k (get_or log i e) (among_at log i e less)))
+
+-- a run of a program whose `init` did not trap is one of its loop
+of_loop : (w : WholeProgram) (limit : ℕ) (events : List Event) (s : State) → is_some (init_trap w) ≡ false → ProgramRun w limit events s
+    → Run (loop_after_init w) limit events s
+of_loop w limit events s none (NoLoop trapped) = absurd (false≢true (sym none ∙ trapped))
+of_loop w limit events s none (OfLoop other run) = run
 
 -- the hall is of the book's program
 record IsOfBook (tree : SyntaxTree) (input : List ℤ) (limit : ℕ) (before : List Access) (b : BookState) : Type 0 where
@@ -71,6 +109,21 @@ of_book tree input limit hall b h closed =
       no_trap = h.no_trap;
       before_is = h.opened.before_is;
     }
+
+-- the logs can be replayed over the cells of the program
+pub can_be_replayed : (tree : SyntaxTree) (input : List ℤ) (limit : ℕ) (hall : HallState) (b : BookState) (shards : List ShardValue) (n : ℕ)
+    → IsOpenedAfterInit tree input limit hall → hall.hall.constants ≡ Some (constants_of b) → IsFinishedEnd hall.before b shards
+    → n ≡ cell_count tree → All (AreInside n) (logs_of shards)
+can_be_replayed tree input limit hall b shards n opened constants h count =
+    logs_are_inside hall.before b shards n h.end (ap cell_count (of_book tree input limit hall b opened constants).tree_is ∙ sym count)
+
+-- the cells of a program are so after more accesses
+pub serves_still : (tree : SyntaxTree) (old new : ShardState) → new.shard ≡ old.shard → Serves tree old → Serves tree new
+serves_still tree old new same h = record {
+  whole = record { shards = ap (λ s. s.shards) same ∙ h.whole.shards; number = ap (λ s. s.number) same ∙ h.whole.number };
+  count = ap (λ s. s.cells) same ∙ h.count;
+  bounded = subst (λ s. s.cells ≤ MOST_CELLS + 2) (sym same) h.bounded;
+}
 
 -- the same of the hall that was opened after `init`, with the log into which its logs were merged
 module _ (tree : SyntaxTree) (input : List ℤ) (limit : ℕ) (hall : HallState) (b : BookState) (shards : List ShardValue) (log : RunLog)
@@ -96,17 +149,37 @@ module _ (tree : SyntaxTree) (input : List ℤ) (limit : ℕ) (hall : HallState)
   pub races : AreRacesOfLog log (found_by shards)
   races = hall_ends_report_their_races hall.before b shards log program_end (finished_books_have_no_token_out b h.end.book h.finished)
 
-  -- the loop has ended with these reports
-  pub loop_end : (reports : List Report) → AreGathered log (found_by shards) reports
-      → IsLoopEnd tree input limit (record { run_log = log; reports = reports })
-  loop_end reports gathered =
+  -- what is written to a cell in the shards is what the run writes to it
+  same_writes : (c : ℕ) → written c (accesses_in_all (logs_of shards)) ≡ written c (accesses_of (accesses_after log.events))
+  same_writes c =
+      let none = finished_books_have_no_token_out b h.end.book h.finished in
+      own_log 16 c 0 (c % 16) (logs_of shards) (entries_are_own hall.before b shards h.end) (omega arith)
+      ∙ ap (λ n. written c (accesses_in (shard_at (logs_of shards) (c % n)))) (sym (width hall.before b shards h.end))
+      ∙ sym ((hall_ends_are_runs hall.before b shards log.events h.end none events).writes c)
+
+  -- the run of the loop
+  loop_run : (log : RunLog) → IsFinishedProgramRun (whole_of tree input) limit log
+      → Run (pipeline_after_init tree input) limit log.events (state_after log.events)
+  loop_run log run = of_loop (whole_of tree input) limit log.events (state_after log.events) of.no_trap run.run
+
+  -- the loop has ended with these reports and cells
+  pub loop_end : (reports : List Report) (cells : ShardState) → AreGathered log (found_by shards) reports → Serves tree cells
+      → IsStateAfter (store_of tree) (init_accesses (whole_of tree input) ++ accesses_in_all (logs_of shards)) cells
+      → IsLoopEnd tree input limit (record { run_log = log; reports = reports; cells = cells })
+  loop_end reports cells gathered serves state =
       let none = finished_books_have_no_token_out b h.end.book h.finished in
       let run = merged_halls_are_program_runs b (logs_of shards) log (hall_ends_are_merged hall.before b shards log program_end none) in
-      let inside = hall_ends_access_their_cells hall.before b shards log.events h.end events in
+      let finished = subst (λ n. IsFinishedProgramRun (whole_of tree input) n log) of.limit_is
+      (subst (λ w. IsFinishedProgramRun w b.limit log) whole_is (run.finished h.finished)) in
       record {
-        run = subst (λ n. IsFinishedProgramRun (whole_of tree input) n log) of.limit_is
-            (subst (λ w. IsFinishedProgramRun w b.limit log) whole_is (run.finished h.finished));
+        run = finished;
         throttled = subst (λ n. IsThrottled n log.events) of.limit_is run.throttled;
-        inside = subst (λ t. All (IsInside (cell_count t)) log.events) of.tree_is inside;
         reports = races.reports reports gathered;
+        after = record {
+          run = loop_run log finished;
+          columns_are = finished.columns;
+          state = same_cells (store_of tree) (init_accesses (whole_of tree input)) (accesses_in_all (logs_of shards))
+              (accesses_of (accesses_after log.events)) cells same_writes state;
+        };
+        serves = serves;
       }

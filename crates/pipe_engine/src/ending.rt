@@ -1,4 +1,4 @@
-//! The end of a loop: the hall is closed, the logs are merged, and the races are reported.
+//! The end of a loop: the hall is closed, the accesses are made again, and the races are reported.
 
 ghost use Rattle.std.specs.Prelude.{◌≡◌, ℕ, ℤ, List, IfOk, map};
 ghost use Rattle.frame_book.specs.BookStates.{state_of};
@@ -8,10 +8,17 @@ ghost use Rattle.hall_laws.specs.ClosedHalls.{IsSoundBook};
 ghost use Rattle.pipe_engine.specs.LoopEnds.{IsLoopEnd};
 ghost use Rattle.program_hall.specs.OpenedHalls.{IsOpenedAfterInit};
 ghost use Rattle.hall_table.specs.WorkerSeats.{IsSameHall};
+ghost use Rattle.cell_store.specs.ShardState.{IsStateAfter};
+ghost use Rattle.pipe_model.specs.Language.Programs.{store_of};
+ghost use Rattle.pipe_model.specs.Language.ProgramsOfTrees.{whole_of};
 ghost use Rattle.pipe_model.specs.Language.SyntaxTree.{tree_of};
+ghost use Rattle.pipe_model.specs.Pipelines.WholePrograms.{init_accesses};
 ghost use Rattle.pipe_model.specs.Runs.Run.{IsFinished};
+ghost use Rattle.serial_elision.specs.PartRuns.{Serves};
 
+use crate::replay::replay;
 use access_history::history::Found;
+use cell_store::cells::Cells;
 use frame_book::book::Book;
 use hall_shards::shard::Shard;
 use om_shared::writer::OmWriter;
@@ -19,13 +26,12 @@ use pipe_frame::results::Rescue;
 use pipe_hall::close::{HallEnd, close};
 use pipe_hall::hall::{HallKey, HallOf};
 use pipe_model::access::CellId;
-use pipe_model::event::RunLog;
 use pipe_model::memory::NoMemory;
 use pipe_model::report::Reports;
 use pipe_model::ticket::{BookLog, ShardLog};
 use program_hall::carried::{Carried, RunCode};
 use race_report::gather::gather;
-use run_record::merge::merge;
+use run_record::logged_run::LoggedRun;
 use serial_elision::prepared::Prepared;
 use std::alloc::Global;
 use std::sync::Wait;
@@ -34,9 +40,11 @@ use std::sync::Wait;
 #[derive(Drop)]
 pub(crate) struct LoopEnd {
     /// The events, by their tickets, and their columns.
-    pub run_log: RunLog,
+    pub run_log: LoggedRun,
     /// A race of each cell for which its access history found one, rising by cell.
     pub reports: Reports,
+    /// The cells.
+    pub cells: Cells,
 }
 
 // Returns the log of a book whose run is finished. A run ends otherwise only if memory ran out.
@@ -47,7 +55,11 @@ fn finished_log<B: RunCode>(mut book: Book<Carried<B>, OmWriter>) -> Result<Book
 {
     match book.rescue() {
         Rescue::Finished => Ok(book.into_log()),
-        Rescue::Token(_) | Rescue::MayBegin | Rescue::Nothing | Rescue::Stopped => Err(NoMemory),
+        rescue => {
+            drop(rescue);
+            drop(book);
+            Err(NoMemory)
+        }
     }
 }
 
@@ -73,8 +85,8 @@ fn logs_of(alloc: Global, shards: Vec<Shard>) -> Result<Vec<ShardLog>, NoMemory>
     Ok(logs)
 }
 
-/// Closes a hall of which the key is, merges its logs, and gathers the reports of its shards. The hall
-/// must be of this program and limit, and opened with the cells after `init`. Returns an error if
+/// Closes a hall of which the key is, and gathers the reports of its shards. The hall must be of this
+/// program and limit, and opened with these cells, which are those after `init`. Returns an error if
 /// memory runs out, or if the run was not finished because memory ran out.
 pub(crate) fn end_loop<R: Wait, B: RunCode>(
     rt: &R,
@@ -83,9 +95,13 @@ pub(crate) fn end_loop<R: Wait, B: RunCode>(
     throttle: u32,
     hall: HallOf<Carried<B>>,
     key: HallKey<Carried<B>>,
+    mut cells: Cells,
 ) -> Result<LoopEnd, NoMemory>
     requires opened { IsOpenedAfterInit (tree_of prepared.now.checked.now) prepared.now.input.now throttle hall }
     requires same_hall { IsSameHall key.hall hall.hall }
+    requires serves { Serves (tree_of prepared.now.checked.now) cells }
+    requires state { IsStateAfter (store_of (tree_of prepared.now.checked.now))
+        (init_accesses (whole_of (tree_of prepared.now.checked.now) prepared.now.input.now)) cells }
     ensures { IfOk result (IsLoopEnd (tree_of prepared.now.checked.now) prepared.now.input.now throttle) }
 {
     let _ = prepared;
@@ -94,7 +110,12 @@ pub(crate) fn end_loop<R: Wait, B: RunCode>(
     let book_log = finished_log(book)?;
     let found = found_in(alloc, shards.as_slice())?;
     let shard_logs = logs_of(alloc, shards)?;
-    let run_log = merge(alloc, book_log, shard_logs)?;
-    let reports = gather(alloc, found.as_slice(), &run_log.columns)?;
-    Ok(LoopEnd { run_log, reports })
+    replay(&mut cells, shard_logs.as_slice());
+    let run_log = LoggedRun::of_logs(alloc, book_log, shard_logs)?;
+    let reports = gather(alloc, found.as_slice(), run_log.columns())?;
+    Ok(LoopEnd {
+        run_log,
+        reports,
+        cells,
+    })
 }

@@ -22,7 +22,6 @@ ghost use Rattle.stage_interp.specs.MachineState.{IsMadeFor};
 ghost use Rattle.stage_interp.specs.RemainingBehaviour.{IsCodeOf};
 
 use crate::ending::{LoopEnd, end_loop};
-use crate::replay::replay;
 use crate::workers::run_workers;
 use cell_store::cells::Cells;
 use pipe_check::checked::Checked;
@@ -37,7 +36,8 @@ use pipe_worker::gate::Gate;
 use program_ends::ends::{ProgramResults, end_after_init, end_after_loop};
 use program_hall::carried::RunCode;
 use program_hall::opening::open;
-use serial_elision::outer_parts::{first_cells, run_alone};
+use run_record::logged_run::LoggedRun;
+use serial_elision::outer_parts::{PartRun, first_cells, run_alone};
 use serial_elision::prepared::Prepared;
 use stage_code::code::Code;
 use stage_code::instr::Part;
@@ -51,7 +51,7 @@ use std::thread::Threads;
 #[derive(Drop)]
 pub struct EngineRun {
     /// The events of the loop, by their tickets, and their columns. There are none if `init` trapped.
-    pub run_log: RunLog,
+    pub run_log: LoggedRun,
     /// A race of each cell for which its access history found one, rising by cell. These are the cells
     /// that race in the run's own dag.
     pub reports: Reports,
@@ -80,40 +80,40 @@ fn run_of_init(alloc: Global, prepared: &Prepared, trap: Option<TrapAt>, cells: 
 {
     let ProgramResults { output, trap } = end_after_init(prepared, trap, cells);
     EngineRun {
-        run_log: RunLog {
+        run_log: LoggedRun::of_run_log(RunLog {
             columns: Columns::new(alloc),
             events: Events::new(alloc),
-        },
+        }),
         reports: Reports::new(alloc),
         output,
         trap,
     }
 }
 
-// Ends the run of a program after its loop. The cells are those after `init`.
+// Ends the run of a program after its loop.
 fn run_of_loop(
     alloc: Global,
     machine: &mut Machine,
     prepared: &Prepared,
     throttle: u32,
     end: LoopEnd,
-    mut cells: Cells,
 ) -> Result<EngineRun, NoMemory>
     requires code { IsCodeOf (tree_of prepared.now.checked.now) prepared.now.code.now }
     requires made { IsMadeFor prepared.now.code.now machine.old }
     requires accepted { BreaksNoRule (tree_of prepared.now.checked.now) }
     requires no_trap { is_some (init_trap (whole_of (tree_of prepared.now.checked.now) prepared.now.input.now)) ≡ false }
     requires end { IsLoopEnd (tree_of prepared.now.checked.now) prepared.now.input.now throttle end }
-    requires serves { Serves (tree_of prepared.now.checked.now) cells }
-    requires state { IsStateAfter (store_of (tree_of prepared.now.checked.now))
-        (init_accesses (whole_of (tree_of prepared.now.checked.now) prepared.now.input.now)) cells }
     ensures { IfOk result (IsEngineRun (tree_of prepared.now.checked.now) prepared.now.input.now throttle) }
 {
     let _ = throttle;
-    let LoopEnd { run_log, reports } = end;
-    replay(&mut cells, run_log.events.as_slice());
+    let LoopEnd {
+        run_log,
+        reports,
+        cells,
+    } = end;
+    let columns = run_log.columns();
     let ProgramResults { output, trap } = end_after_loop(
-        alloc, machine, prepared, &run_log, &reports, true, cells,
+        alloc, machine, prepared, columns, &reports, true, cells,
     )?;
     Ok(EngineRun {
         run_log,
@@ -123,13 +123,14 @@ fn run_of_loop(
     })
 }
 
-// Runs the loop of a program over the cells after these accesses of `init`.
+// Runs the loop of a program after `init`, of which these are the accesses and the cells.
 fn run_loop<R: Threads + Wait + Sync, B: RunCode + Send, G: Gate + Sync>(
     rt: &R,
     alloc: Global,
     prepared: &Prepared,
     limits: EngineLimits,
     before: &Accesses,
+    cells: Cells,
     gate: &G,
 ) -> Result<LoopEnd, NoMemory>
     requires code_of { IsCodeOf (tree_of prepared.now.checked.now) prepared.now.code.now }
@@ -139,6 +140,9 @@ fn run_loop<R: Threads + Wait + Sync, B: RunCode + Send, G: Gate + Sync>(
     requires throttle { (0 < limits.throttle) × (limits.throttle ≤ 1024) }
     requires no_trap { is_some (init_trap (whole_of (tree_of prepared.now.checked.now) prepared.now.input.now)) ≡ false }
     requires before { before.now ≡ init_accesses (whole_of (tree_of prepared.now.checked.now) prepared.now.input.now) }
+    requires serves { Serves (tree_of prepared.now.checked.now) cells }
+    requires state { IsStateAfter (store_of (tree_of prepared.now.checked.now))
+        (init_accesses (whole_of (tree_of prepared.now.checked.now) prepared.now.input.now)) cells }
     ensures { IfOk result (IsLoopEnd (tree_of prepared.now.checked.now) prepared.now.input.now limits.throttle) }
 {
     let EngineLimits { workers, throttle } = limits;
@@ -154,7 +158,7 @@ fn run_loop<R: Threads + Wait + Sync, B: RunCode + Send, G: Gate + Sync>(
         key,
         gate,
     )?;
-    end_loop(rt, alloc, prepared, throttle, hall, key)
+    end_loop(rt, alloc, prepared, throttle, hall, key, cells)
 }
 
 // Runs a program with the code of `B`.
@@ -185,15 +189,13 @@ fn run_coded<R: Threads + Wait + Sync, B: RunCode + Send, G: Gate + Sync>(
     if init.trap.is_some() {
         return Ok(run_of_init(alloc, prepared, init.trap, init.cells));
     }
-    let end = run_loop::<R, B, G>(rt, alloc, prepared, limits, &init.accesses, gate)?;
-    run_of_loop(
-        alloc,
-        &mut machine,
-        prepared,
-        limits.throttle,
-        end,
-        init.cells,
-    )
+    let PartRun {
+        trap: _,
+        accesses,
+        cells,
+    } = init;
+    let end = run_loop::<R, B, G>(rt, alloc, prepared, limits, &accesses, cells, gate)?;
+    run_of_loop(alloc, &mut machine, prepared, limits.throttle, end)
 }
 
 /// Runs an accepted program on an input: `init`; the loop, whose instances `workers` workers run on

@@ -101,7 +101,8 @@ pub among_with : (x z : LogEntry) (ys : List LogEntry) → Among z (with_entry x
 among_with x z [] m = inl (only_one z x m)
 among_with x z (y ∷ ys) m = by_test (comes_before x y) (among_with x z ys) m
   where
-    by_test : (b : Bool) → (Among z (with_entry x ys) → (z ≡ x) ⊎ Among z ys) → Among z (if b then x ∷ y ∷ ys else y ∷ with_entry x ys) → (z ≡ x) ⊎ Among z (y ∷ ys)
+    by_test : (b : Bool) → (Among z (with_entry x ys) → (z ≡ x) ⊎ Among z ys) → Among z (if b then x ∷ y ∷ ys else y ∷ with_entry x ys)
+        → (z ≡ x) ⊎ Among z (y ∷ ys)
     by_test true rest n = elim (among_either z (x ∷ []) (y ∷ ys) n) [ inl here ↦ inl (only_one z x here) | inr there ↦ inr there ]
     by_test false rest n = elim (among_either z (y ∷ []) (with_entry x ys) n) [
       | inl here ↦ inr (subst (λ w. Among z (w ∷ ys)) (only_one z y here) Here)
@@ -298,7 +299,8 @@ shard_from k n zero (shard ∷ shards) is =
     subst (λ m. shard_in m (entries_from n (shard ∷ shards)) ≡ shard) same
     (own_shard n shard (entries_from (suc n) shards) (no_lower_shard n (suc n) shards (omega arith)))
 shard_from k n (suc i) (shard ∷ shards) is =
-    other_shard k n shard (entries_from (suc n) shards) (λ same. omega (arith, is, same)) ∙ shard_from k (suc n) i shards (omega (arith, is))
+    other_shard k n shard (entries_from (suc n) shards) (λ same. omega (arith, is, same))
+    ∙ shard_from k (suc n) i shards (omega (arith, is))
 
 -- ---- the merge
 

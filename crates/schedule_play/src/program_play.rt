@@ -120,8 +120,9 @@ fn end_after_loop(
         finished,
         cells,
     } = play;
+    let columns = &run_log.columns;
     let ProgramResults { output, trap } = ends::end_after_loop(
-        alloc, machine, prepared, &run_log, &reports, finished, cells,
+        alloc, machine, prepared, columns, &reports, finished, cells,
     )?;
     Ok(Played {
         run_log,

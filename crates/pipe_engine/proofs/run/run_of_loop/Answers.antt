@@ -1,25 +1,26 @@
-use Rattle.std.proofs.Common.{◌++◌, List, subst}
-use Rattle.cell_store.specs.ShardState.{IsStateAfter}
+use Rattle.std.proofs.Common.{sym, subst, List}
 use Rattle.pipe_engine.proofs.EngineRuns.{ran_to_end}
-use Rattle.pipe_model.specs.declared.event.Event.{Event}
-use Rattle.pipe_model.specs.Language.Programs.{store_of}
-use Rattle.pipe_model.specs.Language.ProgramsOfTrees.{whole_of}
+use Rattle.pipe_model.specs.declared.column.Column.{Column}
 use Rattle.pipe_model.specs.Language.SyntaxTree.{tree_of}
-use Rattle.pipe_model.specs.Pipelines.WholePrograms.{init_accesses}
-use Rattle.pipe_model.specs.Runs.RunLogs.{accesses_after}
-use Rattle.pipe_model.specs.Runs.State.{accesses_of}
+use Rattle.program_ends.specs.ProgramEnds.{IsAfterLoop}
 use Rattle.pipe_engine.proofs.run.run_of_loop.Goals as goal
 
-pub end_after_loop-requires-clause-state : goal.end_after_loop-requires-clause-state
-end_after_loop-requires-clause-state c =
+pub end_after_loop-requires-clause-run : goal.end_after_loop-requires-clause-run
+end_after_loop-requires-clause-run c =
     let tree = tree_of c.args.prepared.now.checked.now in
-    let before = init_accesses (whole_of tree c.args.prepared.now.input.now) in
-    subst (λ (es : List Event). IsStateAfter (store_of tree) (before ++ accesses_of (accesses_after es)) c.replay.new.cells)
-    c.as_slice.ensures
-    (c.replay.ensures.state (store_of tree) before c.requires.state)
+    let end = c.args.end in (
+      c.args.throttle,
+      end.run_log.events,
+      subst (λ (l : List Column). IsAfterLoop tree c.args.prepared.now.input.now c.args.throttle end.run_log.events l end.cells)
+          (sym c.columns-columns.ensures) c.requires.end.after,
+    )
 
 pub returns : goal.returns
 returns c =
-    ran_to_end (tree_of c.args.prepared.now.checked.now) c.args.prepared.now.input.now c.args.throttle c.args.end c.in_ok-output.field-0
-    c.requires.accepted
-    c.requires.end c.in_ok-output.ensures
+    let tree = tree_of c.args.prepared.now.checked.now in
+    let input = c.args.prepared.now.input.now in
+    let end = c.args.end in
+    let after = subst (λ (l : List Column). IsAfterLoop tree input c.args.throttle end.run_log.events l end.cells) (sym c.columns-columns.ensures)
+    c.requires.end.after in
+    ran_to_end tree input c.args.throttle end c.in_ok-output.field-0 c.requires.accepted c.requires.end
+    (c.in_ok-output.ensures c.args.throttle end.run_log.events after)

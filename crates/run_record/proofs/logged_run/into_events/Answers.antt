@@ -11,5 +11,6 @@ returns-in-Apart c =
     IfOk-weaker c.merged_events.result _ _
     (λ events h. h
     ∙ (ap (λ (l : List BookEntry). merged_events l c.as_slice-in-Apart.result.now) c.as_slice.ensures
-    ∙ (ap (λ (l : List (List ShardEntry)). merged_events c.in-Apart.book l) c.as_slice-in-Apart.ensures.value ∙ sym (ap events_of c.in-Apart.is))))
+    ∙ (ap (λ (l : List (List ShardEntry)). merged_events c.in-Apart.book l) c.as_slice-in-Apart.ensures.value
+    ∙ sym (ap events_of c.in-Apart.is))))
     c.merged_events.ensures.sorted

@@ -8,5 +8,7 @@ use Rattle.run_record.proofs.own_columns.columns_in.Goals as goal
 pub returns : goal.returns
 returns c =
     IfOk-weaker c.into_columns.result _ _
-    (λ columns h. h ∙ made_from c.in_ok-iterations.iterations.items (control_after (map (λ (b : BookEntry). b.event) c.args.book.now)).frames c.in_ok-iterations.ensures)
+    (λ columns h. h
+    ∙ made_from c.in_ok-iterations.iterations.items (control_after (map (λ (b : BookEntry). b.event) c.args.book.now)).frames
+    c.in_ok-iterations.ensures)
     c.into_columns.ensures
