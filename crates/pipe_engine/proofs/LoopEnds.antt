@@ -1,5 +1,6 @@
 -- From the end of a hall to the end of its loop.
-use Rattle.std.proofs.Common.{◌≡◌, ◌∙◌, ap, sym, subst, ℕ, ℤ, ◌%◌, ◌<◌, ◌≤◌, ◌+◌, List, [], ◌++◌, All, false, Option, Some, get_or, arith, inl, inr}
+use Rattle.std.proofs.Common.{◌≡◌, ◌∙◌, ap, sym, subst, ℕ, ℤ, ◌%◌, ◌<◌, ◌≤◌, ◌+◌}
+use Rattle.std.proofs.Common.{List, [], ◌++◌, All, false, Option, Some, get_or, arith, inl, inr}
 use Rattle.std.proofs.lemmas.Bool.{cases_lt, false≢true}
 use Rattle.std.proofs.lemmas.List.{get_or_default}
 use Rattle.cell_store.specs.ShardState.{IsStateAfter, ShardState}

@@ -99,7 +99,8 @@ returns g c =
     let reports = c.in_ok-reports.reports in
     let found = c.as_slice-3.ensures.value ∙ c.in_ok-found.ensures ∙ ap found_by c.as_slice.ensures.value in
     let each = subst (λ (l : List (CellId × Found)). IsPermutation
-    (map (λ (f : CellId × Found). report_found (node_columns c.columns.result.now) f.0 f.1) l) reports) found c.in_ok-reports.ensures.each in
+    (map (λ (f : CellId × Found). report_found (node_columns c.columns.result.now) f.0 f.1) l) reports) found
+    c.in_ok-reports.ensures.each in
     let gathered : AreGathered c.in_ok-run_log.run_log (found_by end.shards.items) reports = record {
       each = subst (λ (l : List Column). IsPermutation
           (map (λ (f : CellId × Found). report_found (node_columns l) f.0 f.1) (found_by end.shards.items)) reports)

@@ -20,7 +20,8 @@ returns c =
     let tree = tree_of c.args.prepared.now.checked.now in
     let input = c.args.prepared.now.input.now in
     let end = c.args.end in
-    let after = subst (λ (l : List Column). IsAfterLoop tree input c.args.throttle end.run_log.events l end.cells) (sym c.columns-columns.ensures)
+    let after = subst (λ (l : List Column). IsAfterLoop tree input c.args.throttle end.run_log.events l end.cells)
+    (sym c.columns-columns.ensures)
     c.requires.end.after in
     ran_to_end tree input c.args.throttle end c.in_ok-output.field-0 c.requires.accepted c.requires.end
     (c.in_ok-output.ensures c.args.throttle end.run_log.events after)
