@@ -20,10 +20,9 @@ time_calls() {
 # Prints the nanoseconds of one of so many things, if all take this many seconds.
 nanoseconds_each() { awk -v seconds="$1" -v number="$2" 'BEGIN { printf "%.0f\n", seconds * 1e9 / number }'; }
 
-# Copies the crates into the folder `room`, as a repository, with the libraries that are built.
+# Copies the crates into the folder `room`, as a repository, without their mutation tests.
 copy_crates() {
     tar -C "$top" -c --exclude='crates/*/out' --exclude='crates/*/must-fail' crates crates.txt HANDLES | tar -x -C "$room"
-    "$top/.ci/link_libraries" "$room"
 }
 
 # Adds the program NAME of bench/programs to the copy; the other words are the crates that it uses.
@@ -39,8 +38,30 @@ add_program() {
     touch "$to/proofs/Lib.antt"
 }
 
-# Proves and builds a program of the copy, which does nothing without words, and sets `program` to its file.
+# Leaves of the copy the crates that the crate needs, and itself.
+keep_needed() {
+    local needed=" $1 " before='' name rest crate
+    while [[ $needed != "$before" ]]; do
+        before=$needed
+        while IFS=: read -r name rest; do
+            [[ $needed == *" $name "* ]] || continue
+            for crate in $rest; do
+                [[ $needed == *" $crate "* || ! -d $room/crates/$crate ]] || needed+="$crate "
+            done
+        done <"$room/crates.txt"
+    done
+    for crate in "$room"/crates/*; do
+        crate=${crate##*/}
+        [[ $needed == *" $crate "* ]] || { rm -r "$room/crates/$crate"; sed -i "/^$crate:/d" "$room/crates.txt"; }
+    done
+}
+
+# Proves and builds a program of the copy, which does nothing without words, and sets `program` to its file. Of the crates below it,
+# `rt ci` takes what an earlier gate on this machine has proved, where nothing has changed. It compares too what the program prints with a
+# file that is not there, so its status does not count.
 build_program() {
     program=$room/crates/$1/out/$1
-    (cd "$room/crates/$1" && rt run) >"$room/log" 2>&1 || { cat "$room/log"; exit 1; }
+    keep_needed "$1"
+    (cd "$room" && rt ci) >"$room/log" 2>&1 || true
+    [[ -x $program ]] || { cat "$room/log"; exit 1; }
 }

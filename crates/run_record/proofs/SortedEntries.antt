@@ -12,7 +12,8 @@ use Rattle.pipe_model.specs.Runs.TicketLogs.{ComesBefore, InOrder, IsMerge, LogE
 use Rattle.pipe_model.specs.Runs.TicketLogs.{event_of, ticket_of}
 use Rattle.pipe_model.proofs.Members.{among_either, none_among, only_one}
 use Rattle.run_record.specs.MergedLogs.{AreMerged, BookRises, ShardRises, shard_at}
-use Rattle.run_record.specs.SortedEntries.{comes_before, entries_from, merged_entries, merged_events, sorted_entries, with_entry}
+use Rattle.run_record.specs.SortedEntries.{MergesAreSorted, comes_before, entries_from}
+use Rattle.run_record.specs.SortedEntries.{merged_entries, merged_events, sorted_entries, with_entry}
 use Rattle.run_record.proofs.MergeSteps.{book_member, shard_member}
 use Rattle.run_record.proofs.RisingLists.{after_next, among_map}
 
@@ -404,3 +405,9 @@ sorted_events_are_merged book shards up each = record {
   merge = sorted_logs_are_merged book shards up each;
   are = refl;
 }
+
+pub merges_are_those : MergesAreSorted
+merges_are_those book shards events up each = (
+  merges_are_sorted book shards events up each,
+  λ same. subst (AreMerged book shards) (sym same) (sorted_events_are_merged book shards up each),
+)

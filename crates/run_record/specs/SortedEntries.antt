@@ -1,9 +1,10 @@
 -- The merge of the logs of a run as one list: all entries, sorted by ticket, and at equal tickets those of the book first and then those of
 -- the shards by number.
-use Rattle.std.specs.Prelude.{ℕ, suc, List, [], ◌∷◌, ◌++◌, map, Bool, ◌&&◌, ◌||◌, ◌==◌, nat_lt, if◌then◌else◌}
+use Rattle.std.specs.Prelude.{◌≡◌, ◌↔◌, All, ℕ, suc, List, [], ◌∷◌, ◌++◌, map, Bool, ◌&&◌, ◌||◌, ◌==◌, nat_lt, if◌then◌else◌}
 use Rattle.pipe_model.specs.declared.event.Event.{Event}
 use Rattle.pipe_model.specs.declared.ticket.BookEntry.{BookEntry}
 use Rattle.pipe_model.specs.declared.ticket.ShardEntry.{ShardEntry}
+use Rattle.run_record.specs.MergedLogs.{AreMerged, BookRises, ShardRises}
 use Rattle.pipe_model.specs.Runs.TicketLogs.{LogEntry, OfBook, OfShard, event_of, rank_of, ticket_of}
 
 -- whether an entry comes before another
@@ -31,3 +32,9 @@ merged_entries book shards = sorted_entries (map OfBook book ++ entries_from 0 s
 -- their events
 abbrev pub merged_events : List BookEntry → List (List ShardEntry) → List Event
 merged_events book shards = map event_of (merged_entries book shards)
+
+-- if tickets rise in the book and in each shard, these are the events of the merge, and no others are
+abbrev pub MergesAreSorted : Type 0
+MergesAreSorted =
+    (book : List BookEntry) (shards : List (List ShardEntry)) (events : List Event) → BookRises book → All ShardRises shards
+    → AreMerged book shards events ↔ (events ≡ merged_events book shards)
