@@ -62,7 +62,7 @@ pub struct EngineRun {
 }
 
 /// How many workers run a loop, and how many iterations may be alive.
-#[derive(Clone, Copy, PartialEq, Eq, Debug)]
+#[derive(Clone, Copy)]
 struct EngineLimits {
     workers: u32,
     throttle: u32,
@@ -161,6 +161,37 @@ fn run_loop<R: Threads + Wait + Sync, B: RunCode + Send, G: Gate + Sync>(
     end_loop(rt, alloc, prepared, throttle, hall, key, cells)
 }
 
+// Runs a program with the code of `B`. The machine runs `init` and `final`.
+fn run_by_machine<R: Threads + Wait + Sync, B: RunCode + Send, G: Gate + Sync>(
+    rt: &R,
+    alloc: Global,
+    machine: &mut Machine,
+    prepared: &Prepared,
+    limits: EngineLimits,
+    gate: &G,
+) -> Result<EngineRun, NoMemory>
+    requires code_of { IsCodeOf (tree_of prepared.now.checked.now) prepared.now.code.now }
+    requires made { IsMadeFor prepared.now.code.now machine.old }
+    requires accepted { BreaksNoRule (tree_of prepared.now.checked.now) }
+    requires code { prepared.now.code.now ≡ B.code }
+    requires workers { 0 < limits.workers }
+    requires throttle { (0 < limits.throttle) × (limits.throttle ≤ 1024) }
+    ensures { IfOk result (IsEngineRun (tree_of prepared.now.checked.now) prepared.now.input.now limits.throttle) }
+{
+    let cells = first_cells(alloc, prepared.checked)?;
+    let init = run_alone(alloc, machine, prepared, Part::Init, TrapPlace::Init, cells)?;
+    if init.trap.is_some() {
+        return Ok(run_of_init(alloc, prepared, init.trap, init.cells));
+    }
+    let PartRun {
+        trap: _,
+        accesses,
+        cells,
+    } = init;
+    let end = run_loop::<R, B, G>(rt, alloc, prepared, limits, &accesses, cells, gate)?;
+    run_of_loop(alloc, machine, prepared, limits.throttle, end)
+}
+
 // Runs a program with the code of `B`.
 fn run_coded<R: Threads + Wait + Sync, B: RunCode + Send, G: Gate + Sync>(
     rt: &R,
@@ -177,25 +208,9 @@ fn run_coded<R: Threads + Wait + Sync, B: RunCode + Send, G: Gate + Sync>(
     ensures { IfOk result (IsEngineRun (tree_of prepared.now.checked.now) prepared.now.input.now limits.throttle) }
 {
     let mut machine = Machine::new(alloc, prepared.code)?;
-    let cells = first_cells(alloc, prepared.checked)?;
-    let init = run_alone(
-        alloc,
-        &mut machine,
-        prepared,
-        Part::Init,
-        TrapPlace::Init,
-        cells,
-    )?;
-    if init.trap.is_some() {
-        return Ok(run_of_init(alloc, prepared, init.trap, init.cells));
-    }
-    let PartRun {
-        trap: _,
-        accesses,
-        cells,
-    } = init;
-    let end = run_loop::<R, B, G>(rt, alloc, prepared, limits, &accesses, cells, gate)?;
-    run_of_loop(alloc, &mut machine, prepared, limits.throttle, end)
+    let run = run_by_machine::<R, B, G>(rt, alloc, &mut machine, prepared, limits, gate);
+    drop(machine);
+    run
 }
 
 /// Runs an accepted program on an input: `init`; the loop, whose instances `workers` workers run on
