@@ -13,7 +13,7 @@ use pipe_model::access::AccessKind;
 use pipe_model::orders::Orders;
 
 /// An access to a cell.
-#[derive(Clone, Copy, PartialEq, Eq, Debug)]
+#[derive(Clone, Copy)]
 pub struct CellAccess {
     /// The instance that makes it.
     pub who: MarkedNode,

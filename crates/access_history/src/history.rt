@@ -17,7 +17,7 @@ use pipe_model::node::NodeId;
 use pipe_model::orders::Orders;
 
 /// A stage instance, with its elements of the two order lists.
-#[derive(Clone, Copy, PartialEq, Eq, Debug)]
+#[derive(Clone, Copy)]
 pub struct MarkedNode {
     /// Its name.
     pub node: NodeId,
@@ -26,7 +26,7 @@ pub struct MarkedNode {
 }
 
 /// A race of two accesses to a cell.
-#[derive(Clone, Copy, PartialEq, Eq, Debug)]
+#[derive(Clone, Copy, PartialEq, Eq)]
 pub struct Found {
     /// The instance of the earlier access.
     pub earlier: NodeId,
@@ -39,7 +39,7 @@ pub struct Found {
 }
 
 /// Whether an access races with an earlier one.
-#[derive(Clone, Copy, PartialEq, Eq, Debug)]
+#[derive(Clone, Copy)]
 pub enum Verdict {
     /// It races with no kept access.
     Clean,
@@ -48,7 +48,7 @@ pub enum Verdict {
 }
 
 /// What is kept of the accesses to a cell.
-#[derive(Clone, Copy, PartialEq, Eq, Debug)]
+#[derive(Clone, Copy)]
 pub struct History {
     /// The last writer.
     pub writer: Option<MarkedNode>,

@@ -21,7 +21,7 @@ use pipe_model::ticket::BookLog;
 use std::alloc::Global;
 
 /// A call of the book; `u32` is an iteration.
-#[derive(Clone, Copy, PartialEq, Eq, Debug)]
+#[derive(Clone, Copy)]
 pub enum Call {
     Begin,
     Advance(u32, StageEnd),
@@ -35,7 +35,7 @@ pub enum Call {
 }
 
 /// The result of a call.
-#[derive(Clone, Copy, PartialEq, Eq, Debug)]
+#[derive(Clone, Copy, PartialEq, Eq)]
 pub enum Seen {
     /// The token of an instance, by its iteration and index.
     Token(u32, u32),

@@ -16,7 +16,7 @@ use std::alloc::Global;
 
 /// A program: how many iterations and stages it may have, how many iterations go through their
 /// stages, and whether each of them waits for three stages or for one.
-#[derive(Clone, Copy, PartialEq, Eq, Debug)]
+#[derive(Clone, Copy)]
 pub struct Source {
     pub iterations: u32,
     pub stages: u32,

@@ -1,7 +1,7 @@
 //! The commands.
 
 /// What a call is to do.
-#[derive(Clone, Copy, PartialEq, Eq, Debug)]
+#[derive(Clone, Copy)]
 pub enum Command<'a> {
     /// Runs a source on an input, with `workers` workers and at most `throttle` iterations alive.
     Run {

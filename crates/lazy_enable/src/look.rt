@@ -4,7 +4,7 @@ ghost use Rattle.std.specs.Prelude.{◌≡◌};
 ghost use Rattle.lazy_enable.specs.AfterInstance.{look_after};
 
 /// How an iteration goes on after one of its stage instances.
-#[derive(Clone, Copy, PartialEq, Eq, Debug)]
+#[derive(Clone, Copy)]
 pub enum StageOutcome {
     /// Its next instance has started.
     Went,
@@ -15,7 +15,7 @@ pub enum StageOutcome {
 }
 
 /// Where a worker looks for its next stage instance.
-#[derive(Clone, Copy, PartialEq, Eq, Debug)]
+#[derive(Clone, Copy)]
 pub enum Look {
     /// In its own iteration, which goes on.
     On,

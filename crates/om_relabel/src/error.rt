@@ -6,7 +6,7 @@ use pipe_model::memory::NoMemory;
 use std::alloc::AllocError;
 
 /// Out of memory. Any call that allocates may return it; no clause says when.
-#[derive(Clone, Copy, PartialEq, Eq, Debug)]
+#[derive(Clone, Copy)]
 pub struct OutOfMemory;
 
 impl From<AllocError> for OutOfMemory {

@@ -10,7 +10,7 @@ use crate::stretch::{Stretch, extended};
 
 /// The range of the 2^`bits` labels from `low` on: the first of its elements in the order of the
 /// list, and how many it has.
-#[derive(Clone, Copy, PartialEq, Eq, Debug)]
+#[derive(Clone, Copy, PartialEq, Eq)]
 pub struct LabelRange {
     pub first: u32,
     pub count: u32,

@@ -6,7 +6,7 @@ ghost use Rattle.op_table.specs.Tables.{text_of, StartsWith, HasLongest, HasNoSy
 
 /// An operator: the bytes of its symbol and how many of them count, 1 or 2; its level, where a
 /// higher level binds more tightly; and its code.
-#[derive(Clone, Copy, PartialEq, Eq, Debug)]
+#[derive(Clone, Copy)]
 pub struct OpRow {
     pub symbol: [u8; 2],
     pub length: u8,
@@ -15,7 +15,7 @@ pub struct OpRow {
 }
 
 /// A table of operators.
-#[derive(Clone, Copy, PartialEq, Eq, Debug)]
+#[derive(Clone, Copy)]
 pub struct OpTable<const N: usize> {
     pub rows: [OpRow; N],
 }

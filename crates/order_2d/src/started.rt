@@ -8,7 +8,7 @@ use pipe_model::marks::Marks;
 use pipe_model::node::NodeId;
 
 /// A started instance.
-#[derive(Clone, Copy, PartialEq, Eq, Debug)]
+#[derive(Clone, Copy)]
 pub struct StartedNode {
     /// Its marks.
     pub marks: Marks,

@@ -46,7 +46,7 @@ pub enum Rescue<M> {
 }
 
 /// How an iteration goes on after an instance, if its next instance is started by another call.
-#[derive(Clone, Copy, PartialEq, Eq, Debug)]
+#[derive(Clone, Copy)]
 pub enum Named {
     /// It has named its next stage.
     Waits,
@@ -57,7 +57,7 @@ pub enum Named {
 }
 
 /// The result of an access.
-#[derive(Clone, Copy, PartialEq, Eq, Debug)]
+#[derive(Clone, Copy, PartialEq, Eq)]
 pub enum Reply {
     /// The value of the cell was read.
     Value(i64),

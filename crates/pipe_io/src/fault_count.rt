@@ -7,7 +7,7 @@ ghost use Rattle.std.specs.Prelude.{true};
 use std::marker::Model;
 
 /// The number of faults, at most 2^64 - 1.
-#[derive(Clone, Copy, PartialEq, Eq, Debug)]
+#[derive(Clone, Copy)]
 pub struct FaultCount {
     count: u64,
 }

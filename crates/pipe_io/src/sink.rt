@@ -4,7 +4,7 @@ ghost use Rattle.std.specs.Prelude.{◌≡◌, ℕ, ◌<◌, List, length, Optio
 ghost use Rattle.std.specs.Option.{option_map};
 
 /// The result of writing a part of a text.
-#[derive(Clone, Copy, PartialEq, Eq, Debug)]
+#[derive(Clone, Copy, PartialEq, Eq)]
 pub enum WritePart {
     /// The number of bytes taken, from the start of the part: at least one.
     Took(u32),

@@ -93,7 +93,7 @@ fn read_more<F: Files>(
 }
 
 /// How the writing of a text ended.
-#[derive(Clone, Copy, PartialEq, Eq, Debug)]
+#[derive(Clone, Copy, PartialEq, Eq)]
 pub enum WriteEnd {
     /// All of the text was taken.
     Whole,
@@ -104,7 +104,7 @@ pub enum WriteEnd {
 }
 
 /// How the writing of a text ended, and the length of the prefix that was taken.
-#[derive(Clone, Copy, PartialEq, Eq, Debug)]
+#[derive(Clone, Copy)]
 pub struct Written {
     /// How the writing ended.
     pub end: WriteEnd,

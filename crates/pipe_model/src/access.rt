@@ -5,11 +5,11 @@ use crate::node::NodeId;
 
 /// A cell: 0 is the input's cursor, 1 is the output, declared cells follow from 2 in order, an
 /// array's elements one after the other.
-#[derive(Clone, Copy, PartialEq, Eq, Debug)]
+#[derive(Clone, Copy, PartialEq, Eq)]
 pub struct CellId(pub u32);
 
 /// Whether a cell is read or written.
-#[derive(Clone, Copy, PartialEq, Eq, Debug)]
+#[derive(Clone, Copy, PartialEq, Eq)]
 pub enum AccessKind {
     /// The value of the cell is read.
     Read,
@@ -18,7 +18,7 @@ pub enum AccessKind {
 }
 
 /// One access to a cell.
-#[derive(Clone, Copy, PartialEq, Eq, Debug)]
+#[derive(Clone, Copy, PartialEq, Eq)]
 pub struct Access {
     /// Which cell.
     pub cell: CellId,
@@ -29,7 +29,7 @@ pub struct Access {
 }
 
 /// An access and the stage instance that made it.
-#[derive(Clone, Copy, PartialEq, Eq, Debug)]
+#[derive(Clone, Copy)]
 pub struct NodeAccess {
     /// The instance that made it.
     pub node: NodeId,

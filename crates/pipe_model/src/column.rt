@@ -5,7 +5,7 @@ use crate::node::Nodes;
 use crate::trap::Trap;
 
 /// How an iteration ended.
-#[derive(Clone, Copy, PartialEq, Eq, Debug)]
+#[derive(Clone, Copy, PartialEq, Eq)]
 pub enum ColumnEnd {
     /// At the end of the loop's body.
     End,

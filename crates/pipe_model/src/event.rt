@@ -6,7 +6,7 @@ use crate::list::ListOf;
 use crate::node::Kind;
 
 /// One step of the scheduler's core. The number is the iteration's.
-#[derive(Clone, Copy, PartialEq, Eq, Debug)]
+#[derive(Clone, Copy, PartialEq, Eq)]
 pub enum Event {
     /// An iteration begins, in its instance 0.
     Begin(u32),

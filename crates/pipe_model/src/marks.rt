@@ -3,7 +3,7 @@
 //! 2018).
 
 /// An element of each list, kept for an instance that has not started.
-#[derive(Clone, Copy, PartialEq, Eq, Debug)]
+#[derive(Clone, Copy)]
 pub struct Placeholder {
     /// The element of the down-first list.
     pub down_first: u32,
@@ -12,7 +12,7 @@ pub struct Placeholder {
 }
 
 /// The elements of an instance that has started, and the placeholders that it added.
-#[derive(Clone, Copy, PartialEq, Eq, Debug)]
+#[derive(Clone, Copy)]
 pub struct Marks {
     /// The instance's element of the down-first list.
     pub down_first: u32,

@@ -3,7 +3,7 @@
 use crate::list::ListOf;
 
 /// How a stage instance was entered (Lee et al., "On-the-Fly Pipeline Parallelism", SPAA 2013).
-#[derive(Clone, Copy, PartialEq, Eq, Debug)]
+#[derive(Clone, Copy, PartialEq, Eq)]
 pub enum Kind {
     /// The first instance of an iteration, which includes the loop's test.
     Zero,
@@ -14,7 +14,7 @@ pub enum Kind {
 }
 
 /// A stage instance: its stage number and how it was entered.
-#[derive(Clone, Copy, PartialEq, Eq, Debug)]
+#[derive(Clone, Copy, PartialEq, Eq)]
 pub struct Node {
     /// The stage number: 0 in the first instance of a column, and rising along it.
     pub number: i64,
@@ -23,7 +23,7 @@ pub struct Node {
 }
 
 /// The name of a stage instance: its iteration, and its index in the column, both counted from 0.
-#[derive(Clone, Copy, PartialEq, Eq, Debug)]
+#[derive(Clone, Copy, PartialEq, Eq)]
 pub struct NodeId {
     /// The number of the iteration, and of its column.
     pub iteration: u32,

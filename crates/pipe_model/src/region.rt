@@ -1,7 +1,7 @@
 //! Regions of a program's text.
 
 /// A region of a program's text. A local belongs to the region that contains its `let`.
-#[derive(Clone, Copy, PartialEq, Eq, Debug)]
+#[derive(Clone, Copy)]
 pub enum Region {
     /// The declarations of cells.
     Cells,

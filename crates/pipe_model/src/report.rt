@@ -6,7 +6,7 @@ use crate::node::NodeId;
 
 /// A racy cell with two conflicting accesses of parallel instances, the earlier one first, each
 /// with its instance, stage number and kind.
-#[derive(Clone, Copy, PartialEq, Eq, Debug)]
+#[derive(Clone, Copy, PartialEq, Eq)]
 pub struct Report {
     /// The cell on which the two race.
     pub cell: CellId,

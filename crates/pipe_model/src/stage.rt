@@ -21,7 +21,7 @@ pub enum StageEnd {
 }
 
 /// The stage counter of an iteration, which its right neighbour reads to see whether it may go on.
-#[derive(Clone, Copy, PartialEq, Eq, Debug)]
+#[derive(Clone, Copy)]
 pub enum Counter {
     /// The number of the last stage that the iteration has named; 0 until it names one.
     At(i64),

@@ -4,7 +4,7 @@ use crate::column::ColumnEnd;
 use crate::node::Kind;
 
 /// The status of an iteration that has begun.
-#[derive(Clone, Copy, PartialEq, Eq, Debug)]
+#[derive(Clone, Copy, PartialEq, Eq)]
 pub enum Status {
     /// It runs its current instance, the last of its column.
     Running,

@@ -7,7 +7,7 @@ use crate::list::ListOf;
 use crate::node::NodeId;
 
 /// An access in the trace of the instance that made it.
-#[derive(Clone, Copy, PartialEq, Eq, Debug)]
+#[derive(Clone, Copy)]
 pub struct Entry {
     /// When the access was made.
     pub ticket: u64,
@@ -17,7 +17,7 @@ pub struct Entry {
 
 /// An access in the log of a shard. The cells of a shard are those whose numbers have the same
 /// remainder modulo the number of shards.
-#[derive(Clone, Copy, PartialEq, Eq, Debug)]
+#[derive(Clone, Copy)]
 pub struct ShardEntry {
     /// When the access was made.
     pub ticket: u64,
@@ -28,7 +28,7 @@ pub struct ShardEntry {
 }
 
 /// An event other than an access, in the log of the scheduler's book.
-#[derive(Clone, Copy, PartialEq, Eq, Debug)]
+#[derive(Clone, Copy, PartialEq, Eq)]
 pub struct BookEntry {
     /// When the event happened.
     pub ticket: u64,

@@ -3,7 +3,7 @@
 use crate::list::ListOf;
 
 /// What a token is.
-#[derive(Clone, Copy, PartialEq, Eq, Debug)]
+#[derive(Clone, Copy, Debug)]
 pub enum TokenKind {
     /// A name, which is not a reserved word; its bytes are in the source.
     Name,
@@ -18,7 +18,7 @@ pub enum TokenKind {
 }
 
 /// A token: what it is, its offset in the source, in bytes counted from 0, and its length in bytes.
-#[derive(Clone, Copy, PartialEq, Eq, Debug)]
+#[derive(Clone, Copy)]
 pub struct Token {
     pub kind: TokenKind,
     pub place: u32,

@@ -26,7 +26,7 @@ pub enum Trap {
 }
 
 /// Where a trap occurred: in `init`, in a stage instance (with its stage number), or in `final`.
-#[derive(Clone, Copy, PartialEq, Eq, Debug)]
+#[derive(Clone, Copy, PartialEq, Eq)]
 pub enum TrapPlace {
     /// In `init`.
     Init,
@@ -37,7 +37,7 @@ pub enum TrapPlace {
 }
 
 /// A trap and its place.
-#[derive(Clone, Copy, PartialEq, Eq, Debug)]
+#[derive(Clone, Copy, PartialEq, Eq)]
 pub struct TrapAt {
     /// Where it occurred.
     pub place: TrapPlace,

@@ -29,7 +29,7 @@ pub enum Expr {
 
 /// How a statement enters the next stage. Stage 0 begins without a statement, so there is no third
 /// kind.
-#[derive(Clone, Copy, PartialEq, Eq, Debug)]
+#[derive(Clone, Copy)]
 pub enum StageKind {
     /// By `pipe_wait`.
     Wait,
@@ -84,7 +84,7 @@ pub struct Declaration {
 pub type Declarations = ListOf<Declaration>;
 
 /// What a program may use. The ranges hold for a program that obeys the rules.
-#[derive(Clone, Copy, PartialEq, Eq, Debug)]
+#[derive(Clone, Copy)]
 pub struct Limits {
     /// The most iterations of the loop that run its body, 1 to 65,536.
     pub iterations: i64,

@@ -10,7 +10,7 @@ use pipe_model::access::AccessKind;
 use pipe_model::tree::StageKind;
 
 /// The word with which the line of an event begins.
-#[derive(Clone, Copy, PartialEq, Eq, Debug)]
+#[derive(Clone, Copy)]
 pub enum LogWord {
     Begin,
     Enter,

@@ -30,7 +30,7 @@ use std::alloc::Global;
 use std::marker::Brand;
 
 /// How a loop is played.
-#[derive(Clone, Copy, PartialEq, Eq, Debug)]
+#[derive(Clone, Copy)]
 pub struct PlayLimits {
     /// The most instances that run at a time, at least 1.
     pub workers: u32,

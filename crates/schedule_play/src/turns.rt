@@ -12,7 +12,7 @@ ghost use Rattle.schedule_play.specs.Turns.{alive_iterations, is_running, iterat
 ghost use Rattle.schedule_play.specs.declared.turns.Alive.{Alive as Kept};
 
 /// How far an iteration is that has not ended.
-#[derive(Clone, Copy, PartialEq, Eq, Debug)]
+#[derive(Clone, Copy)]
 pub enum Readiness {
     /// Its current instance runs.
     Running,
@@ -47,7 +47,7 @@ impl Readiness {
 }
 
 /// An iteration that has not ended.
-#[derive(Clone, Copy, PartialEq, Eq, Debug)]
+#[derive(Clone, Copy)]
 pub struct Alive {
     /// Its number.
     pub iteration: u32,
@@ -58,7 +58,7 @@ pub struct Alive {
 }
 
 /// Whose turn it is.
-#[derive(Clone, Copy, PartialEq, Eq, Debug)]
+#[derive(Clone, Copy)]
 pub enum Turn {
     /// The next event of the iteration with this number.
     Next(u32),

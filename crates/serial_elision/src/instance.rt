@@ -24,7 +24,7 @@ use stage_interp::machine::Machine;
 use std::marker::Brand;
 
 /// How an instance ended.
-#[derive(Clone, Copy, PartialEq, Eq, Debug)]
+#[derive(Clone, Copy)]
 pub enum InstanceEnd {
     /// By the naming of a next instance.
     Next(Kind, i64),

@@ -4,7 +4,7 @@ use pipe_model::access::CellId;
 
 /// An instruction. Operands and values are on a stack of numbers; a target is an index of the whole
 /// code. The three that take no step of the budget come last.
-#[derive(Clone, Copy, PartialEq, Eq, Debug)]
+#[derive(Clone, Copy)]
 pub enum Instr {
     /// Pushes the number.
     Push(i64),
@@ -58,7 +58,7 @@ pub enum Instr {
 }
 
 /// A part of a program, which has a start of its own in the code.
-#[derive(Clone, Copy, PartialEq, Eq, Debug)]
+#[derive(Clone, Copy)]
 pub enum Part {
     /// What runs before the loop.
     Init,

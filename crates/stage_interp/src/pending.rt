@@ -3,7 +3,7 @@
 use pipe_model::access::CellId;
 
 /// What is left of an instruction whose access was refused, that access first.
-#[derive(Clone, Copy, PartialEq, Eq, Debug)]
+#[derive(Clone, Copy)]
 pub enum Pending {
     /// Nothing: no access was refused.
     Nothing,
