@@ -8,7 +8,7 @@ ghost use Rattle.schedule_play.specs.declared.turns.Alive.{Alive as Kept};
 use crate::turns::{Alive, Readiness};
 
 /// An event of an iteration, as far as it changes what is kept of the iterations.
-#[derive(Clone, Copy, PartialEq, Eq, Debug)]
+#[derive(Clone, Copy)]
 pub enum Change {
     /// The iteration names a stage of this number, which it may enter or not.
     Named(u32, i64, bool),

@@ -31,7 +31,9 @@ fn runners<B: PlayedCode>(
 {
     let mut runners = Vec::new(alloc);
     for _ in 0..count {
-        runners.push(Runner::new(alloc, code)?)?;
+        runners.reserve(1)?;
+        let runner = Runner::new(alloc, code)?;
+        runners.push_reserved(runner);
     }
     Ok(runners)
 }

@@ -26,7 +26,7 @@ use stage_interp::machine::Machine;
 use std::alloc::Global;
 
 /// What a running stage instance does next.
-#[derive(Clone, Copy, PartialEq, Eq, Debug)]
+#[derive(Clone, Copy)]
 pub enum NextAction {
     /// It makes an access.
     Access,

@@ -5,6 +5,7 @@ use Rattle.pipe_model.specs.Runs.Allowed.{MayEnter}
 use Rattle.pipe_model.specs.Runs.NextEvents.{next_event}
 use Rattle.frame_book.specs.BookStates.{BookState, state_of}
 use Rattle.frame_book.specs.GivenTokens.{IsGivenBy}
+use Rattle.serial_elision.proofs.Results.{map_ok}
 use Rattle.schedule_play.specs.PlayStates.{IsPlay, PlayState, pipeline_played, run_state}
 use Rattle.schedule_play.specs.Runners.{IsAtInstance, no_tie}
 use Rattle.schedule_play.proofs.Playing.Enters.{enter_possible, entered_made}
@@ -44,9 +45,9 @@ returns-clause-play g c =
     given.payload.ready c.new-running.result
     ensured.fields ensured.empty c.args.input.now input ensured.instance c.enter-2.new.self c.enter-2.ensures.schedule
     c.enter-2.ensures.limit in
-    rw (c.in-Some.ensures.book, c.in_ok-push.ensures.ok) made
+    map_ok c.append.result c.append.ensures (λ u appended. rw (c.replace.ensures.after, c.in-Some.ensures.book, appended) made)
 
 pub returns-clause-event : goal.returns-clause-event
-returns-clause-event g c = λ e next.
+returns-clause-event g c = map_ok c.append.result c.append.ensures (λ u appended e next.
     let same : events.Enter c.args.iteration ≡ e = (let q = sym c.requires.next ∙ next in cc) in
-    c.in_ok-push.ensures.ok ∙ (ap (λ x. c.self.inside.events ++ x ∷ []) same ∙ ap (λ (x : PlayState). x.events ++ e ∷ []) c.self.view_is)
+    appended ∙ (ap (λ x. c.self.inside.events ++ x ∷ []) same ∙ ap (λ (x : PlayState). x.events ++ e ∷ []) c.self.view_is))
