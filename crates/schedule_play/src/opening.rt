@@ -69,6 +69,11 @@ pub(crate) fn open_book<B: PlayedCode>(
     ensures book { IfOk result (λ book. book ≡ new_book book.program input.now throttle no_lists) }
 {
     let orders = orders(alloc)?;
-    let runners = runners(alloc, code, throttle)?;
-    Book::new(alloc, checked.program(), input, throttle, runners, orders)
+    match runners(alloc, code, throttle) {
+        Ok(runners) => Book::new(alloc, checked.program(), input, throttle, runners, orders),
+        Err(refused) => {
+            drop(orders);
+            Err(refused)
+        }
+    }
 }

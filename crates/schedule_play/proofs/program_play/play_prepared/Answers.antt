@@ -28,8 +28,8 @@ returns-then-is_some-clause-meets c =
     plays_meet_the_headline tree c.args.prepared.now.input.now c.args.limits c.args.choices.now c.end_after_init.result accepted
     c.requires.throttle c.requires.workers c.end_after_init.ensures
 
-pub play_loop-requires : goal.play_loop-requires
-play_loop-requires c =
+pub play_loop-play-requires : goal.play_loop-play-requires
+play_loop-play-requires c =
     let serves = c.in_ok-init.ensures.serves in
     let count = serves.count in
     let bounded = serves.bounded in
@@ -54,15 +54,15 @@ pub end_after_loop-requires-clause-accepted : goal.end_after_loop-requires-claus
 end_after_loop-requires-clause-accepted c = c.requires.accepted
 
 pub end_after_loop-requires-clause-run : goal.end_after_loop-requires-clause-run
-end_after_loop-requires-clause-run c = (c.args.limits.throttle, c.in_ok-play.ensures.scheduled.run)
+end_after_loop-requires-clause-run c = (c.args.limits.throttle, c.in-Ok.ensures.scheduled.run)
 
 pub end_after_loop-requires-clause-columns : goal.end_after_loop-requires-clause-columns
-end_after_loop-requires-clause-columns c = c.in_ok-play.ensures.scheduled.columns
+end_after_loop-requires-clause-columns c = c.in-Ok.ensures.scheduled.columns
 
 pub end_after_loop-requires-clause-serves : goal.end_after_loop-requires-clause-serves
 end_after_loop-requires-clause-serves c =
     let init = c.in_ok-init.ensures.serves in
-    let played = c.in_ok-play.ensures in
+    let played = c.in-Ok.ensures in
     let state = c.in_ok-init.ensures.state [] c.in_ok-cells.ensures.state in
     let same = played.state.cells ∙ sym state.cells in
     let bounded = init.bounded in
@@ -73,7 +73,7 @@ end_after_loop-requires-clause-serves c =
     }
 
 pub end_after_loop-requires-clause-state : goal.end_after_loop-requires-clause-state
-end_after_loop-requires-clause-state c = c.in_ok-play.ensures.state
+end_after_loop-requires-clause-state c = c.in-Ok.ensures.state
 
 pub end_after_loop-requires-clause-no_trap : goal.end_after_loop-requires-clause-no_trap
 end_after_loop-requires-clause-no_trap c =
@@ -81,18 +81,18 @@ end_after_loop-requires-clause-no_trap c =
     let trap : c.in_ok-init.init.trap ≡ init_trap w = c.in_ok-init.ensures.trap [] c.in_ok-cells.ensures.state in
     ap is_some (sym trap) ∙ sym c.is_some.ensures ∙ c.if-is_some.false
 
-pub returns-clause-played : goal.returns-clause-played
-returns-clause-played c =
+pub returns-in-Ok-clause-played : goal.returns-in-Ok-clause-played
+returns-in-Ok-clause-played c =
     let tree = tree_of c.args.prepared.now.checked.now in
     let input = c.args.prepared.now.input.now in
     let w = whole_of tree input in
     let trap : c.in_ok-init.init.trap ≡ init_trap w = c.in_ok-init.ensures.trap [] c.in_ok-cells.ensures.state in
     let none : is_some (init_trap w) ≡ false = ap is_some (sym trap) ∙ sym c.is_some.ensures ∙ c.if-is_some.false in
     map_ok c.end_after_loop.result c.end_after_loop.ensures (λ r end.
-    loop_was_played tree input c.args.limits c.args.choices.now c.in_ok-play.play r none c.in_ok-play.ensures end)
+    loop_was_played tree input c.args.limits c.args.choices.now c.in-Ok.play r none c.in-Ok.ensures end)
 
-pub returns-clause-meets : goal.returns-clause-meets
-returns-clause-meets c =
+pub returns-in-Ok-clause-meets : goal.returns-in-Ok-clause-meets
+returns-in-Ok-clause-meets c =
     let tree = tree_of c.args.prepared.now.checked.now in
     let input = c.args.prepared.now.input.now in
     let w = whole_of tree input in
@@ -101,4 +101,4 @@ returns-clause-meets c =
     let none : is_some (init_trap w) ≡ false = ap is_some (sym trap) ∙ sym c.is_some.ensures ∙ c.if-is_some.false in
     map_ok c.end_after_loop.result c.end_after_loop.ensures (λ r end.
     plays_meet_the_headline tree input c.args.limits c.args.choices.now r accepted c.requires.throttle c.requires.workers
-    (loop_was_played tree input c.args.limits c.args.choices.now c.in_ok-play.play r none c.in_ok-play.ensures end))
+    (loop_was_played tree input c.args.limits c.args.choices.now c.in-Ok.play r none c.in-Ok.ensures end))
