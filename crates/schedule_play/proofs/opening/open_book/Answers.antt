@@ -43,8 +43,8 @@ new-requires-clause-room g c =
     (omega (arith, bounded, same, down), omega (arith, bounded, same, right))
 
 pub returns-in-Ok-clause-tree : goal.returns-in-Ok-clause-tree
-returns-in-Ok-clause-tree g c = subst (λ (p : Program). IfOk c.new.result (λ book. tree_of book.program ≡ tree_of p)) c.program.ensures.program
-    c.new.ensures.tree
+returns-in-Ok-clause-tree g c =
+    subst (λ (p : Program). IfOk c.new.result (λ book. tree_of book.program ≡ tree_of p)) c.program.ensures.program c.new.ensures.tree
 
 pub returns-in-Ok-clause-book : goal.returns-in-Ok-clause-book
 returns-in-Ok-clause-book g c =
