@@ -91,12 +91,52 @@ fn end_record<B: PlayedCode>(
     ensures { IfOk result (IsLoopAnswer (pipeline_played player) player.book.limit (with_stop stopped player.events)) }
 {
     let finished = player.is_finished();
-    let (events, _) = player.into_run();
+    let (events, cells) = player.into_run();
+    drop(cells);
     let events = stopped_events(events, stopped)?;
     let columns = columns_of(alloc, events.as_slice())?;
     let run_log = RunLog { columns, events };
     let reports = detect(alloc, &run_log)?;
     Ok(RecordAnswer::Run(kind_of(stopped, finished), run_log, reports))
+}
+
+// Checks the events of a loop with a player at its beginning.
+fn check_on<B: PlayedCode>(
+    alloc: Global,
+    player: Player<B>,
+    code: &Code,
+    input: &Numbers,
+    events: &[Event],
+) -> Result<RecordAnswer, NoMemory>
+    requires code { code.now ≡ B.code }
+    requires input { input.now ≡ player.book.input }
+    requires play { IsPlay B.code B.cells player }
+    requires new { player.events ≡ [] }
+    requires accepted { BreaksNoRule (tree_of player.book.program) }
+    requires limit { 0 < player.book.limit }
+    requires short { length events.now < 2 ^ 32 }
+    ensures { IfOk result (IsLoopAnswer (pipeline_played player) player.book.limit events.now) }
+{
+    let mut player = player;
+    let stop = first_stop(events);
+    let going = &events[..stop];
+    match follow(alloc, &mut player, code, input, going) {
+        Ok(count) => {
+            if count < stop {
+                drop(player);
+                return Ok(RecordAnswer::NotAllowed(count as u32));
+            }
+            if stop + 1 < events.len() {
+                drop(player);
+                return Ok(RecordAnswer::NotAllowed(stop as u32 + 1));
+            }
+            end_record(alloc, player, stop < events.len())
+        }
+        Err(refused) => {
+            drop(player);
+            Err(refused)
+        }
+    }
 }
 
 // Checks the events of a loop, with the code and the number of cells of `B`.
@@ -121,18 +161,10 @@ fn check_coded<B: PlayedCode>(
     requires short { length events.now < 2 ^ 32 }
     ensures { IfOk result (IsLoopAnswer (pipeline_after_init (tree_of checked.now) input.now) throttle events.now) }
 {
-    let events = events.as_slice();
-    let stop = first_stop(events);
-    let going = &events[..stop];
-    let mut player = Player::<B>::new(alloc, checked, code, input, throttle, cells)?;
-    let count = follow(alloc, &mut player, code, input, going)?;
-    if count < stop {
-        return Ok(RecordAnswer::NotAllowed(count as u32));
+    match Player::<B>::new(alloc, checked, code, input, throttle, cells) {
+        Ok(player) => check_on(alloc, player, code, input, events.as_slice()),
+        Err(refused) => Err(refused),
     }
-    if stop + 1 < events.len() {
-        return Ok(RecordAnswer::NotAllowed(stop as u32 + 1));
-    }
-    end_record(alloc, player, stop < events.len())
 }
 
 /// Checks whether the events are a run of an accepted program's loop, over cells that `init` has left,

@@ -55,6 +55,7 @@ fn check_prepared(
 {
     let cells = first_cells(alloc, prepared.checked)?;
     let init = run_alone(alloc, machine, prepared, Part::Init, TrapPlace::Init, cells)?;
+    drop(init.accesses);
     if init.trap.is_some() {
         return Ok(end_after_init(alloc, events));
     }

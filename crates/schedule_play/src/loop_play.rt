@@ -1,6 +1,6 @@
 //! The loop of a program, played on one thread by a schedule.
 
-ghost use Rattle.std.specs.Prelude.{◌≡◌, ◌<◌, ◌≤◌, ◌+◌, ℕ, List, IfOk, None};
+ghost use Rattle.std.specs.Prelude.{◌≡◌, ◌<◌, ◌≤◌, ◌+◌, [], ℕ, List, IfOk, None};
 ghost use Rattle.cell_store.specs.ShardState.{IsStateAfter};
 ghost use Rattle.pipe_model.specs.Language.CheckingRules.{cell_total};
 ghost use Rattle.pipe_model.specs.Language.Programs.{store_of};
@@ -73,6 +73,44 @@ fn end_play<B: PlayedCode>(alloc: Global, player: Player<B>) -> Result<LoopPlay,
     })
 }
 
+// Plays a loop with a player at its beginning.
+fn play_on<B: PlayedCode>(
+    alloc: Global,
+    player: Player<B>,
+    code: &Code,
+    input: &Numbers,
+    limits: PlayLimits,
+    choices: &[u32],
+) -> Result<LoopPlay, NoMemory>
+    requires code { code.now ≡ B.code }
+    requires input { input.now ≡ player.book.input }
+    requires play { IsPlay B.code B.cells player }
+    requires new { player.events ≡ [] }
+    requires accepted { BreaksNoRule (tree_of player.book.program) }
+    requires workers { 0 < limits.workers }
+    requires throttle { 0 < limits.throttle }
+    requires limit { player.book.limit ≡ limits.throttle }
+    ensures { IfOk result (IsLoopPlay (tree_of player.book.program) player.book.input limits choices.now) }
+{
+    let mut player = player;
+    let played = play_turns(
+        alloc,
+        &mut player,
+        code,
+        input,
+        limits.workers,
+        choices,
+        limits.turns,
+    );
+    match played {
+        Ok(()) => end_play(alloc, player),
+        Err(refused) => {
+            drop(player);
+            Err(refused)
+        }
+    }
+}
+
 // Plays a loop, with the code and the number of cells of `B`.
 fn play_coded<B: PlayedCode>(
     alloc: Global,
@@ -95,17 +133,10 @@ fn play_coded<B: PlayedCode>(
     requires state { IsStateAfter (store_of (tree_of checked.now)) (init_accesses (whole_of (tree_of checked.now) input.now)) cells }
     ensures { IfOk result (IsLoopPlay (tree_of checked.now) input.now limits choices.now) }
 {
-    let mut player = Player::<B>::new(alloc, checked, code, input, limits.throttle, cells)?;
-    play_turns(
-        alloc,
-        &mut player,
-        code,
-        input,
-        limits.workers,
-        choices,
-        limits.turns,
-    )?;
-    end_play(alloc, player)
+    match Player::<B>::new(alloc, checked, code, input, limits.throttle, cells) {
+        Ok(player) => play_on(alloc, player, code, input, limits, choices),
+        Err(refused) => Err(refused),
+    }
 }
 
 /// Plays the loop of an accepted program by a schedule, over cells that `init` has left, on one thread

@@ -31,7 +31,9 @@ fn runners<B: PlayedCode>(
 {
     let mut runners = Vec::new(alloc);
     for _ in 0..count {
-        runners.push(Runner::new(alloc, code)?)?;
+        runners.reserve(1)?;
+        let runner = Runner::new(alloc, code)?;
+        runners.push_reserved(runner);
     }
     Ok(runners)
 }
@@ -67,6 +69,11 @@ pub(crate) fn open_book<B: PlayedCode>(
     ensures book { IfOk result (λ book. book ≡ new_book book.program input.now throttle no_lists) }
 {
     let orders = orders(alloc)?;
-    let runners = runners(alloc, code, throttle)?;
-    Book::new(alloc, checked.program(), input, throttle, runners, orders)
+    match runners(alloc, code, throttle) {
+        Ok(runners) => Book::new(alloc, checked.program(), input, throttle, runners, orders),
+        Err(refused) => {
+            drop(orders);
+            Err(refused)
+        }
+    }
 }

@@ -72,6 +72,14 @@ impl<B: PlayedCode> Model for Player<B> {
     } };
 }
 
+// Appends an event. Returns an error only if memory runs out.
+fn append(events: &mut Events, event: Event) -> Result<(), NoMemory>
+    ensures { IfOk result (λ u. events.new ≡ events.old ++ event ∷ []) }
+{
+    events.push(event)?;
+    Ok(())
+}
+
 impl<B: PlayedCode> Player<B> {
     /// Returns a player at the beginning of the loop of a program, over cells that `init` has left. At
     /// most `throttle` iterations may be alive. Returns an error only if memory runs out.
@@ -99,13 +107,17 @@ impl<B: PlayedCode> Player<B> {
         ensures limit { IfOk result (λ player. player.book.limit ≡ throttle) }
     {
         let _limits = code.limits();
-        Ok(Player {
-            book: open_book(alloc, checked, code, input, throttle)?,
-            schedule: Schedule::new(alloc, throttle)?,
-            running: Vec::new(alloc),
-            cells,
-            events: Events::new(alloc),
-        })
+        let schedule = Schedule::new(alloc, throttle)?;
+        match open_book(alloc, checked, code, input, throttle) {
+            Ok(book) => Ok(Player {
+                book,
+                schedule,
+                running: Vec::new(alloc),
+                cells,
+                events: Events::new(alloc),
+            }),
+            Err(refused) => Err(refused),
+        }
     }
 
     // The event `Begin` of the next iteration.
@@ -119,15 +131,15 @@ impl<B: PlayedCode> Player<B> {
             → self.new.events ≡ self.old.events ++ e ∷ []) }
         ensures keeps { IfOk result (λ u. KeepsProgram self.old self.new) }
     {
+        self.running.reserve(1)?;
         let Begun::Started(token) = self.book.begin() else {
             unreachable!()
         };
         let iteration = token.iteration;
         let running = RunningIteration::new(alloc, token, code, input, &self.cells);
-        self.running.push(Some(running))?;
+        self.running.push_reserved(Some(running));
         self.schedule.begin();
-        self.events.push(Event::Begin(iteration))?;
-        Ok(())
+        append(&mut self.events, Event::Begin(iteration))
     }
 
     // The event `Enter` of an iteration.
@@ -151,10 +163,9 @@ impl<B: PlayedCode> Player<B> {
             unreachable!()
         };
         let running = RunningIteration::new(alloc, token, code, input, &self.cells);
-        self.running[iteration as usize] = Some(running);
+        drop(self.running[iteration as usize].replace(running));
         self.schedule.enter(iteration);
-        self.events.push(Event::Enter(iteration))?;
-        Ok(())
+        append(&mut self.events, Event::Enter(iteration))
     }
 
     // Returns what the running instance of an iteration does next. Returns `None` if none runs.
@@ -181,13 +192,13 @@ impl<B: PlayedCode> Player<B> {
         ensures keeps { IfOk result (λ u. KeepsProgram self.old self.new) }
     {
         let ticket = self.events.len() as u64 + 1;
-        let Some(mut running) = self.running[iteration as usize].take() else {
+        let Some(running) = &mut self.running[iteration as usize] else {
             unreachable!()
         };
-        let access = running.access(code, input, &mut self.cells, ticket)?;
-        self.running[iteration as usize] = Some(running);
-        self.events.push(Event::Access(iteration, access))?;
-        Ok(())
+        match running.access(code, input, &mut self.cells, ticket) {
+            Ok(access) => append(&mut self.events, Event::Access(iteration, access)),
+            Err(refused) => Err(refused),
+        }
     }
 
     // The end of the running instance of an iteration.
@@ -206,8 +217,7 @@ impl<B: PlayedCode> Player<B> {
         };
         running.end(end, &mut self.book);
         let event = self.schedule.end_instance(iteration, end);
-        self.events.push(event)?;
-        Ok(())
+        append(&mut self.events, event)
     }
 
     // The next event of an iteration.
@@ -298,7 +308,17 @@ impl<B: PlayedCode> Player<B> {
         ensures events { result.0 ≡ self.events }
         ensures cells { result.1 ≡ self.cells }
     {
-        (self.events, self.cells)
+        let Player {
+            book,
+            schedule,
+            running,
+            cells,
+            events,
+        } = self;
+        drop(book);
+        drop(schedule);
+        drop(running);
+        (events, cells)
     }
 
     /// Makes the event of a turn. Returns an error only if memory runs out; the player is of no use

@@ -151,6 +151,7 @@ fn play_prepared(
 {
     let cells = first_cells(alloc, prepared.checked)?;
     let init = run_alone(alloc, machine, prepared, Part::Init, TrapPlace::Init, cells)?;
+    drop(init.accesses);
     if init.trap.is_some() {
         return Ok(end_after_init(alloc, prepared, limits, choices, init.trap, init.cells));
     }
@@ -162,8 +163,11 @@ fn play_prepared(
         limits,
         choices,
         init.cells,
-    )?;
-    end_after_loop(alloc, machine, prepared, play)
+    );
+    match play {
+        Ok(play) => end_after_loop(alloc, machine, prepared, play),
+        Err(refused) => Err(refused),
+    }
 }
 
 // Returns the greatest number of instances in a run of a program with these limits.
@@ -262,5 +266,7 @@ pub fn play(
         turns,
     };
     let mut machine = Machine::new(alloc, code)?;
-    play_prepared(alloc, &mut machine, &prepared, limits, choices)
+    let played = play_prepared(alloc, &mut machine, &prepared, limits, choices);
+    drop(machine);
+    played
 }

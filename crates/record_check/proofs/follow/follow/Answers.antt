@@ -6,6 +6,46 @@ use Rattle.record_check.proofs.NextEvents.{followed_to, keeps_both, made_event, 
 use Rattle.record_check.proofs.NextEvents.{same_made, some_event}
 use Rattle.record_check.proofs.follow.follow.Goals as goal
 
+pub loop-k-init : goal.loop-k-init
+loop-k-init g c = (c.requires.play, c.requires.new, record { program = refl; input = refl; limit = refl })
+
+pub has_turn-requires : goal.has_turn-requires
+has_turn-requires g c = record { play = c.loop-k.invariant.0 }
+
+pub returns-then-not-has_turn-clause-play : goal.returns-then-not-has_turn-clause-play
+returns-then-not-has_turn-clause-play g c = c.loop-k.invariant.0
+
+pub returns-then-not-has_turn-clause-all : goal.returns-then-not-has_turn-clause-all
+returns-then-not-has_turn-clause-all g c = λ e. absurd (let l = c.loop-k-test.true in omega (arith, e, l))
+
+pub returns-then-not-has_turn-clause-keeps : goal.returns-then-not-has_turn-clause-keeps
+returns-then-not-has_turn-clause-keeps g c = c.loop-k.invariant.2
+
+pub take_turn-requires-clause-code : goal.take_turn-requires-clause-code
+take_turn-requires-clause-code g c = c.requires.code
+
+pub take_turn-requires-clause-input : goal.take_turn-requires-clause-input
+take_turn-requires-clause-input g c = c.requires.input ∙ sym c.loop-k.invariant.2.input
+
+pub take_turn-requires-clause-play : goal.take_turn-requires-clause-play
+take_turn-requires-clause-play g c = c.loop-k.invariant.0
+
+pub returns-then-not-same_event-clause-play : goal.returns-then-not-same_event-clause-play
+returns-then-not-same_event-clause-play g c = c.in_ok-take_turn.ensures.play
+
+pub returns-then-not-same_event-clause-all : goal.returns-then-not-same_event-clause-all
+returns-then-not-same_event-clause-all g c = λ e. absurd (let l = c.loop-k-test.true in omega (arith, e, l))
+
+pub returns-then-not-same_event-clause-keeps : goal.returns-then-not-same_event-clause-keeps
+returns-then-not-same_event-clause-keeps g c =
+    keeps_both c.args.player.now c.loop-k.player c.take_turn.new.self c.loop-k.invariant.2 c.in_ok-take_turn.ensures.keeps
+
+pub returns-clause-play : goal.returns-clause-play
+returns-clause-play g c = c.loop-k.invariant.0
+
+pub returns-clause-keeps : goal.returns-clause-keeps
+returns-clause-keeps g c = c.loop-k.invariant.2
+
 pub returns-then-not-has_turn-clause-followed : goal.returns-then-not-has_turn-clause-followed
 returns-then-not-has_turn-clause-followed g c =
     let v = c.loop-k.player in

@@ -1,23 +1,28 @@
-use Rattle.std.proofs.Common.{◌∙◌, ap, ap₂, sym}
-use Rattle.pipe_model.specs.declared.tree.Program.{Program}
-use Rattle.pipe_model.specs.Language.ProgramsOfTrees.{pipeline_after_init}
+use Rattle.std.proofs.Common.{subst, sym}
+use Rattle.std.specs.Result.{IfOk}
+use Rattle.pipe_model.specs.Language.CheckingRules.{BreaksNoRule}
 use Rattle.pipe_model.specs.Language.SyntaxTree.{tree_of}
-use Rattle.pipe_model.specs.Runs.Schedules.{played}
-use Rattle.serial_elision.proofs.Results.{map_ok}
-use Rattle.schedule_play.proofs.PlayedRuns.{loop_play}
+use Rattle.schedule_play.specs.LoopPlays.{IsLoopPlay}
 use Rattle.schedule_play.proofs.loop_play.play_coded.Goals as goal
 
-pub returns : goal.returns
-returns g c =
-    let v = c.play_turns.new.player in
-    let limits = c.args.limits in
-    let ensured = c.in_ok-play_turns.ensures in
-    let first = c.in_ok-player.ensures in
-    let same = ap₂ (λ (q : Program) i. pipeline_after_init (tree_of q) i) ensured.keeps.program ensured.keeps.input in
-    let events = ensured.events ∙ sym (ap₂ (λ q l. played q l limits.workers c.args.choices.now limits.turns) same ensured.keeps.limit) in
-    map_ok c.end_play.result c.end_play.ensures (λ r end.
-    loop_play (tree_of c.args.checked.now) c.args.input.now limits c.args.choices.now v g.B.PlayedCode.code g.B.PlayedCode.cells r
-    ensured.play
-    c.requires.throttle c.requires.workers (ap (λ (q : Program). tree_of q) ensured.keeps.program ∙ first.tree)
-    (ensured.keeps.input ∙ first.input)
-    (ensured.keeps.limit ∙ first.limit) events end)
+pub play_on-requires : goal.play_on-requires
+play_on-requires g c =
+    let ensured = c.in-Ok.ensures in
+    record {
+      code = c.requires.code;
+      input = sym ensured.input;
+      play = ensured.play;
+      new = ensured.new;
+      accepted = subst (λ t. BreaksNoRule t) (sym ensured.tree) c.requires.accepted;
+      workers = c.requires.workers;
+      throttle = c.requires.throttle;
+      limit = ensured.limit;
+    }
+
+pub returns-in-Ok : goal.returns-in-Ok
+returns-in-Ok g c =
+    let ensured = c.in-Ok.ensures in
+    let program = c.in-Ok.player.book.program in
+    subst (λ t. IfOk c.play_on.result (IsLoopPlay t c.args.input.now c.args.limits c.args.choices.now)) ensured.tree
+    (subst (λ i. IfOk c.play_on.result (IsLoopPlay (tree_of program) i c.args.limits c.args.choices.now)) ensured.input
+    c.play_on.ensures)

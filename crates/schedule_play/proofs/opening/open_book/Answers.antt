@@ -21,11 +21,11 @@ pub new-requires-clause-whole : goal.new-requires-clause-whole
 new-requires-clause-whole g c = λ k d less.
     let code = g.B.PlayedCode.code in
     let cells = g.B.PlayedCode.cells in
-    let machine = (get_or c.in_ok-runners.runners.items k d).machine in
+    let machine = (get_or c.in-Ok.runners.items k d).machine in
     let lists = c.in_ok-orders.ensures.down.identity in (
       subst (λ (p : Program). CanRun code cells (tree_of p) machine) (sym c.program.ensures.program) (record {
         code_of = subst (λ (x : FlatCode). IsCodeOf (tree_of c.args.checked.now) x) c.requires.code c.requires.code_of;
-        made = c.in_ok-runners.ensures.made k d less;
+        made = c.in-Ok.ensures.made k d less;
         served = c.requires.served;
       }),
       subst (λ (l : List ℕ). BelongsTo no_tie (record { down = l; right = c.in_ok-orders.orders.right.identity })) (sym lists) tt,
@@ -42,12 +42,12 @@ new-requires-clause-room g c =
     let right = c.in_ok-orders.ensures.right.capacity in
     (omega (arith, bounded, same, down), omega (arith, bounded, same, right))
 
-pub returns-clause-tree : goal.returns-clause-tree
-returns-clause-tree g c = subst (λ (p : Program). IfOk c.new.result (λ book. tree_of book.program ≡ tree_of p)) c.program.ensures.program
-    c.new.ensures.tree
+pub returns-in-Ok-clause-tree : goal.returns-in-Ok-clause-tree
+returns-in-Ok-clause-tree g c =
+    subst (λ (p : Program). IfOk c.new.result (λ book. tree_of book.program ≡ tree_of p)) c.program.ensures.program c.new.ensures.tree
 
-pub returns-clause-book : goal.returns-clause-book
-returns-clause-book g c =
+pub returns-in-Ok-clause-book : goal.returns-in-Ok-clause-book
+returns-in-Ok-clause-book g c =
     let lists = ap₂ (λ a b. record { down = a; right = b }) c.in_ok-orders.ensures.down.identity c.in_ok-orders.ensures.right.identity in
     subst (λ (l : ListIdentities). IfOk c.new.result (λ book. book ≡ new_book book.program c.args.input.now c.args.throttle l)) lists
     c.new.ensures.book

@@ -1,6 +1,7 @@
 use Rattle.std.proofs.Common.{◌≡◌, ◌∙◌, ◌<◌, ◌+◌, ◌++◌, ◌∷◌, [], arith, ap, sym, subst, length, List, ℤ, Some, None, IfSome, slice_index_or}
-use Rattle.std.proofs.lemmas.List.{get_or_default, set-set}
+use Rattle.std.proofs.lemmas.List.{get_or_default}
 use Rattle.pipe_model.specs.declared.event.Event.TheVariants as events
+use Rattle.serial_elision.proofs.Results.{map_ok}
 use Rattle.schedule_play.specs.declared.running_instance.NextAction.TheVariants as actions
 use Rattle.pipe_model.specs.Language.SyntaxTree.{tree_of}
 use Rattle.frame_book.specs.BookStates.{replies_at}
@@ -31,7 +32,7 @@ unreachable-requires g c =
     let i = c.args.iteration in
     let running = ap (λ (x : PlayState). x.running) c.self.view_is in
     let within = slot_within code cells v c.requires.play i c.requires.runs.frame c.requires.runs.is in
-    let slot = c.take.ensures.value ∙ c.index_mut.ensures.value ∙ ap (λ l. slice_index_or l i c.index_mut.result.now) running
+    let slot = c.index_mut.ensures.value ∙ ap (λ l. slice_index_or l i c.index_mut.result.now) running
     ∙ get_or_default v.running i c.index_mut.result.now None within in
     slot_taken code cells v c.requires.play i c.requires.runs (sym slot ∙ c.in_default.is)
 
@@ -43,7 +44,7 @@ access-requires-clause-pending g c =
     let i = c.args.iteration in
     let running = ap (λ (x : PlayState). x.running) c.self.view_is in
     let within = slot_within code cells v c.requires.play i c.requires.runs.frame c.requires.runs.is in
-    let slot = c.take.ensures.value ∙ c.index_mut.ensures.value ∙ ap (λ l. slice_index_or l i c.index_mut.result.now) running
+    let slot = c.index_mut.ensures.value ∙ ap (λ l. slice_index_or l i c.index_mut.result.now) running
     ∙ get_or_default v.running i c.index_mut.result.now None within in
     subst (λ o. IfSome o (λ (h : RunningIterationState). h.next ≡ actions.Access)) (sym slot ∙ c.in-Some.is) c.requires.next
 
@@ -55,7 +56,7 @@ access-requires-clause-instance g c =
     let i = c.args.iteration in
     let running = ap (λ (x : PlayState). x.running) c.self.view_is in
     let within = slot_within code cells v c.requires.play i c.requires.runs.frame c.requires.runs.is in
-    let slot = c.take.ensures.value ∙ c.index_mut.ensures.value ∙ ap (λ l. slice_index_or l i c.index_mut.result.now) running
+    let slot = c.index_mut.ensures.value ∙ ap (λ l. slice_index_or l i c.index_mut.result.now) running
     ∙ get_or_default v.running i c.index_mut.result.now None within in
     let at = fits code cells v c.requires.play i c.requires.runs.frame c.requires.runs.is c.requires.runs.runs c.in-Some.running
     (sym slot ∙ c.in-Some.is) in (
@@ -67,20 +68,8 @@ access-requires-clause-instance g c =
       ),
     )
 
-pub index_mut-requires-2 : goal.index_mut-requires-2
-index_mut-requires-2 g c =
-    let code = g.B.PlayedCode.code in
-    let cells = g.B.PlayedCode.cells in
-    let v = c.args.self.now in
-    let i = c.args.iteration in
-    let long = c.self.inside.running.ok.0 in
-    let same = ap (λ (x : PlayState). length x.running) c.self.view_is in
-    let within = slot_within code cells v c.requires.play i c.requires.runs.frame c.requires.runs.is in
-    let here : i < c.self.inside.running.len = omega (arith, long, same, within) in
-    here
-
-pub returns-clause-play : goal.returns-clause-play
-returns-clause-play g c =
+pub returns-in-Ok-clause-play : goal.returns-in-Ok-clause-play
+returns-in-Ok-clause-play g c =
     let code = g.B.PlayedCode.code in
     let cells = g.B.PlayedCode.cells in
     let inside = c.self.inside in
@@ -97,20 +86,20 @@ returns-clause-play g c =
     let runs = subst (λ (x : PlayState). IsRunning (run_state x) i) (sym c.self.view_is) c.requires.runs in
     let within = slot_within code cells w h i runs.frame runs.is in
     let kept = sym (get_or_default inside.running.items i c.index_mut.result.now None within)
-    ∙ sym (c.take.ensures.value ∙ c.index_mut.ensures.value) ∙ c.in-Some.is in
+    ∙ sym c.index_mut.ensures.value ∙ c.in-Some.is in
     let input = c.requires.input ∙ ap (λ (x : PlayState). x.book.input) (sym c.self.view_is) in
-    let ensured = c.in_ok-access.ensures in
+    let ensured = c.in-Ok.ensures in
     let ticket = c.len.ensures in
-    let made = access_made code cells w h i runs c.in-Some.running kept c.args.input.now input c.in_ok-access.access c.access.new.self
+    let made = access_made code cells w h i runs c.in-Some.running kept c.args.input.now input c.in-Ok.access c.access.new.self
     c.access.new.cells
     ensured.instance ensured.event (subst (λ n. c.access.new.self.token ≡ record c.in-Some.running.token { now = n + 1 }) ticket
     ensured.fields)
-    (subst (λ n. c.access.new.self.trace ≡ c.in-Some.running.trace ++ record { ticket = n + 1; access = c.in_ok-access.access } ∷ [])
+    (subst (λ n. c.access.new.self.trace ≡ c.in-Some.running.trace ++ record { ticket = n + 1; access = c.in-Ok.access } ∷ [])
     ticket ensured.trace) ensured.state ensured.shard in
-    rw (set-set inside.running.items i c.take.new.self (Some c.access.new.self), c.in_ok-push.ensures.ok) made.1
+    map_ok c.append.result c.append.ensures (λ u appended. rw appended made.1)
 
-pub returns-clause-event : goal.returns-clause-event
-returns-clause-event g c = λ e next.
+pub returns-in-Ok-clause-event : goal.returns-in-Ok-clause-event
+returns-in-Ok-clause-event g c = map_ok c.append.result c.append.ensures (λ u appended e next.
     let code = g.B.PlayedCode.code in
     let cells = g.B.PlayedCode.cells in
     let inside = c.self.inside in
@@ -127,16 +116,16 @@ returns-clause-event g c = λ e next.
     let runs = subst (λ (x : PlayState). IsRunning (run_state x) i) (sym c.self.view_is) c.requires.runs in
     let within = slot_within code cells w h i runs.frame runs.is in
     let kept = sym (get_or_default inside.running.items i c.index_mut.result.now None within)
-    ∙ sym (c.take.ensures.value ∙ c.index_mut.ensures.value) ∙ c.in-Some.is in
+    ∙ sym c.index_mut.ensures.value ∙ c.in-Some.is in
     let input = c.requires.input ∙ ap (λ (x : PlayState). x.book.input) (sym c.self.view_is) in
-    let ensured = c.in_ok-access.ensures in
+    let ensured = c.in-Ok.ensures in
     let ticket = c.len.ensures in
-    let made = access_made code cells w h i runs c.in-Some.running kept c.args.input.now input c.in_ok-access.access c.access.new.self
+    let made = access_made code cells w h i runs c.in-Some.running kept c.args.input.now input c.in-Ok.access c.access.new.self
     c.access.new.cells
     ensured.instance ensured.event (subst (λ n. c.access.new.self.token ≡ record c.in-Some.running.token { now = n + 1 }) ticket
     ensured.fields)
-    (subst (λ n. c.access.new.self.trace ≡ c.in-Some.running.trace ++ record { ticket = n + 1; access = c.in_ok-access.access } ∷ [])
+    (subst (λ n. c.access.new.self.trace ≡ c.in-Some.running.trace ++ record { ticket = n + 1; access = c.in-Ok.access } ∷ [])
     ticket ensured.trace) ensured.state ensured.shard in
     let there = subst (λ (x : PlayState). next_event (pipeline_played x) (run_state x) i ≡ Some e) (sym c.self.view_is) next in
-    let same : events.Access i c.in_ok-access.access ≡ e = (let q = sym made.0 ∙ there in cc) in
-    c.in_ok-push.ensures.ok ∙ (ap (λ x. inside.events ++ x ∷ []) same ∙ ap (λ (x : PlayState). x.events ++ e ∷ []) c.self.view_is)
+    let same : events.Access i c.in-Ok.access ≡ e = (let q = sym made.0 ∙ there in cc) in
+    appended ∙ (ap (λ x. inside.events ++ x ∷ []) same ∙ ap (λ (x : PlayState). x.events ++ e ∷ []) c.self.view_is))

@@ -4,6 +4,7 @@ use Rattle.pipe_model.specs.declared.event.Event.TheVariants as events
 use Rattle.pipe_model.specs.Runs.NextEvents.{next_begin}
 use Rattle.frame_book.specs.BookStates.{BookState, state_of}
 use Rattle.frame_book.specs.GivenTokens.{IsGivenBy}
+use Rattle.serial_elision.proofs.Results.{map_ok}
 use Rattle.schedule_play.specs.Runners.{IsAtInstance, no_tie}
 use Rattle.schedule_play.specs.PlayStates.{IsPlay, PlayState, run_state}
 use Rattle.schedule_play.proofs.Playing.Begins.{begin_fits, begin_possible, begun_made}
@@ -57,10 +58,11 @@ returns-clause-play g c =
     given.payload.ready c.new-running.result
     ensured.fields ensured.empty c.args.input.now input ensured.instance c.begin-2.new.self c.begin-2.ensures.schedule
     c.begin-2.ensures.limit in
-    rw (c.in-Started.ensures.book, c.in_ok-push.ensures.items, c.in_ok-push-2.ensures.ok) made.1
+    map_ok c.append.result c.append.ensures (λ u appended.
+    rw (c.in-Started.ensures.book, c.push_reserved.ensures.items, c.in_ok-reserve.ensures.items, appended) made.1)
 
 pub returns-clause-event : goal.returns-clause-event
-returns-clause-event g c = λ e is.
+returns-clause-event g c = map_ok c.append.result c.append.ensures (λ u appended e is.
     let code = g.B.PlayedCode.code in
     let cells = g.B.PlayedCode.cells in
     let inside = c.self.inside in
@@ -86,4 +88,4 @@ returns-clause-event g c = λ e is.
     c.begin-2.ensures.limit in
     let one : Some c.requires.next.0 ≡ Some e = sym c.requires.next.1 ∙ is in
     let same : events.Begin token.iteration ≡ e = (let q = made.0 in cc) in
-    c.in_ok-push-2.ensures.ok ∙ (ap (λ x. inside.events ++ x ∷ []) same ∙ ap (λ (x : PlayState). x.events ++ e ∷ []) c.self.view_is)
+    appended ∙ (ap (λ x. inside.events ++ x ∷ []) same ∙ ap (λ (x : PlayState). x.events ++ e ∷ []) c.self.view_is))

@@ -3,6 +3,7 @@ use Rattle.std.proofs.lemmas.List.{get_or_default}
 use Rattle.pipe_model.specs.Language.SyntaxTree.{tree_of}
 use Rattle.frame_book.specs.BookStates.{item_or, replies_at}
 use Rattle.frame_book.specs.GivenTokens.{IsOutOf}
+use Rattle.serial_elision.proofs.Results.{map_ok}
 use Rattle.schedule_play.specs.declared.running_instance.NextAction.TheVariants as actions
 use Rattle.schedule_play.specs.RunningIterations.{RunningIterationState, IsRunningIteration}
 use Rattle.pipe_model.specs.Runs.Allowed.{IsRunning}
@@ -105,10 +106,10 @@ returns-clause-play g c =
     let made = end_made code cells w h i runs c.in-Some.running kept c.args.end at c.end.result c.end.ensures.returned
     c.end_instance-event.result ensured.event
     c.end_instance-event.new.self ensured.schedule ensured.limit in
-    rw (c.take.ensures.after, c.end.ensures.book, c.in_ok-push.ensures.ok) made.1
+    map_ok c.append.result c.append.ensures (λ u appended. rw (c.take.ensures.after, c.end.ensures.book, appended) made.1)
 
 pub returns-clause-event : goal.returns-clause-event
-returns-clause-event g c = λ e next.
+returns-clause-event g c = map_ok c.append.result c.append.ensures (λ u appended e next.
     let code = g.B.PlayedCode.code in
     let cells = g.B.PlayedCode.cells in
     let inside = c.self.inside in
@@ -135,4 +136,4 @@ returns-clause-event g c = λ e next.
     c.end_instance-event.new.self ensured.schedule ensured.limit in
     let there = subst (λ (x : PlayState). next_event (pipeline_played x) (run_state x) i ≡ Some e) (sym c.self.view_is) next in
     let same : c.end_instance-event.result ≡ e = (let q = sym made.0 ∙ there in cc) in
-    c.in_ok-push.ensures.ok ∙ (ap (λ x. inside.events ++ x ∷ []) same ∙ ap (λ (x : PlayState). x.events ++ e ∷ []) c.self.view_is)
+    appended ∙ (ap (λ x. inside.events ++ x ∷ []) same ∙ ap (λ (x : PlayState). x.events ++ e ∷ []) c.self.view_is))
