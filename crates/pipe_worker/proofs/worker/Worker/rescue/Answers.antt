@@ -1,13 +1,5 @@
-use Rattle.std.proofs.Common.{◌∙◌, subst}
-use Rattle.pipe_frame.specs.SeatedTokens.{IsGivenToken}
+use Rattle.std.proofs.Common.{◌∙◌}
 use Rattle.pipe_worker.proofs.worker.Worker.rescue.Goals as goal
-
-pub run-requires-clause-named : goal.run-requires-clause-named
-run-requires-clause-named g c = c.rescue.ensures.named ∙ c.requires.named
-
-pub run-requires-clause-given : goal.run-requires-clause-given
-run-requires-clause-given g c =
-    subst (λ h. IsGivenToken g.M.Stands.ready_at g.M.Stands.tie h c.in-Token.token) c.requires.named c.in-Token.ensures.token
 
 pub begin-requires-clause-named : goal.begin-requires-clause-named
 begin-requires-clause-named g c = c.rescue.ensures.named ∙ c.requires.named

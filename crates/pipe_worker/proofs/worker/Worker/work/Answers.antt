@@ -75,24 +75,6 @@ loop-preserved-in-Worked g c =
           c.rescue.ensures.tokens;
     }
 
-pub loop-preserved-in-Nothing : goal.loop-preserved-in-Nothing
-loop-preserved-in-Nothing g c =
-    let counts = g.H.Hall.tokens in
-    record {
-      named = c.rescue.ensures.named;
-      worker = same_then c.args.self.now c.take_task.new.self c.rescue.new.self
-          (same_then c.args.self.now c.loop.self c.take_task.new.self c.loop.invariant.worker c.take_task.ensures.worker)
-          c.rescue.ensures.worker;
-      tokens = then_keeps g.Q.WorkTest.weight 0 0 0 (counts c.args.hall.now) (counts c.loop.hall) (counts c.rescue.new.hall)
-          (ends_of c.args.self.now) (ends_of c.take_task.new.self) (ends_of c.rescue.new.self)
-          (then_keeps g.Q.WorkTest.weight 0 0 0 (counts c.args.hall.now) (counts c.loop.hall) (counts c.loop.hall)
-          (ends_of c.args.self.now) (ends_of c.loop.self) (ends_of c.take_task.new.self) c.loop.invariant.tokens
-          (take_keeps g.Q.WorkTest.weight 0 0 (counts c.loop.hall) (ends_of c.loop.self) (ends_of c.take_task.new.self)
-          (subst (λ r. TakesTokens g.Q.WorkTest.weight (tokens_taken r) (ends_of c.loop.self) (ends_of c.take_task.new.self))
-          c.in_default.is c.take_task.ensures.tokens)))
-          c.rescue.ensures.tokens;
-    }
-
 pub returns-in-Over-clause-named : goal.returns-in-Over-clause-named
 returns-in-Over-clause-named g c = c.rescue.ensures.named
 
