@@ -92,11 +92,13 @@ invariant_of-self g c =
     (sym c.self.view_is) c.requires.performs) in
     let whole = subst (λ v. g.M.Stands.whole (tree_of v.program) t.payload) (sym c.self.view_is) c.requires.whole in
     let names = subst (λ v. BelongsTo (g.M.Stands.tie t.payload) v.lists) (sym c.self.view_is) c.requires.belongs in
-    let same = finished_tables g.M.Stands.whole g.M.Stands.ready_at g.M.Stands.tie (tables_of c.self.inside) t c.index_mut-row.result.now c.args.end
+    let same = finished_tables g.M.Stands.whole g.M.Stands.ready_at g.M.Stands.tie (tables_of c.self.inside) t
+    c.index_mut-row.result.now c.args.end
     c.closes-shut.result c.args.trace c.self.invariant.0 at go out per whole names c.closes-shut.ensures c.end.ensures c.stamp.ensures.log
     c.give.ensures c.either-self-inside.ensures in (
       subst (IsBook g.M.Stands.whole g.M.Stands.ready_at g.M.Stands.tie) (sym same)
-          (finish_keeps g.M.Stands.whole g.M.Stands.ready_at g.M.Stands.tie (tables_of c.self.inside) t c.index_mut-row.result.now c.args.end
+          (finish_keeps g.M.Stands.whole g.M.Stands.ready_at g.M.Stands.tie (tables_of c.self.inside) t c.index_mut-row.result.now
+          c.args.end
           c.closes-shut.result c.args.trace c.self.invariant.0 at go out per whole names c.closes-shut.ensures),
       alive_out c.self.inside.rows.items _ t.iteration c.index_mut-row.result.now _ _ _ at out.out c.self.invariant.1,
     )
@@ -113,7 +115,8 @@ returns g c =
     (sym c.self.view_is) c.requires.performs) in
     let whole = subst (λ v. g.M.Stands.whole (tree_of v.program) t.payload) (sym c.self.view_is) c.requires.whole in
     let names = subst (λ v. BelongsTo (g.M.Stands.tie t.payload) v.lists) (sym c.self.view_is) c.requires.belongs in
-    let same = finished_tables g.M.Stands.whole g.M.Stands.ready_at g.M.Stands.tie (tables_of c.self.inside) t c.index_mut-row.result.now c.args.end
+    let same = finished_tables g.M.Stands.whole g.M.Stands.ready_at g.M.Stands.tie (tables_of c.self.inside) t
+    c.index_mut-row.result.now c.args.end
     c.closes-shut.result c.args.trace c.self.invariant.0 at go out per whole names c.closes-shut.ensures c.end.ensures c.stamp.ensures.log
     c.give.ensures c.either-self-inside.ensures in
     ap book_state same

@@ -74,7 +74,8 @@ invariant_of-self g c =
     (sym c.self.view_is) c.requires.performs) in
     let pay = subst (λ v. IsPayloadOf g.M.Stands.ready_at g.M.Stands.tie v t.iteration
     (replies_at v t.iteration ++ replies_of c.args.trace ∷ []) t.payload) (sym c.self.view_is) c.requires.payload in
-    let same = named_tables g.M.Stands.whole g.M.Stands.ready_at g.M.Stands.tie (tables_of c.self.inside) t c.index_mut-row.result.now c.args.kind
+    let same = named_tables g.M.Stands.whole g.M.Stands.ready_at g.M.Stands.tie (tables_of c.self.inside) t
+    c.index_mut-row.result.now c.args.kind
     c.args.number c.args.trace c.self.invariant.0 at go out per pay c.suspend.ensures c.stamp.ensures.log
     c.stamp.ensures.ticket (to_z-of_z w64 c.args.number c.ranges.number) in (
       subst (IsBook g.M.Stands.whole g.M.Stands.ready_at g.M.Stands.tie) (sym same)
@@ -95,7 +96,8 @@ returns g c =
     (sym c.self.view_is) c.requires.performs) in
     let pay = subst (λ v. IsPayloadOf g.M.Stands.ready_at g.M.Stands.tie v t.iteration
     (replies_at v t.iteration ++ replies_of c.args.trace ∷ []) t.payload) (sym c.self.view_is) c.requires.payload in
-    let same = named_tables g.M.Stands.whole g.M.Stands.ready_at g.M.Stands.tie (tables_of c.self.inside) t c.index_mut-row.result.now c.args.kind
+    let same = named_tables g.M.Stands.whole g.M.Stands.ready_at g.M.Stands.tie (tables_of c.self.inside) t
+    c.index_mut-row.result.now c.args.kind
     c.args.number c.args.trace c.self.invariant.0 at go out per pay c.suspend.ensures c.stamp.ensures.log
     c.stamp.ensures.ticket (to_z-of_z w64 c.args.number c.ranges.number) in
     ap book_state same
