@@ -5,9 +5,6 @@ use Rattle.hall_table.specs.SeatViews.{constants_of}
 use Rattle.hall_table.specs.Steps.{ViewAndSlots}
 use Rattle.hall_calls.proofs.hall.open_table.Goals as goal
 
-pub new-requires : goal.new-requires
-new-requires g c = c.requires.rule
-
 pub invariant_of-result : goal.invariant_of-result
 invariant_of-result g c = record { sized = (c.in-Ok.ensures.ok.0, c.in-Ok.ensures.ok.1 ∙ c.requires.width) }
 
