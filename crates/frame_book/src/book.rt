@@ -133,9 +133,14 @@ impl<M: Payload<L>, L: ListWriter + Drop> Book<M, L> {
         ensures tree { IfOk result (λ book. tree_of book.program ≡ tree_of program.now) }
         ensures book { IfOk result (λ book. book ≡ new_book book.program input.now throttle (identities_of_orders orders)) }
     {
-        let program = copy_program(alloc, program)?;
-        let input = copy_numbers(alloc, input)?;
-        Book::opened(alloc, program, input, throttle, payloads, orders)
+        match copies(alloc, program, input) {
+            Ok((program, input)) => Book::opened(alloc, program, input, throttle, payloads, orders),
+            Err(refused) => {
+                drop(payloads);
+                drop(orders);
+                Err(refused)
+            }
+        }
     }
 
     // The same, with the program and the input themselves.
@@ -156,21 +161,29 @@ impl<M: Payload<L>, L: ListWriter + Drop> Book<M, L> {
             × (2 * most_instances (tree_of program) < orders.right.capacity) }
         ensures { IfOk result (λ book. book ≡ new_book program input throttle (identities_of_orders orders)) }
     {
-        let rooms = rooms_for(alloc, program.limits)?;
-        Ok(Book {
-            program,
-            input,
-            throttle,
-            rows: rooms.rows,
-            spare: rooms.spare,
-            alive: rooms.alive,
-            pool: Pool::new(payloads),
-            orders,
-            ledger: rooms.ledger,
-            closed: false,
-            stopped: false,
-            reads: 0,
-        })
+        match rooms_for(alloc, program.limits) {
+            Ok(rooms) => Ok(Book {
+                program,
+                input,
+                throttle,
+                rows: rooms.rows,
+                spare: rooms.spare,
+                alive: rooms.alive,
+                pool: Pool::new(payloads),
+                orders,
+                ledger: rooms.ledger,
+                closed: false,
+                stopped: false,
+                reads: 0,
+            }),
+            Err(_) => {
+                drop(program);
+                drop(input);
+                drop(payloads);
+                drop(orders);
+                Err(NoMemory)
+            }
+        }
     }
 
     /// Returns whether the run was stopped.
@@ -218,7 +231,25 @@ impl<M: Payload<L>, L: ListWriter + Drop> Book<M, L> {
         ensures performs { (i : ℕ) → Performs ((pipeline_in self).behaviour i) (actions_at self i) }
         ensures out { (state_of self).stopped ≡ false → (i : ℕ) → IsOut self i → IsRunning (state_of self) i }
     {
-        self.ledger.into_log()
+        let Book {
+            program,
+            input,
+            rows,
+            spare,
+            alive,
+            pool,
+            orders,
+            ledger,
+            ..
+        } = self;
+        drop(program);
+        drop(input);
+        drop(rows);
+        drop(spare);
+        drop(alive);
+        drop(pool);
+        drop(orders);
+        ledger.into_log()
     }
 
     /// Stops the run: the event `Stop`, if it was not stopped before.
@@ -579,6 +610,15 @@ impl<M: Payload<L>, L: ListWriter + Drop> Book<M, L> {
     {
         self.ledger.raise_last(least);
     }
+}
+
+// Copies a program and its input.
+fn copies(alloc: Global, program: &Program, input: &Numbers) -> Result<(Program, Numbers), NoMemory>
+    ensures program { IfOk result (λ copies. tree_of copies.0 ≡ tree_of program.now) }
+    ensures input { IfOk result (λ copies. copies.1 ≡ input.now) }
+{
+    let input = copy_numbers(alloc, input)?;
+    Ok((copy_program(alloc, program)?, input))
 }
 
 // Returns whether an iteration closes the loop if its instance `index` has this end.

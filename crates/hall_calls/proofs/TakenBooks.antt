@@ -1,5 +1,5 @@
 -- A worker that has taken the book, and gives it back after a call.
-use Rattle.std.proofs.Common.{◌≡◌, List, [], ◌∷◌, ◌++◌, refl, sym, ap, ◌∙◌, subst, Option, Some, None, append-nil}
+use Rattle.std.proofs.Common.{◌≡◌, List, [], ◌∷◌, ◌++◌, refl, sym, ap, ap₂, ◌∙◌, subst, Option, Some, None, append-nil}
 use Rattle.atomic_table.specs.Seated.{TableId}
 use Rattle.pipe_model.specs.declared.event.Event.{Event}
 use Rattle.pipe_model.specs.declared.stage.StageEnd.{StageEnd}
@@ -10,6 +10,7 @@ use Rattle.pipe_model.specs.Runs.State.{State}
 use Rattle.pipe_frame.specs.CallResults.{AdvanceReturns, advance_events, begin_events, rescue_events}
 use Rattle.pipe_frame.specs.HallViews.{BeginsWith, Sees}
 use Rattle.pipe_frame.specs.ResultTokens.{IfGo, IfStarted, IfToken}
+use Rattle.pipe_frame.specs.RunningTokens.{IsTokenOf}
 use Rattle.pipe_frame.specs.Ties.{Tie}
 use Rattle.pipe_frame.specs.TokenCounts.{TokenCounts}
 use Rattle.pipe_frame.specs.TokenFields.{TokenFields}
@@ -26,7 +27,7 @@ use Rattle.hall_table.specs.BookCalls.{IsBookCall}
 use Rattle.hall_table.specs.HallRule.{view_of}
 use Rattle.hall_table.specs.SeatViews.{HallConstants, InstanceData, TheBook, constants_of}
 use Rattle.hall_table.specs.Steps.{BookSnapshot, ViewAndSlots, after_book, holding, worker_seat}
-use Rattle.hall_table.specs.WorkerSeats.{HasTaken, HoldsBook, IsDataOf, IsIdle, StaysIdle, counts_with, name_of}
+use Rattle.hall_table.specs.WorkerSeats.{HasTaken, HoldsBook, IsDataOf, IsIdle, StaysIdle, counts_with, hall_of, name_of}
 use Rattle.hall_table.specs.declared.slot.Slot.TheVariants as slots
 use Rattle.hall_calls.proofs.BookCalls.{events_stamped, unchanged_call}
 use Rattle.hall_calls.proofs.EndingCalls.{ends_not_stopped, finishes, holds_back, waits_not_stopped}
@@ -87,6 +88,9 @@ module _ (M : Type 0) (m n : ViewAndSlots M) (b : BookState) (back : Option Inst
   pub seen_after : z.0.it.seen ≡ events_of c.log
   seen_after = ap (λ (x : ViewAndSlots M). x.0.it.seen) given
 
+  pub runs_after : (f : TokenFields) → IsTokenOf (events_of c.log) f → IsTokenOf z.0.it.seen f
+  runs_after f r = subst (λ es. IsTokenOf es f) (sym seen_after) r
+
   pub stays_idle : constants_of c ≡ constants_of b → ControlRun c.limit (events_of c.log) (state_of c) → StaysIdle m z
   stays_idle same control =
       let knows : z.0.it.constants ≡ Some (constants_of b) = ap (λ (x : ViewAndSlots M). x.0.it.constants) given ∙ h.knows in
@@ -112,6 +116,14 @@ pub name_is : {M : Type 0} (id : TableId) (m n : ViewAndSlots M) (b : BookState)
     → name_of id m.0.it.constants ≡ name_of id (Some (constants_of b))
 name_is id m n b back h = ap (name_of id) h.knew
 
+-- a seat that has taken the book is of the same hall, and knows the constants of the book after a call
+module _ {M : Type 0} (m n : ViewAndSlots M) (b : BookState) (back : Option InstanceData) (h : HasTaken m n b back) where
+  pub hall_is : (id id' : TableId) → id' ≡ id → hall_of id' n ≡ hall_of id m
+  hall_is id id' own = ap₂ name_of own (h.knows ∙ sym h.knew)
+
+  pub knows_after : (c : BookState) → constants_of c ≡ constants_of b → n.0.it.constants ≡ Some (constants_of c)
+  knows_after c same = h.knows ∙ ap (λ x. Some x) (sym same)
+
 -- ---- results without a token
 
 -- nothing has begun
@@ -120,7 +132,7 @@ pub record NothingBegun {M : Type 0} (b c : BookState) (r : Begun M) : Type 0 wh
   pub constants : constants_of c ≡ constants_of b
   pub adds : events_of c.log ≡ events_of b.log ++ begin_events r
 
-same_events : (b c : BookState) → c ≡ b → events_of c.log ≡ events_of b.log ++ []
+pub same_events : (b c : BookState) → c ≡ b → events_of c.log ≡ events_of b.log ++ []
 same_events b c e = ap (λ (x : BookState). events_of x.log) e ∙ sym (append-nil (events_of b.log))
 
 pub unchanged : (b c : BookState) → c ≡ b → IsBookCall b None c None

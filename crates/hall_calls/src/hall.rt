@@ -5,7 +5,9 @@ ghost use Rattle.frame_book.specs.NewBooks.{new_book};
 ghost use Rattle.pipe_model.specs.Language.SyntaxTree.{tree_of};
 ghost use Rattle.pipe_frame.specs.TokenCounts.{no_tokens};
 ghost use Rattle.hall_calls.specs.Closing.{shard_in};
-ghost use Rattle.hall_table.specs.HallRule.{place, stride};
+ghost use Rattle.atomic_table.specs.Table.{opening};
+ghost use Rattle.hall_table.specs.HallRule.{IsHall, first_view, place, stride, width};
+ghost use Rattle.hall_table.specs.Openings.{start_in};
 ghost use Rattle.hall_calls.specs.NewShards.{IsNewShard, shard_slots, spaced};
 ghost use Rattle.hall_shards.specs.ShardValues.{ShardValue};
 ghost use Rattle.hall_table.specs.SeatViews.{constants_of};
@@ -123,6 +125,73 @@ fn add_shards<M: Carrier>(
     Ok(())
 }
 
+// Returns the slot of the book, in a vector with room for the slots of all locks.
+fn book_slots<M: Carrier>(alloc: Global, book: Book<M, OmWriter>) -> Result<Vec<Slot<M>>, NoMemory>
+    ensures items { IfOk result (λ slots. slots.items ≡ spaced (Slot.Book book)) }
+    ensures room { IfOk result (λ slots. vec_capacity slots ≡ width) }
+{
+    let kept = Kept::boxed(alloc, book)?;
+    match Vec::with_capacity(alloc, FREE.len()) {
+        Ok(mut slots) => {
+            push_slot(&mut slots, Slot::Book(kept));
+            Ok(slots)
+        }
+        Err(_) => {
+            drop(kept);
+            Err(NoMemory)
+        }
+    }
+}
+
+// Returns the slots of a new hall.
+fn first_slots<M: Carrier>(
+    alloc: Global,
+    book: Book<M, OmWriter>,
+    checked: &Checked,
+    before: &Accesses,
+    passes: &mut TwoPasses,
+) -> Result<Vec<Slot<M>>, NoMemory>
+    ensures { IfOk result (λ slots. (xs : List ShardValue) × (slots.items ≡ spaced (Slot.Book book) ++ shard_slots xs)
+        × (length xs ≡ 16) × ((k : ℕ) → k < 16 → IsNewShard before.now (tree_of checked.now) passes.old k (shard_in xs k))) }
+{
+    let mut slots = book_slots(alloc, book)?;
+    match add_shards(alloc, checked, before, passes, &mut slots) {
+        Ok(()) => Ok(slots),
+        Err(refused) => {
+            drop(slots);
+            Err(refused)
+        }
+    }
+}
+
+// Opens the table of a hall with these slots.
+fn open_table<M: Carrier>(
+    alloc: Global,
+    slots: Vec<Slot<M>>,
+    about: &Opening<M>,
+) -> Result<(HallOf<M>, HallKey<M>), NoMemory>
+    requires width { length slots.items ≡ width }
+    requires rule { IsHall (start_in about.now) (opening (replicate width 0) slots.items (first_view (start_in about.now))) }
+    ensures constants { IfOk result (λ opened. opened.0.hall.constants ≡ Some (constants_of about.now.book.value)) }
+    ensures before { IfOk result (λ opened. opened.0.before ≡ about.now.before.value) }
+    ensures key { IfOk result (λ opened. opened.1.hall ≡ opened.0.hall) }
+    ensures seen { IfOk result (λ opened. opened.1.seen ≡ []) }
+    ensures tokens { IfOk result (λ opened. opened.1.tokens ≡ no_tokens) }
+{
+    match Table::new(alloc, &FREE, slots, about) {
+        Ok((table, seat)) => Ok((
+            HallOf {
+                locks: Locks { table },
+            },
+            HallKey { seat },
+        )),
+        Err(refused) => {
+            drop(refused);
+            Err(NoMemory)
+        }
+    }
+}
+
 /// Opens a hall of a book without events, and returns it with the seat of its first worker. The cells
 /// are those after the accesses `before`. The passes must be of the book's order lists, which must
 /// have identities. Returns an error only if memory runs out.
@@ -147,21 +216,11 @@ pub fn hall_after<M: Carrier>(
         book: Snapshot::of(&book),
         before: Snapshot::of(before),
     };
-    let kept = Kept::boxed(alloc, book)?;
-    let mut slots = Vec::with_capacity(alloc, FREE.len())?;
-    push_slot(&mut slots, Slot::Book(kept));
-    add_shards(alloc, checked, before, &mut passes, &mut slots)?;
-    match Table::new(alloc, &FREE, slots, &opening) {
-        Ok((table, seat)) => Ok((
-            HallOf {
-                locks: Locks { table },
-            },
-            HallKey { seat },
-        )),
-        Err(refused) => {
-            drop(refused);
-            Err(NoMemory)
-        }
+    let slots = first_slots(alloc, book, checked, before, &mut passes);
+    drop(passes);
+    match slots {
+        Ok(slots) => open_table(alloc, slots, &opening),
+        Err(refused) => Err(refused),
     }
 }
 

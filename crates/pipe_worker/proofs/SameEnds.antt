@@ -2,6 +2,8 @@
 use Rattle.std.proofs.Common.{◌∙◌}
 use Rattle.work_deques.specs.WorkerEnds.{SameDeques}
 use Rattle.work_deques.specs.declared.ends.Ends.{Ends}
+use Rattle.pipe_worker.specs.Workers.{IsSameWorker, ends_of}
+use Rattle.pipe_worker.specs.declared.worker.Worker.{Worker}
 
 pub then_same : {T Q : Type 0} (u v w : Ends T Q) → SameDeques u v → SameDeques v w → SameDeques u w
 then_same u v w h k = record {
@@ -9,4 +11,10 @@ then_same u v w h k = record {
   fronts = k.fronts ∙ h.fronts;
   own_parts = k.own_parts ∙ h.own_parts;
   front_parts = k.front_parts ∙ h.front_parts;
+}
+
+pub same_then : {M Q : Type 0} (u v w : Worker M Q) → IsSameWorker u v → IsSameWorker v w → IsSameWorker u w
+same_then u v w h k = record {
+  number = k.number ∙ h.number;
+  deques = then_same (ends_of u) (ends_of v) (ends_of w) h.deques k.deques;
 }

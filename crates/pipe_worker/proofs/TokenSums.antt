@@ -3,9 +3,9 @@ use Rattle.std.proofs.Common.{◌≡◌, ◌<◌, ◌+◌, ◌∙◌, ℕ, zero,
 use Rattle.std.proofs.Common.{get_or, length, refl, subst, sum_by, sym}
 use Rattle.std.proofs.lemmas.List.{length-map}
 use Rattle.std.proofs.lemmas.List.Sums.{sum_by-cons, sum_by_push}
-use Rattle.pipe_frame.specs.TokenCounts.{tokens_in}
+use Rattle.pipe_frame.specs.TokenCounts.{Exchanges, TokenCounts, tokens_in}
 use Rattle.pipe_frame.specs.declared.token.Task.{Task}
-use Rattle.pipe_worker.specs.HeldTokens.{TakesTokens, tokens_taken}
+use Rattle.pipe_worker.specs.HeldTokens.{KeepsTokens, TakesTokens, tokens_taken}
 use Rattle.work_deques.specs.WorkerEnds.{front_count, front_tallies, front_tally, own_tally, tally_of_front}
 use Rattle.work_deques.specs.Tallies.{tally, with_taken}
 use Rattle.work_deques.specs.declared.tally.Tally.{Tally}
@@ -110,3 +110,27 @@ module _ {M Q : Type 0} (weight : ℕ → ℕ) (tag : Task M → ℕ) (weighs : 
 pub then_takes : {T Q : Type 0} (weight : ℕ → ℕ) (e f g : Ends T Q) (more : ℕ) → TakesTokens weight 0 e f → TakesTokens weight more f g
     → TakesTokens weight more e g
 then_takes weight e f g more h k = omega (arith, h, k)
+
+-- ---- what a worker keeps, by calls one after the other
+
+pub then_exchanges : (c d k : TokenCounts) → Exchanges 0 0 c d → Exchanges 0 0 d k → Exchanges 0 0 c k
+then_exchanges c d k p q = omega (arith, p, q)
+
+module _ {T Q : Type 0} (weight : ℕ → ℕ) where
+  pub then_keeps : (x y z : ℕ) (c d k : TokenCounts) (e f g : Ends T Q) → KeepsTokens weight x y c e d f → KeepsTokens weight y z d f k g
+      → KeepsTokens weight x z c e k g
+  then_keeps x y z c d k e f g p q = omega (arith, p, q)
+
+  -- a call of the hall
+  pub call_keeps : (given returned : ℕ) (c d : TokenCounts) (e : Ends T Q) → Exchanges given returned c d
+      → KeepsTokens weight returned given c e d e
+  call_keeps given returned c d e p = omega (arith, p)
+
+  -- tasks that were taken, by a worker that holds some tokens
+  pub take_keeps : (held more : ℕ) (c : TokenCounts) (e f : Ends T Q) → TakesTokens weight more e f
+      → KeepsTokens weight held (held + more) c e c f
+  take_keeps held more c e f p = omega (arith, p)
+
+  -- a task that was taken, by a worker that holds none
+  pub task_keeps : (more : ℕ) (c : TokenCounts) (e f : Ends T Q) → TakesTokens weight more e f → KeepsTokens weight 0 more c e c f
+  task_keeps more c e f p = omega (arith, p)

@@ -5,7 +5,7 @@ use Rattle.std.proofs.Common.{All}
 use Rattle.std.proofs.lemmas.Bool.{cases_eq, cases_lt}
 use Rattle.std.proofs.lemmas.List.{map-append, length_push, length-map, get_or_append_left, get_or_push, get_or_past, length-append}
 use Rattle.std.proofs.lemmas.List.Elements.{All-pop}
-use Rattle.order_2d.specs.OrderPairs.{with_start, marks_after, down_taken, right_taken, HasRoom, AreInserted}
+use Rattle.order_2d.specs.OrderPairs.{OrderPair, with_start, marks_after, down_taken, right_taken, HasRoom, AreInserted}
 use Rattle.pipe_model.specs.declared.event.Event.{Event}
 use Rattle.pipe_model.specs.declared.event.Event.TheVariants.{Begin}
 use Rattle.pipe_model.specs.declared.marks.Marks.{Marks}
@@ -47,6 +47,7 @@ use Rattle.pipe_model.specs.Runs.Schedules.{running_in_frames}
 use Rattle.frame_rows.specs.IterationRows.{IterationRow, row_at, head_marks, with_instance}
 use Rattle.frame_book.specs.CallEffects.{identities_of_orders, seen_whole}
 use Rattle.frame_book.specs.Tables.{Tables, book_state, token_state_of}
+use Rattle.frame_book.specs.TicketLog.{Ledger}
 use Rattle.frame_book.specs.GivenTokens.{IsGivenBy}
 use Rattle.frame_book.proofs.Actions.TraceActions.{laid_same}
 use Rattle.frame_book.proofs.BookLogs.AtEvents.{after_event}
@@ -345,6 +346,23 @@ module _ {M : Type 0} {Whole : SyntaxTree → M → Type 0} {ReadyAt : SyntaxTre
     orders = orders h begins;
     ledger = record { log = log; room = b.ledger.room };
   }
+
+  -- tables with its parts are these tables
+  pub begun : {rows' seen : List (IterationRow M)} {room' size' i : ℕ} {y' : IterationRow M} {marks' : Marks} {orders' : OrderPair}
+      {ledger' : Ledger} → rows' ≡ b.rows ++ y' ∷ [] → room' ≡ b.room → y' ≡ with_instance (pos 0) marks' r → seen ≡ b.rows
+      → marks' ≡ marks_after (length b.orders.down.log) (down_taken None (head_marks seen)) (right_taken None (head_marks seen))
+      → orders' ≡ with_start b.orders (down_taken None (head_marks seen)) (right_taken None (head_marks seen))
+      → ledger' ≡ record { log = with_events b.ledger.log 0 (Begin i ∷ []); room = b.ledger.room } → i ≡ length b.rows
+      → size' ≡ b.pool.size
+      → record b {
+        rows = rows';
+        room = room';
+        spare = spare;
+        pool = record { home = home; size = size' };
+        orders = orders';
+        ledger = ledger';
+      } ≡ with_begin
+  begun er em ey es ek eo el ei ez = rw (er, em, ey, ek, eo, es, el, ei, ez) refl
 
   p : Pipeline
   p = pipeline_of (tree_of b.program) b.input

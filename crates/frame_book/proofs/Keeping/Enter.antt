@@ -8,7 +8,7 @@ use Rattle.std.proofs.lemmas.List.{map-append, map-set, length_push, length-map,
 use Rattle.std.proofs.lemmas.List.{get_or-set_same, get_or-set_other, length-append}
 use Rattle.std.specs.Option.{unwrap_or}
 use Rattle.left_parent.specs.LastNumber.{IsLastUpTo}
-use Rattle.order_2d.specs.OrderPairs.{with_start, marks_after, down_taken, right_taken, HasRoom, AreInserted}
+use Rattle.order_2d.specs.OrderPairs.{OrderPair, with_start, marks_after, down_taken, right_taken, HasRoom, AreInserted}
 use Rattle.pipe_model.specs.declared.event.Event.{Event}
 use Rattle.pipe_model.specs.declared.event.Event.TheVariants.{Enter}
 use Rattle.pipe_model.specs.declared.marks.Marks.{Marks}
@@ -51,6 +51,7 @@ use Rattle.frame_rows.specs.IterationRows.{IterationRow, row_at, with_instance, 
 use Rattle.frame_rows.specs.IterationRows.{IsSearchable, WaitsAt}
 use Rattle.frame_book.specs.CallEffects.{identities_of_orders, seen_whole, with_entered, kept_folded}
 use Rattle.frame_book.specs.Tables.{Tables, book_state, token_state_of, token_state_by}
+use Rattle.frame_book.specs.TicketLog.{Ledger}
 use Rattle.frame_book.specs.GivenTokens.{IsGivenBy}
 use Rattle.frame_book.proofs.BookLogs.AtEvents.{after_event}
 use Rattle.frame_book.proofs.Conditions.MayEnter.{may_as}
@@ -436,6 +437,18 @@ module _ {M : Type 0} {Whole : SyntaxTree → M → Type 0} {ReadyAt : SyntaxTre
         ledger =
             record { log = log; room = b.ledger.room };
       }
+
+      -- tables with its parts are these tables
+      pub entered_tables : {rows' seen : List (IterationRow M)} {again y' : IterationRow M} {marks' : Marks} {number' : ℤ}
+          {orders' : OrderPair} {ledger' : Ledger} → rows' ≡ set b.rows i y' → y' ≡ with_instance number' marks' again → again ≡ r0
+          → number' ≡ may.number → seen ≡ rows
+          → marks' ≡ marks_after (length b.orders.down.log) (down_taken (Some (marks_at seen i t.index)) (left_marks seen i left))
+          (right_taken (Some (marks_at seen i t.index)) (left_marks seen i left))
+          → orders' ≡ with_start b.orders (down_taken (Some (marks_at seen i t.index)) (left_marks seen i left))
+          (right_taken (Some (marks_at seen i t.index)) (left_marks seen i left))
+          → ledger' ≡ record { log = with_events b.ledger.log t.now (Enter i ∷ []); room = b.ledger.room }
+          → record b { rows = rows'; orders = orders'; ledger = ledger' } ≡ with_enter
+      entered_tables er ey ea en es ek eo el = rw (er, ey, ek, ea, en, es, eo, es, el) refl
 
       new_row_matches : IsRowOf (not c.stopped) (u f) y
       new_row_matches = subst (λ g. IsRowOf (not c.stopped) g y) (sym entered) (record {

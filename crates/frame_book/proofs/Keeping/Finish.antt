@@ -41,6 +41,8 @@ use Rattle.pipe_model.specs.declared.column.ColumnEnd.{ColumnEnd}
 use Rattle.frame_book.proofs.Keeping.Name.{running_set, left_passed_moved}
 use Rattle.frame_book.specs.CallEffects.{identities_of_orders, with_finished}
 use Rattle.frame_book.specs.Tables.{Tables, book_state, token_state_of, token_state_by}
+use Rattle.throttle.specs.Stock.{Stock}
+use Rattle.frame_book.specs.TicketLog.{Ledger}
 use Rattle.frame_book.specs.GivenTokens.{IsOutOf}
 use Rattle.frame_book.proofs.Actions.TraceActions.{actions_more, actions_other, counted_more}
 use Rattle.frame_book.proofs.BookLogs.AtEvents.{after_event}
@@ -162,6 +164,13 @@ module _ {M : Type 0} (Whole : SyntaxTree → M → Type 0) (ReadyAt : SyntaxTre
         record { log = with_events b.ledger.log t.now (Finish t.iteration x ∷ []); room = b.ledger.room };
     rows = set b.rows t.iteration row;
   }
+
+  -- tables with its parts are these tables
+  pub finished_tables : {y' : IterationRow M} {ledger' : Ledger} {pool' : Stock M} {closed' : Bool} → y' ≡ row
+      → ledger' ≡ record { log = with_events b.ledger.log t.now (Finish t.iteration x ∷ []); room = b.ledger.room }
+      → pool' ≡ record { home = b.pool.home ++ t.payload ∷ []; size = b.pool.size } → closed' ≡ (b.closed || shut)
+      → record b { closed = closed'; pool = pool'; ledger = ledger'; rows = set b.rows t.iteration y' } ≡ with_finish
+  finished_tables ey el ep ec = rw (ey, el, ep, ec) refl
 
   abbrev pub f : Frame
   f = out.token.running.frame

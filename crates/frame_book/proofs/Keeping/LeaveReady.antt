@@ -1,6 +1,9 @@
 -- A token that is left ready keeps the tables.
 use Rattle.std.proofs.Common.{◌≡◌, ℕ, ℤ, zero, suc, ◌+◌, ◌^◌, ◌<◌, ◌≤◌, List, [], ◌∷◌, length, map, set, get_or, refl, ap, sym, ◌∙◌, arith}
 use Rattle.std.proofs.Common.{subst, not, Option, Some, None, inl, inr, reverse}
+use Rattle.std.proofs.Common.{w64}
+use Rattle.std.proofs.Math.Facts.{Fits-bits}
+use mir.Val.{Fits}
 use Rattle.std.proofs.lemmas.Bool.{cases_eq}
 use Rattle.std.proofs.lemmas.List.{map-set, length-set}
 use Rattle.pipe_model.specs.Pipelines.Pipeline.{Pipeline}
@@ -21,6 +24,7 @@ use Rattle.frame_rows.specs.IterationRows.{IterationRow, row_at}
 use Rattle.frame_book.specs.CallEffects.{after_leave_ready, identities_of_orders}
 use Rattle.pipe_model.specs.Language.Programs.{pipeline_of}
 use Rattle.frame_book.specs.Tables.{Tables, book_state, token_state_of, token_state_by}
+use Rattle.frame_book.proofs.Iterations.SpareRows.{few_rows}
 use Rattle.frame_book.specs.GivenTokens.{IsOutOf, IsPayloadOf}
 use Rattle.frame_rows.proofs.FrameRows.{row_of_frame, row_at_within, row_at_read, token_of_row}
 use Rattle.frame_rows.proofs.ChangedRows.{rows_set_same, token_at_set, token_at_other, map_set_same, map_at, total_set_same}
@@ -41,6 +45,15 @@ pub out_within : {M : Type 0} → (rs : List (IterationRow M)) (i : ℕ) → get
 out_within [] i e = absurd (let q : Spent ≡ Out = e in cc)
 out_within (r ∷ rs) zero e = omega arith
 out_within (r ∷ rs) (suc i) e = let h = out_within rs i e in omega (arith, h)
+
+-- its number is small
+pub out_fits : {M : Type 0} → (p : Pipeline) (rs spare : List (IterationRow M)) (down right log i : ℕ) → IsSized p rs spare down right log
+    → get_or (map token_state_of rs) i Spent ≡ Out → Fits w64 i
+out_fits p rs spare down right log i h out =
+    let w = out_within rs i out in
+    let a = few_rows p rs spare down right log h in
+    let z = h.bounded in
+    Fits-bits 31 tt (omega (arith, w, a, z))
 
 -- the row that was read
 pub out_row_read : {M : Type 0} → (rs : List (IterationRow M)) (i : ℕ) (r : IterationRow M) → get_or (map token_state_of rs) i Spent ≡ Out

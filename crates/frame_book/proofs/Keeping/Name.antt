@@ -40,6 +40,7 @@ use Rattle.pipe_model.specs.Runs.Schedules.{running_in_frames, running_of_status
 use Rattle.frame_rows.specs.IterationRows.{IterationRow, row_at, suspended_row}
 use Rattle.frame_book.specs.CallEffects.{identities_of_orders, with_named}
 use Rattle.frame_book.specs.Tables.{Tables, book_state, token_state_of}
+use Rattle.frame_book.specs.TicketLog.{Ledger}
 use Rattle.frame_book.specs.GivenTokens.{IsOutOf, IsPayloadOf}
 use Rattle.frame_book.proofs.Actions.TraceActions.{actions_more, actions_other, counted_more}
 use Rattle.frame_book.proofs.BookLogs.AtEvents.{after_event}
@@ -152,6 +153,14 @@ module _ {M : Type 0} (Whole : SyntaxTree → M → Type 0) (ReadyAt : SyntaxTre
       ledger = record { log = with_events b.ledger.log t.now (Advance t.iteration k n ∷ []); room = b.ledger.room };
       rows = set b.rows t.iteration row;
     }
+
+    -- tables with its parts are these tables
+    pub named_tables : {y' : IterationRow M} {ledger' : Ledger} {now' : ℕ} {n' : ℤ}
+        → y' ≡ suspended_row trace k n' (record t { now = now' }) r
+        → ledger' ≡ record { log = with_events b.ledger.log t.now (Advance t.iteration k n' ∷ []); room = b.ledger.room }
+        → now' ≡ 1 + max (last_ticket b.ledger.log) t.now → n' ≡ n
+        → record b { ledger = ledger'; rows = set b.rows t.iteration y' } ≡ with_name
+    named_tables ey el et en = rw (ey, el, et, en) refl
 
     abbrev pub f : Frame
     f = out.token.running.frame

@@ -1,4 +1,4 @@
-use Rattle.std.proofs.Common.{◌≡◌, ◌+◌, ◌*◌, ◌∷◌, [], arith, replicate, ap, ap₂, sym, ◌∙◌, w64, rules, to_z, of_z}
+use Rattle.std.proofs.Common.{◌≡◌, ◌+◌, ◌*◌, ◌∷◌, [], replicate, ap, ap₂, ◌∙◌, w64, rules, to_z, of_z}
 use lib.IntN.{nat_abs}
 use mir.Val.{SFits}
 use Rattle.std.proofs.Math.Facts.{Fits-nat_abs}
@@ -6,6 +6,8 @@ use Rattle.std.proofs.lemmas.Int.{to_z-of_z}
 use Rattle.pipe_model.specs.Language.Programs.{natural}
 use Rattle.frame_rows.specs.IterationRows.{empty_row}
 use Rattle.frame_book.proofs.Keeping.New.{abs_is, non_neg_is, fits_small}
+use Rattle.frame_book.proofs.rooms.rooms_for.Given.{Over}
+use Rattle.frame_book.proofs.rooms.rooms_for.Goals.{After-new}
 use Rattle.frame_book.proofs.rooms.rooms_for.Goals as goal
 
 pub overflow_cast-stages : goal.overflow_cast-stages
@@ -64,36 +66,35 @@ overflow_add-instances-2 g c =
     (fits_small (nat_abs (to_z w64 (of_z w64 i)) * nat_abs (to_z w64 (of_z w64 s))) (natural i * natural s)
     (ap₂ (λ a b. a * b) ni ns) c.requires.bounded).4
 
+-- the numbers, as naturals
+module _ (g : Over) (c : After-new g) where
+  iterations_are : nat_abs (to_z w64 (of_z w64 c.args.limits.iterations)) ≡ natural c.args.limits.iterations
+  iterations_are =
+      let fi : SFits w64 c.args.limits.iterations = search rules in
+      ap nat_abs (to_z-of_z w64 c.args.limits.iterations fi) ∙ abs_is c.args.limits.iterations c.requires.iterations
+
+  stages_are : nat_abs (to_z w64 (of_z w64 c.args.limits.stages)) ≡ natural c.args.limits.stages
+  stages_are =
+      let fs : SFits w64 c.args.limits.stages = search rules in
+      ap nat_abs (to_z-of_z w64 c.args.limits.stages fs) ∙ abs_is c.args.limits.stages c.requires.stages
+
 pub returns-clause-rows : goal.returns-clause-rows
 returns-clause-rows g c =
-    let i = c.args.limits.iterations in
-    let fi : SFits w64 i = search rules in
-    let ni : nat_abs (to_z w64 (of_z w64 i)) ≡ natural i = ap nat_abs (to_z-of_z w64 i fi) ∙ abs_is i c.requires.iterations in
-    (c.in_ok-rows.ensures.items, c.in_ok-rows.ensures.exact ∙ ap (λ n. n + 1) ni)
+    let k = (goal.at.returns-clause-rows g c).After-new in
+    (c.in_ok-rows.ensures.items, c.in_ok-rows.ensures.exact ∙ ap (λ n. n + 1) (iterations_are g k))
 
 pub returns-clause-alive : goal.returns-clause-alive
 returns-clause-alive g c =
-    let i = c.args.limits.iterations in
-    let fi : SFits w64 i = search rules in
-    let ni : nat_abs (to_z w64 (of_z w64 i)) ≡ natural i = ap nat_abs (to_z-of_z w64 i fi) ∙ abs_is i c.requires.iterations in
-    (c.in_ok-alive.ensures.items, c.in_ok-alive.ensures.exact ∙ ap (λ n. n + 1) ni)
+    let k = (goal.at.returns-clause-alive g c).After-new in
+    (c.in_ok-alive.ensures.items, c.in_ok-alive.ensures.exact ∙ ap (λ n. n + 1) (iterations_are g k))
 
 pub returns-clause-spare : goal.returns-clause-spare
 returns-clause-spare g c =
-    let i = c.args.limits.iterations in
-    let fi : SFits w64 i = search rules in
-    let ni : nat_abs (to_z w64 (of_z w64 i)) ≡ natural i = ap nat_abs (to_z-of_z w64 i fi) ∙ abs_is i c.requires.iterations in
-    let s = c.args.limits.stages in
-    let fs : SFits w64 s = search rules in
-    let ns : nat_abs (to_z w64 (of_z w64 s)) ≡ natural s = ap nat_abs (to_z-of_z w64 s fs) ∙ abs_is s c.requires.stages in
-    c.in_ok-spare.ensures ∙ ap₂ (λ k z. empty_row 1 ∷ replicate k (empty_row z)) ni ns
+    let k = (goal.at.returns-clause-spare g c).After-new in
+    c.in_ok-spare.ensures ∙ ap₂ (λ k z. empty_row 1 ∷ replicate k (empty_row z)) (iterations_are g k) (stages_are g k)
 
 pub returns-clause-ledger : goal.returns-clause-ledger
 returns-clause-ledger g c =
-    let i = c.args.limits.iterations in
-    let fi : SFits w64 i = search rules in
-    let ni : nat_abs (to_z w64 (of_z w64 i)) ≡ natural i = ap nat_abs (to_z-of_z w64 i fi) ∙ abs_is i c.requires.iterations in
-    let s = c.args.limits.stages in
-    let fs : SFits w64 s = search rules in
-    let ns : nat_abs (to_z w64 (of_z w64 s)) ≡ natural s = ap nat_abs (to_z-of_z w64 s fs) ∙ abs_is s c.requires.stages in
-    c.in_ok-ledger.ensures ∙ ap₂ (λ a b. record { log = []; room = 2 * (a * b + 1) + 1 }) ni ns
+    let k = (goal.at.returns-clause-ledger g c).After-new in
+    c.in_ok-ledger.ensures
+    ∙ ap₂ (λ a b. record { log = []; room = 2 * (a * b + 1) + 1 }) (iterations_are g k) (stages_are g k)

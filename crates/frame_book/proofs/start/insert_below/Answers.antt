@@ -94,3 +94,6 @@ returns-clause-lists g c =
     ] in
     c.start_node.ensures.lists ∙ ap₂ (λ a b. with_start c.args.orders.now (down_taken (Some a) b) (right_taken (Some a) b)) (sym up)
     (sym left)
+
+pub overflow_sub-row : goal.overflow_sub-row
+overflow_sub-row g c = (c.requires.left c.in-Some.parent c.in-Some.is).0

@@ -1,4 +1,5 @@
-use Rattle.std.proofs.Common.{◌≡◌, ◌<◌, ◌-◌, ◌∙◌, arith, length, ap, sym, subst, Some, None}
+use Rattle.std.proofs.Common.{◌≡◌, ◌<◌, ◌-◌, ◌∙◌, ℕ, Bool, true, false, arith, length, ap, sym, subst, Some, None}
+use Rattle.std.specs.Prelude.{◌==◌}
 use Rattle.order_2d.specs.OrderPairs.{AreInserted, marks_after, down_taken, right_taken, with_start}
 use Rattle.pipe_model.specs.Orders.OrderMarks.{start_marks}
 use Rattle.frame_rows.specs.IterationRows.{head_marks}
@@ -6,26 +7,35 @@ use Rattle.frame_rows.proofs.FrameRows.{row_at_read}
 use Rattle.frame_rows.proofs.StartRows.{head_marks_is, head_marks_none}
 use Rattle.frame_book.proofs.start.insert_head.Goals as goal
 
+-- what the test says
+some_rows : (n : ℕ) (b : Bool) → b ≡ (n == 0) → b ≡ false → 0 < n
+some_rows n b e f = grind (arith)
+
+no_rows : (n : ℕ) (b : Bool) → b ≡ (n == 0) → b ≡ true → n ≡ 0
+no_rows n b e t = grind (arith)
+
 pub marks_at-requires : goal.marks_at-requires
 marks_at-requires g c =
-    let some : 0 < length c.args.rows.now = (let t = c.if-is_empty.false in let e = c.is_empty.ensures in grind (arith)) in
+    let some = some_rows (length c.args.rows.now) c.is_empty.result c.is_empty.ensures c.if-is_empty.false in
     c.requires.there c.index-rows-rows.result
     (row_at_read c.args.rows.now (length c.args.rows.now - 1) c.index-rows-rows.result (omega (arith, some)) c.index-rows-rows.is)
 
 pub returns-then-is_empty-clause-marks : goal.returns-then-is_empty-clause-marks
 returns-then-is_empty-clause-marks g c =
-    let none = head_marks_none c.args.rows.now (let t = c.if-is_empty.true in let e = c.is_empty.ensures in grind (arith)) in
+    let none = head_marks_none c.args.rows.now
+    (no_rows (length c.args.rows.now) c.is_empty.result c.is_empty.ensures c.if-is_empty.true) in
     c.start_first.ensures.marks
     ∙ ap (λ o. marks_after (length c.args.orders.now.down.log) (down_taken None o) (right_taken None o)) (sym none)
 
 pub returns-then-is_empty-clause-lists : goal.returns-then-is_empty-clause-lists
 returns-then-is_empty-clause-lists g c =
-    let none = head_marks_none c.args.rows.now (let t = c.if-is_empty.true in let e = c.is_empty.ensures in grind (arith)) in
+    let none = head_marks_none c.args.rows.now
+    (no_rows (length c.args.rows.now) c.is_empty.result c.is_empty.ensures c.if-is_empty.true) in
     c.start_first.ensures.lists ∙ ap (λ o. with_start c.args.orders.now (down_taken None o) (right_taken None o)) (sym none)
 
 pub start_node-requires-clause-inserted : goal.start_node-requires-clause-inserted
 start_node-requires-clause-inserted g c =
-    let some : 0 < length c.args.rows.now = (let t = c.if-is_empty.false in let e = c.is_empty.ensures in grind (arith)) in
+    let some = some_rows (length c.args.rows.now) c.is_empty.result c.is_empty.ensures c.if-is_empty.false in
     let at = row_at_read c.args.rows.now (length c.args.rows.now - 1) c.index-rows-rows.result (omega (arith, some)) c.index-rows-rows.is in
     let m : head_marks c.args.rows.now ≡ Some c.marks_at.result = head_marks_is c.args.rows.now c.index-rows-rows.result at
     ∙ ap Some (sym (c.marks_at.ensures (start_marks 0 0 0))) in
@@ -33,7 +43,7 @@ start_node-requires-clause-inserted g c =
 
 pub returns-clause-marks : goal.returns-clause-marks
 returns-clause-marks g c =
-    let some : 0 < length c.args.rows.now = (let t = c.if-is_empty.false in let e = c.is_empty.ensures in grind (arith)) in
+    let some = some_rows (length c.args.rows.now) c.is_empty.result c.is_empty.ensures c.if-is_empty.false in
     let at = row_at_read c.args.rows.now (length c.args.rows.now - 1) c.index-rows-rows.result (omega (arith, some)) c.index-rows-rows.is in
     let m : head_marks c.args.rows.now ≡ Some c.marks_at.result = head_marks_is c.args.rows.now c.index-rows-rows.result at
     ∙ ap Some (sym (c.marks_at.ensures (start_marks 0 0 0))) in
@@ -42,7 +52,7 @@ returns-clause-marks g c =
 
 pub returns-clause-lists : goal.returns-clause-lists
 returns-clause-lists g c =
-    let some : 0 < length c.args.rows.now = (let t = c.if-is_empty.false in let e = c.is_empty.ensures in grind (arith)) in
+    let some = some_rows (length c.args.rows.now) c.is_empty.result c.is_empty.ensures c.if-is_empty.false in
     let at = row_at_read c.args.rows.now (length c.args.rows.now - 1) c.index-rows-rows.result (omega (arith, some)) c.index-rows-rows.is in
     let m : head_marks c.args.rows.now ≡ Some c.marks_at.result = head_marks_is c.args.rows.now c.index-rows-rows.result at
     ∙ ap Some (sym (c.marks_at.ensures (start_marks 0 0 0))) in

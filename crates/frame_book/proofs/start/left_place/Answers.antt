@@ -4,7 +4,15 @@ use Rattle.left_parent.specs.LastNumber.{AreRising, IsLastUpTo}
 use Rattle.frame_rows.specs.IterationRows.{left_numbers}
 use Rattle.frame_rows.proofs.FrameRows.{row_at_read}
 use Rattle.frame_rows.proofs.StartRows.{if_some_both, left_numbers_is}
+use Rattle.pipe_model.specs.declared.node.Kind.TheVariants.{Wait, Zero, Continue}
 use Rattle.frame_book.proofs.start.left_place.Goals as goal
+
+-- a stage of another kind does not wait
+continue_waits_not : Continue ≡ Wait → ⊥
+continue_waits_not e = cc
+
+zero_waits_not : Zero ≡ Wait → ⊥
+zero_waits_not e = cc
 
 pub find-requires-clause-rising : goal.find-requires-clause-rising
 find-requires-clause-rising g c =
@@ -51,3 +59,12 @@ returns-in-Wait-clause-nothing g c = λ q.
     subst (λ ns. IfNone c.find.result ((j : ℕ) → IsLastUpTo ns j c.args.number → j ≤ c.args.joined)) (sym same)
     (subst (λ z. IfNone c.find.result ((j : ℕ) → IsLastUpTo c.numbers.result.now j z → j ≤ c.args.joined))
     (to_z-of_z w64 c.args.number c.ranges.number) c.find.ensures.none)
+
+pub returns-in-Continue-clause-nothing : goal.returns-in-Continue-clause-nothing
+returns-in-Continue-clause-nothing g c = λ w. absurd (continue_waits_not (sym c.in-Continue.is ∙ w.0))
+
+pub returns-in-Zero-clause-nothing : goal.returns-in-Zero-clause-nothing
+returns-in-Zero-clause-nothing g c = λ w. absurd (zero_waits_not (sym c.in-Zero.is ∙ w.0))
+
+pub returns-in-Wait-clause-none : goal.returns-in-Wait-clause-none
+returns-in-Wait-clause-none g c = λ n. absurd (n (c.in-Wait.is, (let l = c.if-iteration-eq0.false in omega (arith, l))))

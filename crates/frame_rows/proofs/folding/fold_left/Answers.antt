@@ -11,3 +11,9 @@ returns-then-read g c =
     let is = left_counter_is c.args.rows.now c.args.iteration c.index-rows-place.result (λ e. (omega (arith, some, e))) at in
     c.learn.ensures ∙ (ap Some c.counter.ensures ∙ (is
     ∙ ap (λ b. cond b (left_row_counter c.args.rows.now c.args.iteration) c.args.folded.now) (sym c.if-read.true)))
+
+pub overflow_sub-place : goal.overflow_sub-place
+overflow_sub-place g c = c.requires.left c.if-read.true
+
+pub bounds-rows-place : goal.bounds-rows-place
+bounds-rows-place g c = let some = c.requires.left c.if-read.true in let w = c.requires.within in omega (arith, some, w)

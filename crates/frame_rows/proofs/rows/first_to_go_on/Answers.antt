@@ -33,3 +33,7 @@ returns-then-goes_on-clause-some g c = λ going fs h. (
 pub returns-clause-none : goal.returns-clause-none
 returns-clause-none g c = λ going fs h. none_at_all going fs c.args.rows.now c.args.alive.now h c.requires
     (λ m l. (let past = c.loop-iteration-test.false in c.loop-iteration.invariant going fs h m (omega (arith, l, past))))
+
+pub offset_bounds-rows-iteration : goal.offset_bounds-rows-iteration
+offset_bounds-rows-iteration g c =
+    let w = c.requires.begun c.loop-iteration.iteration-index 0 c.loop-iteration-test.true in omega (arith, w)

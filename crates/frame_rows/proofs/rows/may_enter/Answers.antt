@@ -1,9 +1,10 @@
+use Rattle.std.proofs.lemmas.Bool.{false≢true}
 use Rattle.frame_rows.proofs.FrameRows.{row_at_read, free_same, free_past, free_test}
 use Rattle.frame_rows.proofs.rows.may_enter.Goals as goal
 
 pub returns-then-iteration-rows : goal.returns-then-iteration-rows
 returns-then-iteration-rows g c = λ going fs h. (
-  (λ x. absurd (cc)),
+  (λ x. absurd (false≢true x)),
   (λ x. absurd (free_past going fs c.args.rows.now c.args.iteration h c.if-iteration-rows.true x)),
 )
 

@@ -4,14 +4,16 @@ use Rattle.pipe_model.specs.Runs.StageEnds.{stage_end_events}
 use Rattle.pipe_model.specs.declared.event.Event.TheVariants.{Enter}
 use Rattle.pipe_frame.specs.CallResults.{AdvanceReturns, advance_events}
 use Rattle.pipe_frame.specs.HallViews.{Sees}
+use Rattle.pipe_frame.specs.SeatedTokens.{IsGivenToken}
 use Rattle.pipe_frame.specs.TokenFields.{TokenFields, fields_of}
+use Rattle.frame_book.specs.GivenTokens.{IsOutOf}
 use Rattle.pipe_frame.specs.declared.results.Next.TheVariants as nexts
 use Rattle.pipe_frame.specs.declared.token.FrameToken.{FrameToken}
 use Rattle.frame_book.specs.BookStates.{HasRisingTickets, Out, events_of, state_of}
 use Rattle.hall_table.specs.SeatViews.{constants_of}
 use Rattle.hall_calls.proofs.BookCalls.{stopped_later}
 use Rattle.hall_calls.proofs.EndingCalls.{enters_not_stopped, goes_on}
-use Rattle.hall_calls.proofs.TakenBooks.{advanced, ended_without, lent_with, none_goes, sees, stays_idle}
+use Rattle.hall_calls.proofs.TakenBooks.{advanced, ended_without, hall_is, knows_after, lent_with, none_goes, runs_after, sees, stays_idle}
 use Rattle.pipe_frame.specs.TokenCounts.{Exchanges}
 use Rattle.hall_calls.proofs.TokenMoves.{none_next, token_returned, token_given_and_returned}
 use Rattle.hall_calls.proofs.worker.advance_at.Goals as goal
@@ -123,3 +125,40 @@ returns-in-Go-clause-tokens g c =
     c.get_mut-lent.ensures.value c.take_back-book.ensures.taken in
     token_given_and_returned g.row.M.Denot c.args.seat.now.me c.take_back-book.new.seat.me c.return_token.new.seat.me
     c.get_mut-lent.result.now c.advance-next.new.self t.0 t.1 c.return_token.ensures.given
+
+pub advance-next-requires-clause-out : goal.advance-next-requires-clause-out
+advance-next-requires-clause-out g c =
+    let t = lent_with g.row.M.Denot c.args.seat.now.me c.take_back-book.new.seat.me c.take_back-book.result c.get_mut-lent.result.now _ _
+    c.get_mut-lent.ensures.value c.take_back-book.ensures.taken in
+    let same : fields_of c.take_back-book.new.token ≡ fields_of c.args.token =
+    ap (λ (k : FrameToken g.row.M.Denot). fields_of k) c.take_back-book.ensures.token in
+    subst (IsOutOf c.get_mut-lent.result.now) (sym same) t.2.out
+
+pub return_token-requires-clause-own : goal.return_token-requires-clause-own
+return_token-requires-clause-own g c = c.take_back-book.ensures.own ∙ c.requires.own
+
+pub return_token-requires-clause-constants : goal.return_token-requires-clause-constants
+return_token-requires-clause-constants g c =
+    let t = lent_with g.row.M.Denot c.args.seat.now.me c.take_back-book.new.seat.me c.take_back-book.result c.get_mut-lent.result.now _ _
+    c.get_mut-lent.ensures.value c.take_back-book.ensures.taken in
+    knows_after c.args.seat.now.me c.take_back-book.new.seat.me c.get_mut-lent.result.now (Some t.0) t.1 c.advance-next.new.self
+    (ap constants_of c.in-Go.ensures.book)
+
+pub returns-in-Go-clause-own : goal.returns-in-Go-clause-own
+returns-in-Go-clause-own g c = c.return_token.ensures.own ∙ c.take_back-book.ensures.own
+
+pub returns-in-Go-clause-runs : goal.returns-in-Go-clause-runs
+returns-in-Go-clause-runs g c =
+    let t = lent_with g.row.M.Denot c.args.seat.now.me c.take_back-book.new.seat.me c.take_back-book.result c.get_mut-lent.result.now _ _
+    c.get_mut-lent.ensures.value c.take_back-book.ensures.taken in
+    runs_after g.row.M.Denot c.args.seat.now.me c.take_back-book.new.seat.me c.get_mut-lent.result.now (Some t.0) t.1
+    c.return_token.new.seat.me c.advance-next.new.self _ c.return_token.ensures.given
+    (fields_of c.return_token.result) c.return_token.ensures.runs
+
+pub returns-in-Go-clause-token : goal.returns-in-Go-clause-token
+returns-in-Go-clause-token g c =
+    let t = lent_with g.row.M.Denot c.args.seat.now.me c.take_back-book.new.seat.me c.take_back-book.result c.get_mut-lent.result.now _ _
+    c.get_mut-lent.ensures.value c.take_back-book.ensures.taken in
+    subst (λ k. IsGivenToken g.M.Stands.ready_at g.M.Stands.tie k c.return_token.result)
+    (hall_is c.args.seat.now.me c.take_back-book.new.seat.me c.get_mut-lent.result.now (Some t.0) t.1 c.args.seat.now.table_id
+    c.take_back-book.new.seat.table_id c.take_back-book.ensures.own) c.return_token.ensures.token

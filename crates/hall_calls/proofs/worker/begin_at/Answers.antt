@@ -1,12 +1,18 @@
 -- An iteration has begun, or nothing has changed.
-use Rattle.std.proofs.Common.{◌∙◌, sym, ap, subst, None}
+use Rattle.std.proofs.Common.{◌∙◌, [], ◌∷◌, sym, ap, subst, Some, None}
 use Rattle.pipe_frame.specs.CallResults.{BeginReturns, begin_events}
+use Rattle.pipe_frame.specs.HallViews.{Sees}
+use Rattle.pipe_frame.specs.SeatedTokens.{IsGivenToken}
 use Rattle.pipe_frame.specs.Ties.{HallName}
+use Rattle.pipe_frame.specs.declared.results.Begun.TheVariants as begun
+use Rattle.pipe_frame.specs.declared.token.FrameToken.{FrameToken}
+use Rattle.pipe_model.specs.declared.event.Event.TheVariants.{Begin}
+use Rattle.hall_table.specs.WorkerSeats.{name_of}
 use Rattle.pipe_frame.specs.TokenFields.{fields_of}
-use Rattle.frame_book.specs.BookStates.{HasRisingTickets, state_of}
+use Rattle.frame_book.specs.BookStates.{BookState, HasRisingTickets, events_of, state_of}
 use Rattle.hall_table.specs.SeatViews.{constants_of}
-use Rattle.hall_calls.proofs.BookCalls.{begin_call}
-use Rattle.hall_calls.proofs.TakenBooks.{lent_of, name_is, none_started, nothing_begun, sees, stays_idle}
+use Rattle.hall_calls.proofs.BookCalls.{begin_call, events_stamped}
+use Rattle.hall_calls.proofs.TakenBooks.{hall_is, knows_after, lent_of, name_is, none_started, nothing_begun, runs_after, sees, stays_idle}
 use Rattle.pipe_frame.specs.TokenCounts.{Exchanges}
 use Rattle.hall_calls.proofs.TokenMoves.{none_begun, none_moves, token_given}
 use Rattle.hall_calls.proofs.worker.begin_at.Goals as goal
@@ -75,3 +81,52 @@ returns-in-Started-clause-tokens g c =
     token_given g.row.M.Denot c.args.seat.now.me c.take_book-book.new.seat.me c.return_token.new.seat.me c.get_mut-lent.result.now
     c.begin-begun.new.self (lent_of g.row.M.Denot c.args.seat.now.me c.take_book-book.new.seat.me c.take_book-book.result
     c.get_mut-lent.result.now None c.get_mut-lent.ensures.value c.take_book-book.ensures.taken) c.return_token.ensures.given
+
+pub return_token-requires-clause-own : goal.return_token-requires-clause-own
+return_token-requires-clause-own g c = c.take_book-book.ensures.own ∙ c.requires.own
+
+pub return_token-requires-clause-constants : goal.return_token-requires-clause-constants
+return_token-requires-clause-constants g c =
+    knows_after c.args.seat.now.me c.take_book-book.new.seat.me c.get_mut-lent.result.now None
+    (lent_of g.row.M.Denot c.args.seat.now.me c.take_book-book.new.seat.me c.take_book-book.result c.get_mut-lent.result.now None
+    c.get_mut-lent.ensures.value c.take_book-book.ensures.taken) c.begin-begun.new.self (ap constants_of c.in-Started.ensures.book)
+
+pub returns-in-Started-clause-own : goal.returns-in-Started-clause-own
+returns-in-Started-clause-own g c = c.return_token.ensures.own ∙ c.take_book-book.ensures.own
+
+pub returns-in-Started-clause-runs : goal.returns-in-Started-clause-runs
+returns-in-Started-clause-runs g c =
+    runs_after g.row.M.Denot c.args.seat.now.me c.take_book-book.new.seat.me c.get_mut-lent.result.now None
+    (lent_of g.row.M.Denot c.args.seat.now.me c.take_book-book.new.seat.me c.take_book-book.result c.get_mut-lent.result.now None
+    c.get_mut-lent.ensures.value c.take_book-book.ensures.taken) c.return_token.new.seat.me c.begin-begun.new.self
+    _ c.return_token.ensures.given (fields_of c.return_token.result) c.return_token.ensures.runs
+
+pub returns-in-Started-clause-token : goal.returns-in-Started-clause-token
+returns-in-Started-clause-token g c =
+    subst (λ k. IsGivenToken g.M.Stands.ready_at g.M.Stands.tie k c.return_token.result)
+    (hall_is c.args.seat.now.me c.take_book-book.new.seat.me c.get_mut-lent.result.now None
+    (lent_of g.row.M.Denot c.args.seat.now.me c.take_book-book.new.seat.me c.take_book-book.result c.get_mut-lent.result.now None
+    c.get_mut-lent.ensures.value c.take_book-book.ensures.taken) c.args.seat.now.table_id c.take_book-book.new.seat.table_id
+    c.take_book-book.ensures.own) c.return_token.ensures.token
+
+pub returns-in-Started-clause-sees : goal.returns-in-Started-clause-sees
+returns-in-Started-clause-sees g c =
+    let m = c.args.seat.now.me in
+    let n = c.take_book-book.new.seat.me in
+    let b = c.get_mut-lent.result.now in
+    let h = lent_of g.row.M.Denot c.args.seat.now.me c.take_book-book.new.seat.me c.take_book-book.result c.get_mut-lent.result.now None
+    c.get_mut-lent.ensures.value c.take_book-book.ensures.taken in
+    let x = c.begin-begun.new.self in
+    let z = c.return_token.new.seat.me in
+    let e = c.in-Started.ensures in
+    let s = c.return_token.ensures.same in
+    let limit = (name_of c.args.seat.now.table_id m.0.it.constants).limit in
+    let u : FrameToken g.row.M.Denot = record c.in-Started.token { payload = g.M.Carrier.with_seat c.in-Started.token.payload (Some s.0) }
+    in
+    subst (λ (y : FrameToken g.row.M.Denot). Sees m.0.it.seen z.0.it.seen (Begin y.iteration ∷ [])
+    (λ q. BeginReturns limit q (begun.Started y))) (sym s.1)
+    (sees g.row.M.Denot m n b None h z x _ c.return_token.ensures.given (Begin u.iteration ∷ [])
+    (λ q. BeginReturns {M = g.row.M.Denot} limit q (begun.Started u))
+    (ap (λ (y : BookState). events_of y.log) e.book ∙ events_stamped b.log 0 (Begin u.iteration ∷ []))
+    (subst (λ (k : HallName). BeginReturns {M = g.row.M.Denot} k.limit (state_of b) (begun.Started u))
+    (sym (name_is c.args.seat.now.table_id m n b None h)) e.returned))

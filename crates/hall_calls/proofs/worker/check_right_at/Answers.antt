@@ -1,12 +1,17 @@
 -- An iteration has entered a stage, or nothing has changed.
-use Rattle.std.proofs.Common.{sym, ap, subst, None}
+use Rattle.std.proofs.Common.{◌∙◌, ◌+◌, [], ◌∷◌, sym, ap, subst, Some, None}
+use Rattle.pipe_frame.specs.CallResults.{EnterReturns}
+use Rattle.pipe_frame.specs.HallViews.{Sees}
+use Rattle.pipe_frame.specs.SeatedTokens.{IsGivenToken}
+use Rattle.pipe_frame.specs.declared.token.FrameToken.{FrameToken}
+use Rattle.pipe_model.specs.declared.event.Event.TheVariants.{Enter}
 use Rattle.pipe_frame.specs.TokenFields.{fields_of}
-use Rattle.frame_book.specs.BookStates.{BookState, HasRisingTickets, Spent, item_or}
+use Rattle.frame_book.specs.BookStates.{BookState, HasRisingTickets, Spent, events_of, item_or}
 use Rattle.frame_book.specs.CallEffects.{kept_now}
 use Rattle.hall_table.specs.BookCalls.{IsBookCall}
 use Rattle.hall_table.specs.SeatViews.{constants_of}
-use Rattle.hall_calls.proofs.BookCalls.{enter_call, unchanged_call}
-use Rattle.hall_calls.proofs.TakenBooks.{lent_of, stays_idle}
+use Rattle.hall_calls.proofs.BookCalls.{enter_call, events_stamped, unchanged_call}
+use Rattle.hall_calls.proofs.TakenBooks.{hall_is, knows_after, lent_of, runs_after, same_events, sees, stays_idle}
 use Rattle.hall_calls.proofs.TokenMoves.{none_moves, token_given}
 use Rattle.hall_calls.proofs.worker.check_right_at.Goals as goal
 
@@ -62,3 +67,61 @@ returns-in-None-clause-tokens g c =
     none_moves g.row.M.Denot c.args.seat.now.me c.take_book-book.new.seat.me c.return_book.new.seat.me c.get_mut-lent.result.now
     c.check_right-entered.new.self (lent_of g.row.M.Denot c.args.seat.now.me c.take_book-book.new.seat.me c.take_book-book.result
     c.get_mut-lent.result.now None c.get_mut-lent.ensures.value c.take_book-book.ensures.taken) c.return_book.ensures.given
+
+pub return_token-requires-clause-own : goal.return_token-requires-clause-own
+return_token-requires-clause-own g c = c.take_book-book.ensures.own ∙ c.requires.own
+
+pub return_token-requires-clause-constants : goal.return_token-requires-clause-constants
+return_token-requires-clause-constants g c =
+    knows_after c.args.seat.now.me c.take_book-book.new.seat.me c.get_mut-lent.result.now None
+    (lent_of g.row.M.Denot c.args.seat.now.me c.take_book-book.new.seat.me c.take_book-book.result c.get_mut-lent.result.now None
+    c.get_mut-lent.ensures.value c.take_book-book.ensures.taken) c.check_right-entered.new.self (ap constants_of c.in-Some.ensures.book)
+
+pub returns-in-Some-clause-own : goal.returns-in-Some-clause-own
+returns-in-Some-clause-own g c = c.return_token.ensures.own ∙ c.take_book-book.ensures.own
+
+pub returns-in-Some-clause-runs : goal.returns-in-Some-clause-runs
+returns-in-Some-clause-runs g c =
+    runs_after g.row.M.Denot c.args.seat.now.me c.take_book-book.new.seat.me c.get_mut-lent.result.now None
+    (lent_of g.row.M.Denot c.args.seat.now.me c.take_book-book.new.seat.me c.take_book-book.result c.get_mut-lent.result.now None
+    c.get_mut-lent.ensures.value c.take_book-book.ensures.taken) c.return_token.new.seat.me c.check_right-entered.new.self
+    _ c.return_token.ensures.given (fields_of c.return_token.result) c.return_token.ensures.runs
+
+pub returns-in-Some-clause-token : goal.returns-in-Some-clause-token
+returns-in-Some-clause-token g c =
+    subst (λ k. IsGivenToken g.M.Stands.ready_at g.M.Stands.tie k c.return_token.result)
+    (hall_is c.args.seat.now.me c.take_book-book.new.seat.me c.get_mut-lent.result.now None
+    (lent_of g.row.M.Denot c.args.seat.now.me c.take_book-book.new.seat.me c.take_book-book.result c.get_mut-lent.result.now None
+    c.get_mut-lent.ensures.value c.take_book-book.ensures.taken) c.args.seat.now.table_id c.take_book-book.new.seat.table_id
+    c.take_book-book.ensures.own) c.return_token.ensures.token
+
+pub returns-in-Some-clause-sees : goal.returns-in-Some-clause-sees
+returns-in-Some-clause-sees g c =
+    let m = c.args.seat.now.me in
+    let n = c.take_book-book.new.seat.me in
+    let b = c.get_mut-lent.result.now in
+    let h = lent_of g.row.M.Denot c.args.seat.now.me c.take_book-book.new.seat.me c.take_book-book.result c.get_mut-lent.result.now None
+    c.get_mut-lent.ensures.value c.take_book-book.ensures.taken in
+    let x = c.check_right-entered.new.self in
+    let z = c.return_token.new.seat.me in
+    let e = c.in-Some.ensures in
+    let s = c.return_token.ensures.same in
+    let u : FrameToken g.row.M.Denot = record c.in-Some.token { payload = g.M.Carrier.with_seat c.in-Some.token.payload (Some s.0) } in
+    subst (λ (y : FrameToken g.row.M.Denot). Sees m.0.it.seen z.0.it.seen (Enter y.iteration ∷ [])
+    (λ q. EnterReturns q (c.args.iteration + 1) (Some y))) (sym s.1)
+    (sees g.row.M.Denot m n b None h z x _ c.return_token.ensures.given (Enter u.iteration ∷ [])
+    (λ q. EnterReturns {M = g.row.M.Denot} q (c.args.iteration + 1) (Some u))
+    (ap (λ (y : BookState). events_of y.log) e.book
+    ∙ events_stamped b.log (kept_now (item_or Spent b.tokens u.iteration)) (Enter u.iteration ∷ [])) e.returned)
+
+pub returns-in-None-clause-own : goal.returns-in-None-clause-own
+returns-in-None-clause-own g c = c.return_book.ensures.own.0 ∙ c.take_book-book.ensures.own
+
+pub returns-in-None-clause-sees : goal.returns-in-None-clause-sees
+returns-in-None-clause-sees g c =
+    let b = c.get_mut-lent.result.now in
+    sees g.row.M.Denot c.args.seat.now.me c.take_book-book.new.seat.me b None
+    (lent_of g.row.M.Denot c.args.seat.now.me c.take_book-book.new.seat.me c.take_book-book.result b None
+    c.get_mut-lent.ensures.value c.take_book-book.ensures.taken) c.return_book.new.seat.me c.check_right-entered.new.self
+    _ c.return_book.ensures.given [] (λ q. EnterReturns {M = g.row.M.Denot} q (c.args.iteration + 1) None)
+    (same_events b c.check_right-entered.new.self c.in-None.ensures.book) c.in-None.ensures.returned

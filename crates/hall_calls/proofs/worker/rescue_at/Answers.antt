@@ -2,6 +2,7 @@
 use Rattle.std.proofs.Common.{◌∙◌, sym, ap, subst, Some, None}
 use Rattle.pipe_frame.specs.CallResults.{RescueReturns}
 use Rattle.pipe_frame.specs.HallViews.{RescueSees}
+use Rattle.pipe_frame.specs.SeatedTokens.{IsGivenToken}
 use Rattle.pipe_frame.specs.Ties.{HallName}
 use Rattle.pipe_frame.specs.TokenFields.{fields_of}
 use Rattle.pipe_frame.specs.declared.results.Rescue.TheVariants as rescue
@@ -12,7 +13,8 @@ use Rattle.hall_table.specs.SeatViews.{constants_of}
 use Rattle.hall_table.specs.WorkerSeats.{name_of}
 use Rattle.hall_calls.proofs.EndingCalls.{rescued_call, resumed_events}
 use Rattle.hall_calls.proofs.Rescuing.{rescue_sees_of}
-use Rattle.hall_calls.proofs.TakenBooks.{lent_of, name_is, none_found, nothing_found, seen_after, stays_idle}
+use Rattle.hall_calls.proofs.TakenBooks.{hall_is, knows_after, lent_of, name_is, none_found, nothing_found, runs_after}
+use Rattle.hall_calls.proofs.TakenBooks.{seen_after, stays_idle}
 use Rattle.pipe_frame.specs.TokenCounts.{Exchanges}
 use Rattle.hall_calls.proofs.TokenMoves.{none_moves, none_rescued, token_given}
 use Rattle.hall_calls.proofs.worker.rescue_at.Goals as goal
@@ -102,3 +104,30 @@ returns-in-Token-clause-tokens g c =
     token_given g.row.M.Denot c.args.seat.now.me c.take_book-book.new.seat.me c.return_token.new.seat.me c.get_mut-lent.result.now
     c.rescue-found.new.self (lent_of g.row.M.Denot c.args.seat.now.me c.take_book-book.new.seat.me c.take_book-book.result
     c.get_mut-lent.result.now None c.get_mut-lent.ensures.value c.take_book-book.ensures.taken) c.return_token.ensures.given
+
+pub return_token-requires-clause-own : goal.return_token-requires-clause-own
+return_token-requires-clause-own g c = c.take_book-book.ensures.own ∙ c.requires.own
+
+pub return_token-requires-clause-constants : goal.return_token-requires-clause-constants
+return_token-requires-clause-constants g c =
+    knows_after c.args.seat.now.me c.take_book-book.new.seat.me c.get_mut-lent.result.now None
+    (lent_of g.row.M.Denot c.args.seat.now.me c.take_book-book.new.seat.me c.take_book-book.result c.get_mut-lent.result.now None
+    c.get_mut-lent.ensures.value c.take_book-book.ensures.taken) c.rescue-found.new.self (ap constants_of c.in-Token.ensures.book)
+
+pub returns-in-Token-clause-own : goal.returns-in-Token-clause-own
+returns-in-Token-clause-own g c = c.return_token.ensures.own ∙ c.take_book-book.ensures.own
+
+pub returns-in-Token-clause-runs : goal.returns-in-Token-clause-runs
+returns-in-Token-clause-runs g c =
+    runs_after g.row.M.Denot c.args.seat.now.me c.take_book-book.new.seat.me c.get_mut-lent.result.now None
+    (lent_of g.row.M.Denot c.args.seat.now.me c.take_book-book.new.seat.me c.take_book-book.result c.get_mut-lent.result.now None
+    c.get_mut-lent.ensures.value c.take_book-book.ensures.taken) c.return_token.new.seat.me c.rescue-found.new.self
+    _ c.return_token.ensures.given (fields_of c.return_token.result) c.return_token.ensures.runs
+
+pub returns-in-Token-clause-token : goal.returns-in-Token-clause-token
+returns-in-Token-clause-token g c =
+    subst (λ k. IsGivenToken g.M.Stands.ready_at g.M.Stands.tie k c.return_token.result)
+    (hall_is c.args.seat.now.me c.take_book-book.new.seat.me c.get_mut-lent.result.now None
+    (lent_of g.row.M.Denot c.args.seat.now.me c.take_book-book.new.seat.me c.take_book-book.result c.get_mut-lent.result.now None
+    c.get_mut-lent.ensures.value c.take_book-book.ensures.taken) c.args.seat.now.table_id c.take_book-book.new.seat.table_id
+    c.take_book-book.ensures.own) c.return_token.ensures.token

@@ -1,19 +1,26 @@
-use Rattle.std.proofs.Common.{◌≡◌, ◌<◌, ◌≤◌, ◌+◌, ◌^◌, ◌↔◌, [], arith, length, refl, ap, ap₂, sym, subst, ◌∙◌, true, false, not, None, ℕ}
+use Rattle.std.proofs.Common.{◌≡◌, ◌<◌, ◌≤◌, ◌+◌, ◌^◌, ◌↔◌, [], ◌∷◌, ◌++◌, arith, length, refl, ap, ap₂, sym}
+use Rattle.std.proofs.Common.{subst, ◌∙◌, true, false, not, None, ℕ}
+use Rattle.std.proofs.Math.Facts.{Fits-bits}
+use Rattle.std.proofs.lemmas.Bool.{true≢false}
 use Rattle.std.proofs.lemmas.Grind.{common_steps}
 use Rattle.std.proofs.lemmas.List.{length_push}
-use Rattle.std.specs.Prelude.{vec_capacity}
+use Rattle.std.specs.Prelude.{vec_capacity, vec_len}
+use Rattle.std.proofs.Common.{Vec}
 use Rattle.order_2d.specs.OrderPairs.{with_start, down_taken, right_taken}
 use Rattle.pipe_model.specs.Runs.Allowed.{MayBegin, IsClosed, LastEndedFirstInstance}
 use Rattle.pipe_model.specs.Runs.State.{alive}
 use Rattle.pipe_model.specs.Language.SyntaxTree.{tree_of}
 use Rattle.frame_rows.specs.AliveLists.{HasAliveList}
-use Rattle.frame_book.specs.BookStates.{last_ticket, BookState, state_of}
+use Rattle.pipe_model.specs.declared.event.Event.TheVariants.{Begin}
+use Rattle.frame_book.specs.BookStates.{last_ticket, BookState, Out, state_of, with_events}
+use Rattle.frame_book.specs.GivenTokens.{IsGivenBy}
 use Rattle.frame_book.specs.BookTables.{tables_of}
 use Rattle.frame_rows.specs.RowsOfFrames.{AreRows}
 use Rattle.frame_rows.specs.IterationRows.{head_marks}
 use Rattle.frame_book.specs.CallEffects.{seen_whole}
-use Rattle.frame_book.specs.Tables.{book_state}
-use Rattle.frame_book.proofs.Keeping.Begin.{Begins, may, few, there, placed, room, spare_some, row_room, begin_keeps, begin_view}
+use Rattle.frame_book.specs.Invariant.{IsBook}
+use Rattle.frame_book.specs.Tables.{Tables, book_state}
+use Rattle.frame_book.proofs.Keeping.Begin.{Begins, may, few, there, placed, room, spare_some, row_room, begun, begin_keeps, begin_view}
 use Rattle.frame_book.proofs.Keeping.Begin.{begin_given, was_home}
 use Rattle.frame_book.proofs.Keeping.Stop.{log_room, last_below}
 use Rattle.frame_rows.proofs.AliveRows.{alive_push}
@@ -22,6 +29,9 @@ use Rattle.frame_book.proofs.BookLogs.LogEntries.{last_ticket_with}
 use Rattle.frame_book.proofs.book.Book.begin.Given.{Over}
 use Rattle.frame_book.proofs.book.Book.begin.Goals.{After-last_has_ended_first, After-len-iteration}
 use Rattle.frame_book.proofs.book.Book.begin.Goals as goal
+
+len_is : {X Z : Type 0} → (v : Vec X Z) (n : ℕ) → n ≡ vec_len v → n ≡ length v.items
+len_is v n e = grind (arith, common_steps)
 
 -- the test of the last iteration
 module _ (g : Over) (c : After-last_has_ended_first g) where
@@ -35,7 +45,7 @@ module _ (g : Over) (c : After-last_has_ended_first g) where
   going = sym c.self.invariant.0.stopped ∙ c.if-self.false
 
   unclosed : IsClosed (state_of (book_state (tables_of c.self.inside))).frames → ⊥
-  unclosed q = let e : true ≡ false = sym (c.self.invariant.0.closed.1 q) ∙ c.if-self-2.false in absurd (cc)
+  unclosed q = true≢false (sym (c.self.invariant.0.closed.1 q) ∙ c.if-self-2.false)
 
 -- the payload
 module _ (g : Over) (c : After-len-iteration g) where
@@ -48,7 +58,7 @@ module _ (g : Over) (c : After-len-iteration g) where
   }
 
   number_is : c.len-iteration.result ≡ length c.self.inside.rows.items
-  number_is = grind (arith, common_steps)
+  number_is = len_is c.self.inside.rows c.len-iteration.result c.len-iteration.ensures
 
 pub returns-then-not-last_has_ended_first-clause-returned : goal.returns-then-not-last_has_ended_first-clause-returned
 returns-then-not-last_has_ended_first-clause-returned g c =
@@ -57,7 +67,7 @@ returns-then-not-last_has_ended_first-clause-returned g c =
     c.self.view_is (
       going g k,
       unclosed g k,
-      (λ q. (let e : true ≡ false = sym ((both g k).1 q) ∙ c.if-not-last_has_ended_first.true in absurd (cc))),
+      (λ q. true≢false (sym ((both g k).1 q) ∙ c.if-not-last_has_ended_first.true)),
     )
 
 pub returns-in_default-clause-returned : goal.returns-in_default-clause-returned
@@ -76,8 +86,7 @@ pub overflow_cast-iteration : goal.overflow_cast-iteration
 overflow_cast-iteration g c =
     let l = few c.self.invariant.0 (begins g c) in
     let e = number_is g c in
-    let w : c.len-iteration.result < 2 ^ 32 = omega (arith, l, e) in
-    grind (arith, common_steps)
+    Fits-bits 31 tt (subst (λ n. n < 2 ^ 31) (sym e) l)
 
 pub start_head-marks-requires-clause-there : goal.start_head-marks-requires-clause-there
 start_head-marks-requires-clause-there g c =
@@ -141,24 +150,15 @@ push_reserved-requires-2 g c =
 pub invariant_of-self-2 : goal.invariant_of-self-2
 invariant_of-self-2 g c =
     let k = (goal.at.invariant_of-self-2 g c).After-len-iteration in
-    let cap : vec_capacity c.push_reserved.new.self ≡ vec_capacity c.self.inside.rows = c.push_reserved.ensures.capacity in
     let listed = subst (λ spare. HasAliveList c.self.inside.rows.items spare c.self.inside.alive.items (vec_capacity c.self.inside.alive))
-    c.in-Some-pop.ensures.items c.self.invariant.1 in
-    rw (
-      c.push_reserved.ensures.items,
-      cap,
-      c.push_reserved-2.ensures.items,
-      c.push_reserved-2.ensures.capacity,
-      c.enter.ensures,
-      c.start_head-marks.ensures.marks,
-      c.start_head-marks.ensures.lists,
-      c.as_slice-2.ensures.value,
-      c.stamp-now.ensures.log,
-      c.take.ensures.size,
-      number_is g k,
-    ) (
-      begin_keeps c.self.invariant.0 (begins g k) c.pop.new.self.items c.in-Some-pop.row c.in-Some-pop.ensures.items,
-      alive_push c.self.inside.rows.items c.pop.new.self.items c.in-Some-pop.row _ _ _ listed,
+    c.in-Some-pop.ensures.items c.self.invariant.1 in (
+      subst (IsBook g.M.Stands.whole g.M.Stands.ready_at g.M.Stands.tie)
+          (sym (begun c.self.invariant.0 (begins g k) c.pop.new.self.items c.in-Some-pop.row c.in-Some-pop.ensures.items
+          c.push_reserved.ensures.items c.push_reserved.ensures.capacity c.enter.ensures c.as_slice-2.ensures.value
+          c.start_head-marks.ensures.marks c.start_head-marks.ensures.lists c.stamp-now.ensures.log (number_is g k) c.take.ensures.size))
+          (begin_keeps c.self.invariant.0 (begins g k) c.pop.new.self.items c.in-Some-pop.row c.in-Some-pop.ensures.items),
+      rw (c.push_reserved.ensures.items, c.push_reserved-2.ensures.items, c.push_reserved-2.ensures.capacity, number_is g k)
+          (alive_push c.self.inside.rows.items c.pop.new.self.items c.in-Some-pop.row _ _ _ listed),
     )
 
 pub returns-clause-returned : goal.returns-clause-returned
@@ -172,30 +172,36 @@ returns-clause-returned g c =
 pub returns-clause-book : goal.returns-clause-book
 returns-clause-book g c =
     let k = (goal.at.returns-clause-book g c).After-len-iteration in
-    rw (
-      c.push_reserved.ensures.items,
-      c.enter.ensures,
-      c.start_head-marks.ensures.marks,
-      c.start_head-marks.ensures.lists,
-      c.as_slice-2.ensures.value,
-      c.stamp-now.ensures.log,
-      number_is g k,
-      ← c.self.view_is,
-    ) (begin_view c.self.invariant.0 (begins g k) c.pop.new.self.items c.in-Some-pop.row c.in-Some-pop.ensures.items)
+    ap book_state (begun c.self.invariant.0 (begins g k) c.pop.new.self.items c.in-Some-pop.row c.in-Some-pop.ensures.items
+    c.push_reserved.ensures.items c.push_reserved.ensures.capacity c.enter.ensures c.as_slice-2.ensures.value
+    c.start_head-marks.ensures.marks c.start_head-marks.ensures.lists c.stamp-now.ensures.log (number_is g k) c.take.ensures.size)
+    ∙ (begin_view c.self.invariant.0 (begins g k) c.pop.new.self.items c.in-Some-pop.row c.in-Some-pop.ensures.items
+    ∙ ap₂ (λ (v : BookState) i. record v {
+      log = with_events v.log 0 (Begin i ∷ []);
+      traces = v.traces ++ [] ∷ [];
+      tokens = v.tokens ++ Out ∷ [];
+    }) c.self.view_is (sym (number_is g k)))
 
 pub returns-clause-token : goal.returns-clause-token
 returns-clause-token g c =
     let k = (goal.at.returns-clause-token g c).After-len-iteration in
     let orders_are = c.start_head-marks.ensures.lists ∙ ap (λ rs. with_start c.self.inside.orders (down_taken None (head_marks rs))
     (right_taken None (head_marks rs))) c.as_slice-2.ensures.value in
-    rw (
-      c.push_reserved.ensures.items,
-      c.enter.ensures,
-      c.start_head-marks.ensures.marks,
-      c.start_head-marks.ensures.lists,
-      c.as_slice-2.ensures.value,
-      c.stamp-now.ensures.log,
+    subst (λ (b : Tables _). IsGivenBy g.M.Stands.ready_at g.M.Stands.tie (book_state b) (record {
+      iteration = c.len-iteration.result;
+      index = 0;
+      now = c.stamp-now.result;
+      joined = 0;
+      folded = c.new.result;
+      marks = c.start_head-marks.result;
+      payload = c.start_head-marks.new.payload;
+    })) (sym (begun c.self.invariant.0 (begins g k) c.pop.new.self.items c.in-Some-pop.row c.in-Some-pop.ensures.items
+    c.push_reserved.ensures.items c.push_reserved.ensures.capacity c.enter.ensures c.as_slice-2.ensures.value
+    c.start_head-marks.ensures.marks c.start_head-marks.ensures.lists c.stamp-now.ensures.log (number_is g k) c.take.ensures.size))
+    (rw (
       number_is g k,
+      c.start_head-marks.ensures.marks,
+      c.as_slice-2.ensures.value,
       c.stamp-now.ensures.ticket,
       c.new.ensures,
     )
@@ -204,10 +210,23 @@ returns-clause-token g c =
     (c.start_head-marks.ensures.ready (tree_of c.self.inside.program) c.self.inside.input (length c.self.inside.rows.items) []
     (subst (λ k. g.M.Stands.ready_at (tree_of c.self.inside.program) c.self.inside.input c.begin.new.self k []) (number_is g k)
     (c.begin.ensures.ready (tree_of c.self.inside.program) c.self.inside.input (was_home c.self.invariant.0 (begins g k)).whole)))
-    (c.start_head-marks.ensures.tie ∙ ap₂ (λ x o. record { lists = seen_whole x.lists o; seat = x.seat }) c.begin.ensures.tie orders_are))
+    (c.start_head-marks.ensures.tie
+    ∙ ap₂ (λ x o. record { lists = seen_whole x.lists o; seat = x.seat }) c.begin.ensures.tie orders_are)))
 
 pub returns-clause-now : goal.returns-clause-now
 returns-clause-now g c =
     let t = c.stamp-now.ensures.ticket in
     let q = ap (λ (l : Ledger). last_ticket l.log) c.stamp-now.ensures.log ∙ last_ticket_with c.self.inside.ledger.log 0 _ in
     omega (arith, t, q)
+
+pub invariant_of-self : goal.invariant_of-self
+invariant_of-self g c = (
+  subst (λ p. IsBook g.M.Stands.whole g.M.Stands.ready_at g.M.Stands.tie (record (tables_of c.self.inside) { pool = p }))
+      (sym c.in_default.ensures.unchanged) c.self.invariant.0,
+  c.self.invariant.1,
+)
+
+pub returns-then-self-2-clause-returned : goal.returns-then-self-2-clause-returned
+returns-then-self-2-clause-returned g c =
+    subst (λ (v : BookState). ((state_of v).stopped ≡ false) × IsClosed (state_of v).frames) c.self.view_is
+    (sym c.self.invariant.0.stopped ∙ c.if-self.false, c.self.invariant.0.closed.0 c.if-self-2.true)

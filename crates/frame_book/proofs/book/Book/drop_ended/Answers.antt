@@ -1,5 +1,4 @@
-use Rattle.std.proofs.Common.{◌≡◌, ◌≤◌, length, sym, subst, arith, ◌+◌}
-use Rattle.std.specs.Prelude.{vec_capacity}
+use Rattle.std.proofs.Common.{sym, subst, arith}
 use Rattle.frame_rows.specs.AliveLists.{ListsAlive}
 use Rattle.frame_book.proofs.book.Book.drop_ended.Goals as goal
 

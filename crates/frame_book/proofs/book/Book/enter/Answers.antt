@@ -1,4 +1,5 @@
-use Rattle.std.proofs.Common.{◌≡◌, ap, sym, subst, ◌∙◌, false, not}
+use Rattle.std.proofs.Common.{◌≡◌, ap, sym, subst, ◌∙◌, false, not, inr}
+use Rattle.std.proofs.lemmas.Bool.{iff_false}
 use Rattle.pipe_model.specs.Runs.Allowed.{MayEnter}
 use Rattle.frame_book.specs.BookStates.{state_of}
 use Rattle.frame_book.specs.BookTables.{tables_of}
@@ -42,3 +43,10 @@ returns-clause-now g c = c.enter_named.ensures.now
 
 pub returns-clause-folded : goal.returns-clause-folded
 returns-clause-folded g c = c.enter_named.ensures.folded
+
+pub returns-then-not-may_enter-clause-returned : goal.returns-then-not-may_enter-clause-returned
+returns-then-not-may_enter-clause-returned g c = inr (λ m.
+    let s = state_of (book_state (tables_of c.self.inside)) in
+    let rows = subst (AreRows (not s.stopped) s.frames) (sym c.as_slice.ensures.value) c.self.invariant.0.rows.each in
+    let free = (free_is_may s c.args.iteration).1 (subst (λ v. MayEnter (state_of v) c.args.iteration) (sym c.self.view_is) m) in
+    iff_false (c.may_enter.ensures (not s.stopped) s.frames rows) c.if-not-may_enter.true free)

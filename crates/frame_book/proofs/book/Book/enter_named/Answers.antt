@@ -8,13 +8,16 @@ use Rattle.order_2d.specs.OrderPairs.{with_start, down_taken, right_taken}
 use Rattle.pipe_model.specs.Runs.State.{is_completed, own_columns}
 use Rattle.pipe_model.specs.Races.Columns.{nodes_at}
 use Rattle.pipe_model.specs.Language.SyntaxTree.{tree_of}
-use Rattle.frame_book.specs.BookStates.{last_ticket, state_of}
+use Rattle.frame_book.specs.BookStates.{BookState, last_ticket, state_of}
+use Rattle.frame_book.specs.GivenTokens.{IsGivenBy}
+use Rattle.frame_book.specs.Invariant.{IsBook}
+use Rattle.frame_book.specs.Tables.{Tables, book_state}
 use Rattle.frame_book.specs.BookTables.{tables_of}
 use Rattle.frame_rows.specs.IterationRows.{IterationRow, left_numbers, marks_at, left_marks}
-use Rattle.frame_book.specs.CallEffects.{seen_whole}
+use Rattle.frame_book.specs.CallEffects.{seen_whole, with_entered}
 use Rattle.frame_book.proofs.Keeping.Enter.{Enters, Finds, enters, may_within, named, rows, at_home, status_is, row_room, marks_room}
 use Rattle.frame_book.proofs.Keeping.Enter.{few, room, searchable, kept, index_is, now_below, up_marks, left_has_marks, placed}
-use Rattle.frame_book.proofs.Keeping.Enter.{enter_keeps, enter_view, folded_was, enter_given}
+use Rattle.frame_book.proofs.Keeping.Enter.{enter_keeps, enter_view, entered_tables, folded_was, enter_given}
 use Rattle.frame_book.proofs.Keeping.Stop.{log_room, last_below}
 use Rattle.frame_rows.proofs.AliveRows.{alive_set}
 use Rattle.frame_book.specs.TicketLog.{Ledger}
@@ -22,6 +25,9 @@ use Rattle.frame_book.proofs.BookLogs.LogEntries.{last_ticket_with}
 use Rattle.frame_book.proofs.book.Book.enter_named.Given.{Over}
 use Rattle.frame_book.proofs.book.Book.enter_named.Goals.{After-as_slice-2, After-index_mut-row-2}
 use Rattle.frame_book.proofs.book.Book.enter_named.Goals as goal
+
+none_is_not_some : {X : Type 0} {x : X} → None ≡ Some x → ⊥
+none_is_not_some e = cc
 
 -- the row's stage and token, and what was found to the left
 module _ (g : Over) (c : After-as_slice-2 g) where
@@ -61,7 +67,7 @@ pub unreachable-requires : goal.unreachable-requires
 unreachable-requires g c =
     let x = enters c.self.invariant.0 c.self.view_is c.requires.may c.requires.going c.index_mut-row.ensures.value in
     let q = at_home c.self.invariant.0 x in
-    absurd (let z : None ≡ Some q.0 = sym (sym c.take_token.ensures.token ∙ c.in_default.is) ∙ q.1 in cc)
+    none_is_not_some (sym (sym c.take_token.ensures.token ∙ c.in_default.is) ∙ q.1)
 
 pub unreachable-requires-in_default-status : goal.unreachable-requires-in_default-status
 unreachable-requires-in_default-status g c =
@@ -142,36 +148,27 @@ enter-requires-clause-marks g c =
 pub invariant_of-self : goal.invariant_of-self
 invariant_of-self g c =
     let k = (goal.at.invariant_of-self g c).After-as_slice-2 in
-    let x = entry g k in
-    rw (
-      set-set c.self.inside.rows.items c.args.iteration c.take_token.new.self c.enter.new.self,
-      c.enter.ensures,
-      row_is g (goal.at.invariant_of-self g c).After-index_mut-row-2,
-      c.start_below-marks.ensures.marks,
-      c.start_below-marks.ensures.lists,
-      rows_are g k,
-      c.stamp.ensures.log,
-      number_is g k,
-    ) (
-      enter_keeps c.self.invariant.0 x (held g k) (found g k),
-      alive_set c.self.inside.rows.items _ c.args.iteration c.index_mut-row.result.now _ _ _ x.at_row
-          (ap is_completed (status_is c.self.invariant.0 x)) c.self.invariant.1,
+    let x = entry g k in (
+      subst (IsBook g.M.Stands.whole g.M.Stands.ready_at g.M.Stands.tie)
+          (sym (entered_tables c.self.invariant.0 (entry g k) (held g k) (found g k)
+          (set-set c.self.inside.rows.items c.args.iteration c.take_token.new.self c.enter.new.self) c.enter.ensures
+          (row_is g (goal.at.invariant_of-self g c).After-index_mut-row-2) (number_is g k) (rows_are g k) c.start_below-marks.ensures.marks
+          c.start_below-marks.ensures.lists c.stamp.ensures.log))
+          (enter_keeps c.self.invariant.0 x (held g k) (found g k)),
+      rw (set-set c.self.inside.rows.items c.args.iteration c.take_token.new.self c.enter.new.self)
+          (alive_set c.self.inside.rows.items _ c.args.iteration c.index_mut-row.result.now _ _ _ x.at_row
+          (ap is_completed (status_is c.self.invariant.0 x)) c.self.invariant.1),
     )
 
 pub returns-clause-book : goal.returns-clause-book
 returns-clause-book g c =
     let k = (goal.at.returns-clause-book g c).After-as_slice-2 in
-    rw (
-      set-set c.self.inside.rows.items c.args.iteration c.take_token.new.self c.enter.new.self,
-      c.enter.ensures,
-      row_is g (goal.at.returns-clause-book g c).After-index_mut-row-2,
-      c.start_below-marks.ensures.marks,
-      c.start_below-marks.ensures.lists,
-      rows_are g k,
-      c.stamp.ensures.log,
-      number_is g k,
-      ← c.self.view_is,
-    ) (enter_view c.self.invariant.0 (entry g k) (held g k) (found g k))
+    ap book_state (entered_tables c.self.invariant.0 (entry g k) (held g k) (found g k)
+    (set-set c.self.inside.rows.items c.args.iteration c.take_token.new.self c.enter.new.self) c.enter.ensures
+    (row_is g (goal.at.returns-clause-book g c).After-index_mut-row-2) (number_is g k) (rows_are g k) c.start_below-marks.ensures.marks
+    c.start_below-marks.ensures.lists c.stamp.ensures.log)
+    ∙ (enter_view c.self.invariant.0 (entry g k) (held g k) (found g k)
+    ∙ ap (λ (v : BookState). with_entered v c.args.iteration) c.self.view_is)
 
 pub returns-clause-instance : goal.returns-clause-instance
 returns-clause-instance g c =
@@ -190,18 +187,20 @@ returns-clause-folded g c =
 pub returns-clause-token : goal.returns-clause-token
 returns-clause-token g c =
     let k = (goal.at.returns-clause-token g c).After-as_slice-2 in
-    rw (
-      set-set c.self.inside.rows.items c.args.iteration c.take_token.new.self c.enter.new.self,
-      c.enter.ensures,
-      row_is g (goal.at.returns-clause-token g c).After-index_mut-row-2,
-      c.start_below-marks.ensures.marks,
-      c.start_below-marks.ensures.lists,
-      rows_are g k,
-      c.stamp.ensures.log,
-      number_is g k,
-      c.stamp.ensures.ticket,
-      c.unwrap_or.ensures,
-    ) (enter_given c.self.invariant.0 (entry g k) (held g k) (found g k) c.start_below-marks.new.payload
+    subst (λ (b : Tables _). IsGivenBy g.M.Stands.ready_at g.M.Stands.tie (book_state b) (record {
+      iteration = c.in-Some.token.iteration;
+      index = c.in-Some.token.index + 1;
+      now = c.stamp.result;
+      joined = c.unwrap_or.result;
+      folded = c.in-Some.token.folded;
+      marks = c.start_below-marks.result;
+      payload = c.start_below-marks.new.payload;
+    })) (sym (entered_tables c.self.invariant.0 (entry g k) (held g k) (found g k)
+    (set-set c.self.inside.rows.items c.args.iteration c.take_token.new.self c.enter.new.self) c.enter.ensures
+    (row_is g (goal.at.returns-clause-token g c).After-index_mut-row-2) (number_is g k) (rows_are g k) c.start_below-marks.ensures.marks
+    c.start_below-marks.ensures.lists c.stamp.ensures.log))
+    (rw (c.start_below-marks.ensures.marks, rows_are g k, c.stamp.ensures.ticket, c.unwrap_or.ensures)
+    (enter_given c.self.invariant.0 (entry g k) (held g k) (found g k) c.start_below-marks.new.payload
     (λ replies q. c.start_below-marks.ensures.ready (tree_of c.self.inside.program) c.self.inside.input c.args.iteration replies q)
     (c.start_below-marks.ensures.tie ∙ ap (λ o. record {
       lists = seen_whole (g.M.Stands.tie c.in-Some.token.payload).lists o;
@@ -211,7 +210,7 @@ returns-clause-token g c =
     ∙ ap (λ rs. with_start c.self.inside.orders (down_taken (Some (marks_at rs c.args.iteration c.in-Some.token.index))
     (left_marks rs c.args.iteration c.left_place-left.result))
     (right_taken (Some (marks_at rs c.args.iteration c.in-Some.token.index))
-    (left_marks rs c.args.iteration c.left_place-left.result))) (rows_are g k))))
+    (left_marks rs c.args.iteration c.left_place-left.result))) (rows_are g k)))))
 
 pub returns-clause-now : goal.returns-clause-now
 returns-clause-now g c =

@@ -1,17 +1,21 @@
-use Rattle.std.proofs.Common.{◌≡◌, ◌<◌, ◌≤◌, ◌+◌, ◌^◌, ◌++◌, ◌∷◌, [], sym, subst, ◌∙◌, arith, false, length}
+use Rattle.std.proofs.Common.{◌≡◌, ◌<◌, ◌≤◌, ◌+◌, ◌^◌, ◌++◌, ◌∷◌, [], ap, sym, subst, ◌∙◌, arith, false, length}
 use Rattle.std.proofs.lemmas.Grind.{common_steps}
 use Rattle.pipe_frame.specs.Ties.{BelongsTo}
 use Rattle.pipe_frame.specs.TokenFields.{fields_of}
 use Rattle.pipe_model.specs.Pipelines.Behaviour.{Performs, Ended}
 use Rattle.pipe_model.specs.Language.SyntaxTree.{tree_of}
 use Rattle.frame_book.specs.BookStates.{state_of, left_of}
+use Rattle.pipe_model.specs.declared.event.Event.TheVariants.{Finish}
 use Rattle.frame_book.specs.BookTables.{tables_of}
+use Rattle.frame_book.specs.CallEffects.{with_finished}
+use Rattle.frame_book.specs.Invariant.{IsBook}
+use Rattle.frame_book.specs.Tables.{book_state}
 use Rattle.frame_book.specs.GivenTokens.{IsOutOf}
 use Rattle.pipe_frame.specs.Replies.{accessed}
-use Rattle.frame_book.proofs.Keeping.Finish.{finish_keeps, finish_view, trace_room, pool_room}
+use Rattle.frame_book.proofs.Keeping.Finish.{finish_keeps, finish_view, finished_tables, trace_room, pool_room}
 use Rattle.frame_book.proofs.Keeping.Stop.{log_room, last_below}
 use Rattle.frame_book.proofs.Keeping.Performed.{performed}
-use Rattle.frame_book.proofs.Keeping.LeaveReady.{out_within, out_row_read}
+use Rattle.frame_book.proofs.Keeping.LeaveReady.{out_fits, out_within, out_row_read}
 use Rattle.frame_book.proofs.Iterations.OutRows.{alive_out}
 use Rattle.frame_book.proofs.book.Book.finish.Goals as goal
 
@@ -88,11 +92,15 @@ invariant_of-self g c =
     (sym c.self.view_is) c.requires.performs) in
     let whole = subst (λ v. g.M.Stands.whole (tree_of v.program) t.payload) (sym c.self.view_is) c.requires.whole in
     let names = subst (λ v. BelongsTo (g.M.Stands.tie t.payload) v.lists) (sym c.self.view_is) c.requires.belongs in
-    rw (c.end.ensures, c.stamp.ensures.log, c.give.ensures, c.either-self-inside.ensures) (
-      finish_keeps g.M.Stands.whole g.M.Stands.ready_at g.M.Stands.tie (tables_of c.self.inside) t c.index_mut-row.result.now c.args.end
-          c.closes-shut.result c.args.trace c.self.invariant.0 at go out per whole names c.closes-shut.ensures,
-      alive_out
-          c.self.inside.rows.items _ t.iteration c.index_mut-row.result.now _ _ _ at out.out c.self.invariant.1,
+    let same = finished_tables g.M.Stands.whole g.M.Stands.ready_at g.M.Stands.tie (tables_of c.self.inside) t
+    c.index_mut-row.result.now c.args.end
+    c.closes-shut.result c.args.trace c.self.invariant.0 at go out per whole names c.closes-shut.ensures c.end.ensures c.stamp.ensures.log
+    c.give.ensures c.either-self-inside.ensures in (
+      subst (IsBook g.M.Stands.whole g.M.Stands.ready_at g.M.Stands.tie) (sym same)
+          (finish_keeps g.M.Stands.whole g.M.Stands.ready_at g.M.Stands.tie (tables_of c.self.inside) t c.index_mut-row.result.now
+          c.args.end
+          c.closes-shut.result c.args.trace c.self.invariant.0 at go out per whole names c.closes-shut.ensures),
+      alive_out c.self.inside.rows.items _ t.iteration c.index_mut-row.result.now _ _ _ at out.out c.self.invariant.1,
     )
 
 pub returns : goal.returns
@@ -107,6 +115,16 @@ returns g c =
     (sym c.self.view_is) c.requires.performs) in
     let whole = subst (λ v. g.M.Stands.whole (tree_of v.program) t.payload) (sym c.self.view_is) c.requires.whole in
     let names = subst (λ v. BelongsTo (g.M.Stands.tie t.payload) v.lists) (sym c.self.view_is) c.requires.belongs in
-    rw (c.end.ensures, c.stamp.ensures.log, ← c.self.view_is)
-    (finish_view g.M.Stands.whole g.M.Stands.ready_at g.M.Stands.tie (tables_of c.self.inside) t c.index_mut-row.result.now c.args.end
-    c.closes-shut.result c.args.trace c.self.invariant.0 at go out per whole names c.closes-shut.ensures)
+    let same = finished_tables g.M.Stands.whole g.M.Stands.ready_at g.M.Stands.tie (tables_of c.self.inside) t
+    c.index_mut-row.result.now c.args.end
+    c.closes-shut.result c.args.trace c.self.invariant.0 at go out per whole names c.closes-shut.ensures c.end.ensures c.stamp.ensures.log
+    c.give.ensures c.either-self-inside.ensures in
+    ap book_state same
+    ∙ (finish_view g.M.Stands.whole g.M.Stands.ready_at g.M.Stands.tie (tables_of c.self.inside) t c.index_mut-row.result.now c.args.end
+    c.closes-shut.result c.args.trace c.self.invariant.0 at go out per whole names c.closes-shut.ensures
+    ∙ ap (λ v. with_finished v (fields_of t) (Finish t.iteration c.args.end) c.args.trace) c.self.view_is)
+
+pub overflow_cast-iteration : goal.overflow_cast-iteration
+overflow_cast-iteration g c =
+    let out = subst (λ v. IsOutOf v (fields_of c.args.token)) (sym c.self.view_is) c.requires.out in
+    out_fits _ c.self.inside.rows.items c.self.inside.spare.items _ _ _ c.args.token.iteration c.self.invariant.0.sized out.out

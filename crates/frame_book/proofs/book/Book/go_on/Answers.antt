@@ -1,5 +1,6 @@
 use Rattle.std.proofs.Common.{◌≡◌, ◌<◌, ◌≤◌, ◌+◌, ◌^◌, ◌++◌, ◌∷◌, [], arith, length, set, ap, ap₂, sym, subst, ◌∙◌, true, false}
 use Rattle.std.proofs.Common.{ℕ, zero, suc, not, cond, w64, max, to_z, of_z}
+use Rattle.std.proofs.lemmas.Bool.{false≢true}
 use Rattle.std.proofs.lemmas.Grind.{common_steps}
 use Rattle.std.proofs.lemmas.Int.{to_z-of_z}
 use Rattle.dep_fold.specs.Folding.{FoldedPasses}
@@ -106,7 +107,7 @@ module _ (g : Over) (c : After-count_of g) where
 
 -- a counter that must be read is that of a left neighbour
 must_some : (i : ℕ) (folded : Option Counter) (end : StageEnd) → must_read_left i folded end ≡ true → 0 < i
-must_some zero folded end e = absurd (let z : false ≡ true = e in cc)
+must_some zero folded end e = absurd (false≢true e)
 must_some (suc i) folded end e = omega arith
 
 pub fold_left-requires-clause-within : goal.fold_left-requires-clause-within
@@ -232,7 +233,7 @@ returns-else-enters-clause-returned g c =
     let k = (goal.at.returns-else-enters-clause-returned g c).After-lets_enter-enters in (
       c.requires.going,
       waits_by (state_of c.args.self.now) c.args.token.iteration c.args.kind c.args.number
-          (λ p. (let e : false ≡ true = sym c.if-enters.false ∙ c.lets_enter-enters.ensures.1 (passes g k p) in absurd (cc))),
+          (λ p. false≢true (sym c.if-enters.false ∙ c.lets_enter-enters.ensures.1 (passes g k p))),
     )
 
 pub returns-else-enters-clause-book : goal.returns-else-enters-clause-book

@@ -1,4 +1,5 @@
-use Rattle.std.proofs.Common.{◌≡◌, sym, subst, ◌∙◌, true, false, arith}
+use Rattle.std.proofs.Common.{◌≡◌, sym, subst, ◌∙◌, false, arith}
+use Rattle.std.proofs.lemmas.Bool.{false≢true, true≢false}
 use Rattle.pipe_model.specs.Runs.Run.{IsFinished}
 use Rattle.pipe_model.specs.Runs.State.{alive}
 use Rattle.frame_book.specs.BookStates.{BookState, state_of}
@@ -11,9 +12,9 @@ pub returns-then-not-self : goal.returns-then-not-self
 returns-then-not-self g c =
     let s = state_of (book_state (tables_of c.self.inside)) in
     let h = c.self.invariant.0 in (
-      (λ x. absurd (cc)),
+      (λ x. absurd (false≢true x)),
       (λ x. (let f = subst (λ (v : BookState). IsFinished (state_of v)) (sym c.self.view_is) x in
-          let e : true ≡ false = sym (h.closed.1 (closed_by_finish s f).0) ∙ c.if-not-self.true in absurd (cc))),
+          absurd (true≢false (sym (h.closed.1 (closed_by_finish s f).0) ∙ c.if-not-self.true)))),
     )
 
 pub returns : goal.returns

@@ -1,16 +1,20 @@
-use Rattle.std.proofs.Common.{◌≡◌, ◌<◌, ◌≤◌, ◌+◌, ◌^◌, ◌++◌, ◌∷◌, [], sym, subst, ◌∙◌, arith, false, length, w64}
+use Rattle.std.proofs.Common.{◌≡◌, ◌<◌, ◌≤◌, ◌+◌, ◌^◌, ◌++◌, ◌∷◌, [], ap, sym, subst, ◌∙◌, arith, false, length, w64}
 use Rattle.std.proofs.lemmas.Grind.{common_steps}
 use Rattle.std.proofs.lemmas.Int.{to_z-of_z}
 use Rattle.pipe_frame.specs.TokenFields.{fields_of}
 use Rattle.pipe_model.specs.Pipelines.Behaviour.{Performs, Staged}
 use Rattle.frame_book.specs.BookStates.{state_of, left_of, replies_at}
 use Rattle.pipe_frame.specs.Replies.{replies_of, accessed}
+use Rattle.pipe_model.specs.declared.event.Event.TheVariants.{Advance}
 use Rattle.frame_book.specs.BookTables.{tables_of}
+use Rattle.frame_book.specs.CallEffects.{with_named}
+use Rattle.frame_book.specs.Invariant.{IsBook}
+use Rattle.frame_book.specs.Tables.{book_state}
 use Rattle.frame_book.specs.GivenTokens.{IsOutOf, IsPayloadOf}
-use Rattle.frame_book.proofs.Keeping.Name.{name_keeps, name_view, trace_room}
+use Rattle.frame_book.proofs.Keeping.Name.{name_keeps, name_view, named_tables, trace_room}
 use Rattle.frame_book.proofs.Keeping.Stop.{log_room, last_below}
 use Rattle.frame_book.proofs.Keeping.Performed.{performed}
-use Rattle.frame_book.proofs.Keeping.LeaveReady.{out_within, out_row_read}
+use Rattle.frame_book.proofs.Keeping.LeaveReady.{out_fits, out_within, out_row_read}
 use Rattle.frame_book.proofs.Iterations.OutRows.{alive_out}
 use Rattle.frame_book.proofs.book.Book.name.Goals as goal
 
@@ -70,11 +74,14 @@ invariant_of-self g c =
     (sym c.self.view_is) c.requires.performs) in
     let pay = subst (λ v. IsPayloadOf g.M.Stands.ready_at g.M.Stands.tie v t.iteration
     (replies_at v t.iteration ++ replies_of c.args.trace ∷ []) t.payload) (sym c.self.view_is) c.requires.payload in
-    rw (c.suspend.ensures, c.stamp.ensures.ticket, c.stamp.ensures.log, to_z-of_z w64 c.args.number c.ranges.number) (
-      name_keeps g.M.Stands.whole g.M.Stands.ready_at g.M.Stands.tie (tables_of c.self.inside) t c.index_mut-row.result.now c.args.kind
-          c.args.number c.args.trace c.self.invariant.0 at go out per pay,
-      alive_out c.self.inside.rows.items _ t.iteration
-          c.index_mut-row.result.now _ _ _ at out.out c.self.invariant.1,
+    let same = named_tables g.M.Stands.whole g.M.Stands.ready_at g.M.Stands.tie (tables_of c.self.inside) t
+    c.index_mut-row.result.now c.args.kind
+    c.args.number c.args.trace c.self.invariant.0 at go out per pay c.suspend.ensures c.stamp.ensures.log
+    c.stamp.ensures.ticket (to_z-of_z w64 c.args.number c.ranges.number) in (
+      subst (IsBook g.M.Stands.whole g.M.Stands.ready_at g.M.Stands.tie) (sym same)
+          (name_keeps g.M.Stands.whole g.M.Stands.ready_at g.M.Stands.tie (tables_of c.self.inside) t c.index_mut-row.result.now c.args.kind
+          c.args.number c.args.trace c.self.invariant.0 at go out per pay),
+      alive_out c.self.inside.rows.items _ t.iteration c.index_mut-row.result.now _ _ _ at out.out c.self.invariant.1,
     )
 
 pub returns : goal.returns
@@ -89,6 +96,16 @@ returns g c =
     (sym c.self.view_is) c.requires.performs) in
     let pay = subst (λ v. IsPayloadOf g.M.Stands.ready_at g.M.Stands.tie v t.iteration
     (replies_at v t.iteration ++ replies_of c.args.trace ∷ []) t.payload) (sym c.self.view_is) c.requires.payload in
-    rw (c.suspend.ensures, c.stamp.ensures.ticket, c.stamp.ensures.log, to_z-of_z w64 c.args.number c.ranges.number, ← c.self.view_is)
-    (name_view g.M.Stands.whole g.M.Stands.ready_at g.M.Stands.tie (tables_of c.self.inside) t c.index_mut-row.result.now c.args.kind
-    c.args.number c.args.trace c.self.invariant.0 at go out per pay)
+    let same = named_tables g.M.Stands.whole g.M.Stands.ready_at g.M.Stands.tie (tables_of c.self.inside) t
+    c.index_mut-row.result.now c.args.kind
+    c.args.number c.args.trace c.self.invariant.0 at go out per pay c.suspend.ensures c.stamp.ensures.log
+    c.stamp.ensures.ticket (to_z-of_z w64 c.args.number c.ranges.number) in
+    ap book_state same
+    ∙ (name_view g.M.Stands.whole g.M.Stands.ready_at g.M.Stands.tie (tables_of c.self.inside) t c.index_mut-row.result.now c.args.kind
+    c.args.number c.args.trace c.self.invariant.0 at go out per pay
+    ∙ ap (λ v. with_named v (fields_of t) (Advance t.iteration c.args.kind c.args.number) c.args.trace) c.self.view_is)
+
+pub overflow_cast-iteration : goal.overflow_cast-iteration
+overflow_cast-iteration g c =
+    let out = subst (λ v. IsOutOf v (fields_of c.args.token)) (sym c.self.view_is) c.requires.out in
+    out_fits _ c.self.inside.rows.items c.self.inside.spare.items _ _ _ c.args.token.iteration c.self.invariant.0.sized out.out

@@ -1,6 +1,6 @@
 use Rattle.std.proofs.Common.{◌≡◌, ◌∷◌, [], ◌++◌, ap, sym, subst, ◌∙◌, false, true, rules, w64, to_z, of_z}
+use Rattle.std.proofs.lemmas.Bool.{true≢false}
 use Rattle.std.proofs.lemmas.Int.{to_z-of_z}
-use Rattle.pipe_frame.specs.CallResults.{NameReturns}
 use Rattle.pipe_frame.specs.Replies.{accessed}
 use Rattle.pipe_frame.specs.StageEndCases.{EndsIteration, NamesNextStage}
 use Rattle.pipe_frame.specs.TokenFields.{fields_of}
@@ -22,7 +22,7 @@ hold-requires-clause-performs g c = (performs_split (left_of c.args.self.now c.a
 pub course_after-requires : goal.course_after-requires
 course_after-requires g c = λ e.
     let a = subst (λ v. (state_of v).stopped ≡ true) (sym c.self.view_is) (c.requires.stopped e) in
-    absurd (let q : true ≡ false = sym a ∙ (sym c.self.invariant.0.stopped ∙ c.if-self.false) in cc)
+    absurd (true≢false (sym a ∙ (sym c.self.invariant.0.stopped ∙ c.if-self.false)))
 
 -- it names a stage
 pub name-requires-clause-performs : goal.name-requires-clause-performs

@@ -13,3 +13,7 @@ invariant_of-self g c =
           (tables_of c.self.inside) c.self.invariant.0 c.args.least least some,
       c.self.invariant.1,
     )
+
+pub raise_last-requires : goal.raise_last-requires
+raise_last-requires g c =
+    stopped_some c.self.inside.ledger.log (subst (λ v. (state_of v).stopped ≡ true) (sym c.self.view_is) c.requires.stopped)

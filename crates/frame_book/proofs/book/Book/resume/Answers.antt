@@ -7,6 +7,9 @@ use Rattle.frame_book.specs.GivenTokens.{IsGivenBeside}
 use Rattle.pipe_model.specs.declared.event.Event.TheVariants.{Enter}
 use Rattle.frame_book.specs.BookStates.{BookState, item_or, state_of, Spent}
 use Rattle.frame_book.specs.BookTables.{tables_of}
+use Rattle.frame_book.specs.Invariant.{IsBook}
+use Rattle.frame_rows.specs.AliveLists.{HasAliveList}
+use Rattle.std.specs.Prelude.{vec_capacity}
 use Rattle.frame_book.specs.CallEffects.{kept_folded, with_entered, with_resumed}
 use Rattle.frame_book.specs.Tables.{book_state, token_state_of, token_state_by}
 use Rattle.frame_book.proofs.Keeping.Resume.{set_itself, can_run, can_enter, can_not, can_within, resumes, kept_none, resumes_by_entering}
@@ -110,3 +113,14 @@ returns-in-Pending-clause-folded g c =
     (item_or Spent (book_state (record (tables_of c.self.inside) { rows = rs })).tokens i))
     (set_itself c.self.inside.rows.items i c.index_mut-row.result.now x.at_row)
     ∙ ap (λ (w : BookState). kept_folded (item_or Spent w.tokens i)) c.self.view_is)
+
+pub invariant_of-self-in-Pending : goal.invariant_of-self-in-Pending
+invariant_of-self-in-Pending g c =
+    let i = c.args.iteration in
+    let x = resumes c.self.invariant.0 c.self.view_is i c.requires.can c.requires.going c.index_mut-row.ensures.value in
+    let same = sym (set_itself c.self.inside.rows.items i c.index_mut-row.result.now x.at_row) in (
+      subst (λ rs. IsBook g.M.Stands.whole g.M.Stands.ready_at g.M.Stands.tie (record (tables_of c.self.inside) { rows = rs })) same
+          c.self.invariant.0,
+      subst (λ rs. HasAliveList rs c.self.inside.spare.items c.self.inside.alive.items (vec_capacity c.self.inside.alive)) same
+          c.self.invariant.1,
+    )

@@ -1,8 +1,13 @@
-use Rattle.std.proofs.Common.{◌≡◌, ◌∙◌, ap, arith, Some}
+use Rattle.std.proofs.Common.{◌≡◌, ◌∙◌, ap, arith, None, Some, subst, sym}
+use Rattle.pipe_frame.specs.SeatedTokens.{IsGivenToken, IsSeated, seated_replies}
+use Rattle.pipe_frame.specs.TokenFields.{fields_of}
+use Rattle.pipe_worker.specs.HeldTokens.{TakesTokens}
+use Rattle.pipe_worker.specs.Tasks.{IsTask}
+use Rattle.pipe_worker.specs.Workers.{ends_of}
 use Rattle.pipe_frame.specs.TokenCounts.{tokens_in}
 use Rattle.pipe_worker.proofs.SameEnds.{then_same}
 use Rattle.pipe_worker.proofs.SeenRuns.{keeps_stop}
-use Rattle.pipe_worker.proofs.TokenSums.{pop_takes}
+use Rattle.pipe_worker.proofs.TokenSums.{pop_takes, take_keeps, then_keeps}
 use Rattle.pipe_worker.proofs.worker.Worker.empty.Goals as goal
 
 pub loop-preserved : goal.loop-preserved
@@ -21,3 +26,52 @@ loop-preserved g c =
       };
       tokens = omega (arith, invariant, taken, left, one);
     }
+
+pub loop-preserved-in-Some-Begin : goal.loop-preserved-in-Some-Begin
+loop-preserved-in-Some-Begin g c =
+    let counts = g.H.Hall.tokens in
+    let taken = pop_takes g.Q.WorkTest.weight g.Q.TaskTest.tag g.met.Q.WorkTest.weighs c.loop.self.ends c.pop.new.self 0
+    (Some c.in-Some-Begin.field-0) c.in-Some-Begin.ensures.own c.in-Some-Begin.ensures.fronts in
+    let none : tokens_in c.in-Some-Begin.field-0 ≡ 0 = ap tokens_in c.in-Some-Begin.field-0-is in
+    record {
+      named = c.loop.invariant.named;
+      stopped = c.loop.invariant.stopped;
+      worker = record {
+        number = c.loop.invariant.worker.number;
+        deques = then_same c.args.self.now.ends c.loop.self.ends c.pop.new.self c.loop.invariant.worker.deques c.pop.ensures.deques;
+      };
+      tokens = then_keeps g.Q.WorkTest.weight 0 0 0 (counts c.args.hall.now) (counts c.loop.hall) (counts c.loop.hall)
+          (ends_of c.args.self.now) (ends_of c.loop.self) c.pop.new.self c.loop.invariant.tokens
+          (take_keeps g.Q.WorkTest.weight 0 0 (counts c.loop.hall) (ends_of c.loop.self) c.pop.new.self
+          (subst (λ n. TakesTokens g.Q.WorkTest.weight n (ends_of c.loop.self) c.pop.new.self) none taken));
+    }
+
+pub leave_ready-requires-clause-out : goal.leave_ready-requires-clause-out
+leave_ready-requires-clause-out g c =
+    let t = c.in-Some-Resume.token in
+    let given = subst (IsTask (IsGivenToken g.M.Stands.ready_at g.M.Stands.tie g.Q.WorkTest.named)) c.in-Some-Resume.field-0-is
+    (g.met.Q.WorkTest.takes c.in-Some-Resume.field-0 c.in-Some-Resume.ensures.test) in
+    subst (λ h. IsSeated h (fields_of t) (g.M.Stands.tie t.payload)) (sym c.loop.invariant.named) given.out
+
+pub leave_ready-requires-clause-fresh : goal.leave_ready-requires-clause-fresh
+leave_ready-requires-clause-fresh g c =
+    let given = subst (IsTask (IsGivenToken g.M.Stands.ready_at g.M.Stands.tie g.Q.WorkTest.named)) c.in-Some-Resume.field-0-is
+    (g.met.Q.WorkTest.takes c.in-Some-Resume.field-0 c.in-Some-Resume.ensures.test) in
+    given.fresh
+
+pub leave_ready-requires-clause-ready : goal.leave_ready-requires-clause-ready
+leave_ready-requires-clause-ready g c =
+    let t = c.in-Some-Resume.token in
+    let given = subst (IsTask (IsGivenToken g.M.Stands.ready_at g.M.Stands.tie g.Q.WorkTest.named)) c.in-Some-Resume.field-0-is
+    (g.met.Q.WorkTest.takes c.in-Some-Resume.field-0 c.in-Some-Resume.ensures.test) in
+    subst (λ h. g.M.Stands.ready_at h.tree h.input t.payload t.iteration (seated_replies (g.M.Stands.tie t.payload)))
+    (sym c.loop.invariant.named) given.ready
+
+pub returns-in-None-pop-clause-tokens : goal.returns-in-None-pop-clause-tokens
+returns-in-None-pop-clause-tokens g c =
+    let counts = g.H.Hall.tokens in
+    then_keeps g.Q.WorkTest.weight 0 0 0 (counts c.args.hall.now) (counts c.loop.hall) (counts c.loop.hall)
+    (ends_of c.args.self.now) (ends_of c.loop.self) c.pop.new.self c.loop.invariant.tokens
+    (take_keeps g.Q.WorkTest.weight 0 0 (counts c.loop.hall) (ends_of c.loop.self) c.pop.new.self
+    (pop_takes g.Q.WorkTest.weight g.Q.TaskTest.tag g.met.Q.WorkTest.weighs c.loop.self.ends c.pop.new.self 0 None
+    c.in-None-pop.ensures.own c.in-None-pop.ensures.fronts))
