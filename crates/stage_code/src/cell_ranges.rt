@@ -20,7 +20,7 @@ use std::marker::Model;
 const FIRST_CELL: u32 = 2;
 
 /// The cells of a declared name.
-#[derive(Clone, Copy, PartialEq, Eq, Debug)]
+#[derive(Clone, Copy)]
 pub struct DeclaredRange {
     pub first: CellId,
     pub size: u32,
