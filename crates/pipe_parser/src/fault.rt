@@ -7,7 +7,7 @@ use std::alloc::AllocError;
 
 /// Why symbols are no program, with the number of symbols from the first that breaks a rule to the
 /// end.
-#[derive(Clone, Copy, PartialEq, Eq, Debug)]
+#[derive(Clone, Copy)]
 pub enum SyntaxFault {
     /// The symbol may not come there; 0 means that the symbols end too early.
     Unexpected(usize),
