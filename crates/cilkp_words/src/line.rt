@@ -46,7 +46,13 @@ fn with<'a>(
         → IfOk result (λ c. shape_of c ≡ with_argument s r) }
     ensures local { IfOk result (λ c. (fields_of c).has_globals ≡ false) }
 {
-    command?.arg(argument)
+    match command {
+        Ok(command) => command.arg(argument),
+        Err(error) => {
+            drop(argument);
+            Err(error)
+        }
+    }
 }
 
 // Adds the files of a program and its input.
@@ -169,7 +175,20 @@ fn with_command<'a>(
     ensures { (a : App) (s : Shape) → IfOk line.entry (λ l. app_of l ≡ a) → IfOk command.entry (λ c. shape_of c ≡ s)
         → IfOk result (λ l. app_of l ≡ with_subcommand a s) }
 {
-    line?.subcommand(command?)
+    let line = match line {
+        Ok(line) => line,
+        Err(error) => {
+            drop(command);
+            return Err(error);
+        }
+    };
+    match command {
+        Ok(command) => line.subcommand(command),
+        Err(error) => {
+            drop(line);
+            Err(error)
+        }
+    }
 }
 
 /// Returns the command line with its subcommands. Returns an error only if memory runs out.

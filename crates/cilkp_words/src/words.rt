@@ -216,8 +216,18 @@ pub fn read_words<'a>(alloc: Global, words: &'a [String]) -> Result<Option<Comma
     ensures ranges { IfOk result (λ found. IfSome (option_map command_data found) IsInRange) }
 {
     match command_line(alloc)?.try_get_matches_from(words) {
-        Ok(matches) => Ok(command_in(&matches)),
-        Err(error) if error.kind() == ErrorKind::OutOfMemory => Err(NoMemory),
-        Err(_) => Ok(None),
+        Ok(matches) => {
+            let command = command_in(&matches);
+            drop(matches);
+            Ok(command)
+        }
+        Err(error) => {
+            if error.kind() == ErrorKind::OutOfMemory {
+                drop(error);
+                return Err(NoMemory);
+            }
+            drop(error);
+            Ok(None)
+        }
     }
 }

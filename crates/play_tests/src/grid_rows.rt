@@ -101,7 +101,11 @@ fn fills(alloc: Global, checked: &Checked, row: &Row, workers: u32) -> bool
     requires workers { 0 < workers }
 {
     match play_of(alloc, checked, limits(workers, workers, 1_000_000), &[]) {
-        Ok(played) => is_filled(&played, row),
+        Ok(played) => {
+            let found = is_filled(&played, row);
+            drop(played);
+            found
+        }
         Err(NoMemory) => false,
     }
 }
@@ -116,7 +120,11 @@ fn fills_twice(alloc: Global, checked: &Checked, row: &Row) -> bool
 // The same for the lowered program of the row's source.
 fn row_fills(alloc: Global, row: &Row) -> bool {
     match lowered(alloc, row.0.as_bytes()) {
-        Some(checked) => fills_twice(alloc, &checked, row),
+        Some(checked) => {
+            let found = fills_twice(alloc, &checked, row);
+            drop(checked);
+            found
+        }
         None => false,
     }
 }
@@ -153,7 +161,11 @@ fn plays_with_races(alloc: Global, checked: &Checked) -> bool
     requires { BreaksNoRule (tree_of checked.now) }
 {
     match play_of(alloc, checked, limits(1, 1, 1_000_000), &[]) {
-        Ok(played) => has_races(alloc, checked, &played),
+        Ok(played) => {
+            let found = has_races(alloc, checked, &played);
+            drop(played);
+            found
+        }
         Err(NoMemory) => false,
     }
 }
@@ -161,7 +173,11 @@ fn plays_with_races(alloc: Global, checked: &Checked) -> bool
 // The same for the lowered program of the source.
 fn points_race(alloc: Global) -> bool {
     match lowered(alloc, RACING_POINTS.as_bytes()) {
-        Some(checked) => plays_with_races(alloc, &checked),
+        Some(checked) => {
+            let found = plays_with_races(alloc, &checked);
+            drop(checked);
+            found
+        }
         None => false,
     }
 }
@@ -204,7 +220,11 @@ fn emits_one(alloc: Global, checked: &Checked) -> bool
     requires { BreaksNoRule (tree_of checked.now) }
 {
     match play_of(alloc, checked, limits(1, 1, 1_000_000), &[]) {
-        Ok(played) => played.output.as_slice() == [1].as_slice(),
+        Ok(played) => {
+            let found = played.output.as_slice() == [1].as_slice();
+            drop(played);
+            found
+        }
         Err(NoMemory) => false,
     }
 }
@@ -212,7 +232,11 @@ fn emits_one(alloc: Global, checked: &Checked) -> bool
 // The same for the lowered program of a source.
 fn source_emits_one(alloc: Global, source: &str) -> bool {
     match lowered(alloc, source.as_bytes()) {
-        Some(checked) => emits_one(alloc, &checked),
+        Some(checked) => {
+            let found = emits_one(alloc, &checked);
+            drop(checked);
+            found
+        }
         None => false,
     }
 }

@@ -125,9 +125,11 @@ fn plays_lines(
     let count = limits.turns.min(100) as usize;
     match play_of(alloc, checked, limits, choices) {
         Ok(played) => {
-            played.finished == (lines.len() <= count)
+            let found = played.finished == (lines.len() <= count)
                 && played.reports.is_empty()
-                && has_lines(alloc, checked, &played, lines, count)
+                && has_lines(alloc, checked, &played, lines, count);
+            drop(played);
+            found
         }
         Err(NoMemory) => false,
     }
@@ -150,7 +152,11 @@ fn first_other_turns(alloc: Global, checked: &Checked) -> Option<u64>
 
 fn first_other_of_counting(alloc: Global) -> Option<u64> {
     match accepted(alloc, COUNTING.as_bytes()) {
-        Some(checked) => first_other_turns(alloc, &checked),
+        Some(checked) => {
+            let found = first_other_turns(alloc, &checked);
+            drop(checked);
+            found
+        }
         None => Some(0),
     }
 }
@@ -176,7 +182,11 @@ fn has_the_race(alloc: Global, checked: &Checked, seed: u32) -> bool
         return false;
     };
     match play_of(alloc, checked, limits(2, 2, 10_000), choices.as_slice()) {
-        Ok(played) => races_once(&played),
+        Ok(played) => {
+            let found = races_once(&played);
+            drop(played);
+            found
+        }
         Err(NoMemory) => false,
     }
 }
@@ -195,7 +205,11 @@ fn first_other_seed(alloc: Global, checked: &Checked) -> Option<u32>
 
 fn first_other_seed_of_racing(alloc: Global) -> Option<u32> {
     match accepted(alloc, RACING.as_bytes()) {
-        Some(checked) => first_other_seed(alloc, &checked),
+        Some(checked) => {
+            let found = first_other_seed(alloc, &checked);
+            drop(checked);
+            found
+        }
         None => Some(100),
     }
 }
@@ -235,7 +249,11 @@ fn first_other_order(alloc: Global, checked: &Checked) -> Option<u32>
 // The same for the program of `WAITING`.
 fn first_other_order_of_waiting(alloc: Global) -> Option<u32> {
     match accepted(alloc, WAITING.as_bytes()) {
-        Some(checked) => first_other_order(alloc, &checked),
+        Some(checked) => {
+            let found = first_other_order(alloc, &checked);
+            drop(checked);
+            found
+        }
         None => Some(10),
     }
 }
@@ -259,7 +277,11 @@ fn waits_and_goes_on(alloc: Global, checked: &Checked) -> bool
 
 fn waiting_goes_on(alloc: Global) -> bool {
     match accepted(alloc, WAITING.as_bytes()) {
-        Some(checked) => waits_and_goes_on(alloc, &checked),
+        Some(checked) => {
+            let found = waits_and_goes_on(alloc, &checked);
+            drop(checked);
+            found
+        }
         None => false,
     }
 }

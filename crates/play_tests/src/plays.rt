@@ -49,7 +49,10 @@ pub fn play_of(
         throttle,
         turns,
     } = limits;
-    play(
+    let played = play(
         alloc, checked, &code, &input, workers, throttle, choices, turns,
-    )
+    );
+    drop(code);
+    drop(input);
+    played
 }

@@ -122,7 +122,11 @@ fn ends(alloc: Global, checked: &Checked, turns: u64) -> (bool, bool)
     requires { BreaksNoRule (tree_of checked.now) }
 {
     match play_of(alloc, checked, limits(4, 4, turns), &[59]) {
-        Ok(played) => (played.finished, are_prefix_sums(&played)),
+        Ok(played) => {
+            let found = (played.finished, are_prefix_sums(&played));
+            drop(played);
+            found
+        }
         Err(NoMemory) => (false, true),
     }
 }
@@ -151,7 +155,11 @@ fn seeded(alloc: Global, checked: &Checked, workers: u32, seed: u32) -> (bool, u
         return (false, 0);
     };
     match play_of(alloc, checked, limits(workers, 4, 1000), choices.as_slice()) {
-        Ok(played) => sums_and_most(&played),
+        Ok(played) => {
+            let found = sums_and_most(&played);
+            drop(played);
+            found
+        }
         Err(NoMemory) => (false, 0),
     }
 }
@@ -178,7 +186,11 @@ fn first_other_seed(alloc: Global, checked: &Checked) -> Option<u32>
 
 fn sums_end_after_42(alloc: Global) -> bool {
     match accepted(alloc, PREFIX_SUMS.as_bytes()) {
-        Some(checked) => end_after_42(alloc, &checked),
+        Some(checked) => {
+            let found = end_after_42(alloc, &checked);
+            drop(checked);
+            found
+        }
         None => false,
     }
 }
@@ -190,7 +202,11 @@ fn sums_take_42_turns(rt: HostRuntime) {
 
 fn first_other_seed_of_sums(alloc: Global) -> Option<u32> {
     match accepted(alloc, PREFIX_SUMS.as_bytes()) {
-        Some(checked) => first_other_seed(alloc, &checked),
+        Some(checked) => {
+            let found = first_other_seed(alloc, &checked);
+            drop(checked);
+            found
+        }
         None => Some(10),
     }
 }
@@ -218,14 +234,22 @@ fn play_leaves_out_final(alloc: Global, checked: &Checked) -> bool
     requires { BreaksNoRule (tree_of checked.now) }
 {
     match play_of(alloc, checked, limits(1, 1, 10_000), &[]) {
-        Ok(played) => leaves_out_final(alloc, checked, &played),
+        Ok(played) => {
+            let found = leaves_out_final(alloc, checked, &played);
+            drop(played);
+            found
+        }
         Err(NoMemory) => false,
     }
 }
 
 fn racing_sums_leave_out_final(alloc: Global) -> bool {
     match accepted(alloc, RACING_SUMS.as_bytes()) {
-        Some(checked) => play_leaves_out_final(alloc, &checked),
+        Some(checked) => {
+            let found = play_leaves_out_final(alloc, &checked);
+            drop(checked);
+            found
+        }
         None => false,
     }
 }
@@ -248,7 +272,11 @@ fn leaves(alloc: Global, checked: &Checked, row: &Row) -> bool
     requires { BreaksNoRule (tree_of checked.now) }
 {
     match play_of(alloc, checked, limits(2, 2, row.1), &[]) {
-        Ok(played) => is_left(&played, row),
+        Ok(played) => {
+            let found = is_left(&played, row);
+            drop(played);
+            found
+        }
         Err(NoMemory) => false,
     }
 }
@@ -256,7 +284,11 @@ fn leaves(alloc: Global, checked: &Checked, row: &Row) -> bool
 // The same for the program of the row's source.
 fn row_leaves(alloc: Global, row: &Row) -> bool {
     match accepted(alloc, row.0.as_bytes()) {
-        Some(checked) => leaves(alloc, &checked, row),
+        Some(checked) => {
+            let found = leaves(alloc, &checked, row);
+            drop(checked);
+            found
+        }
         None => false,
     }
 }
@@ -294,7 +326,11 @@ fn plays_least_trap(alloc: Global, checked: &Checked, choice: u32, last: u32) ->
     requires { BreaksNoRule (tree_of checked.now) }
 {
     match play_of(alloc, checked, limits(4, 4, 47), &[choice]) {
-        Ok(played) => has_least_trap(&played, last),
+        Ok(played) => {
+            let found = has_least_trap(&played, last);
+            drop(played);
+            found
+        }
         Err(NoMemory) => false,
     }
 }
@@ -308,7 +344,11 @@ fn both_have_least_trap(alloc: Global, checked: &Checked) -> bool
 
 fn two_traps_have_least(alloc: Global) -> bool {
     match accepted(alloc, TWO_TRAPS.as_bytes()) {
-        Some(checked) => both_have_least_trap(alloc, &checked),
+        Some(checked) => {
+            let found = both_have_least_trap(alloc, &checked);
+            drop(checked);
+            found
+        }
         None => false,
     }
 }

@@ -14,7 +14,17 @@ use wave_lower::wave::lower_wave;
 /// Returns the fault of a source as a wave loop, if it is accepted and has one.
 pub fn wave_fault(alloc: Global, source: &[u8]) -> Option<WaveFault> {
     let checked = accepted(alloc, source)?;
-    lower_wave(alloc, checked.program()).err()
+    match lower_wave(alloc, checked.program()) {
+        Ok(program) => {
+            drop(program);
+            drop(checked);
+            None
+        }
+        Err(fault) => {
+            drop(checked);
+            Some(fault)
+        }
+    }
 }
 
 /// Returns the lowered program of a source, or nothing if it is refused, is no wave loop, or memory runs out.
@@ -23,8 +33,10 @@ pub fn lowered(alloc: Global, source: &[u8]) -> Option<Checked>
 {
     let checked = accepted(alloc, source)?;
     let Ok(program) = lower_wave(alloc, checked.program()) else {
+        drop(checked);
         return None;
     };
+    drop(checked);
     let Ok(lowered) = check(alloc, program) else {
         return None;
     };

@@ -133,7 +133,11 @@ fn merged(alloc: Global) -> Result<RunLog, NoMemory> {
 
 fn logs_are_merged(alloc: Global) -> bool {
     match merged(alloc) {
-        Ok(log) => is_merged(&log),
+        Ok(log) => {
+            let found = is_merged(&log);
+            drop(log);
+            found
+        }
         Err(NoMemory) => false,
     }
 }

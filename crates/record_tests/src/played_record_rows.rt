@@ -31,7 +31,7 @@ fn play_of(alloc: Global, checked: &Checked, workers: u32, choice: u32) -> Resul
 {
     let code = lower(alloc, checked)?;
     let input = Numbers::new(alloc);
-    play(
+    let played = play(
         alloc,
         checked,
         &code,
@@ -40,7 +40,10 @@ fn play_of(alloc: Global, checked: &Checked, workers: u32, choice: u32) -> Resul
         16,
         &[choice],
         10_000,
-    )
+    );
+    drop(code);
+    drop(input);
+    played
 }
 
 // What is printed of a play: its races, and its log.
@@ -72,8 +75,15 @@ fn are_finished(alloc: Global, checked: &Checked, events: &Events, races: &Repor
         return false;
     };
     let input = Numbers::new(alloc);
-    match check_record(alloc, checked, &code, &input, 16, events) {
-        Ok(answer) => is_run_with(&answer, races),
+    let answer = check_record(alloc, checked, &code, &input, 16, events);
+    drop(code);
+    drop(input);
+    match answer {
+        Ok(answer) => {
+            let found = is_run_with(&answer, races);
+            drop(answer);
+            found
+        }
         Err(NoMemory) => false,
     }
 }
@@ -106,7 +116,11 @@ fn is_confirmed(alloc: Global, checked: &Checked, workers: u32, choice: u32) -> 
         return false;
     }
     match play_of(alloc, checked, workers, choice) {
-        Ok(played) => is_record(alloc, checked, &played),
+        Ok(played) => {
+            let found = is_record(alloc, checked, &played);
+            drop(played);
+            found
+        }
         Err(NoMemory) => false,
     }
 }
@@ -129,7 +143,11 @@ fn first_other(alloc: Global, checked: &Checked) -> Option<usize>
 // The same for the program of `RACING_SUMS`; the number of plays if it is refused.
 fn first_other_of_sums(alloc: Global) -> Option<usize> {
     match accepted(alloc, RACING_SUMS.as_bytes()) {
-        Some(checked) => first_other(alloc, &checked),
+        Some(checked) => {
+            let found = first_other(alloc, &checked);
+            drop(checked);
+            found
+        }
         None => Some(PLAYS.len()),
     }
 }

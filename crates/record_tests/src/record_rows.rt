@@ -123,8 +123,15 @@ fn checked_events(alloc: Global, checked: &Checked, throttle: u32, events: &Even
         return Outcome::Other;
     };
     let input = Numbers::new(alloc);
-    match check_record(alloc, checked, &code, &input, throttle, events) {
-        Ok(answer) => outcome_of(&answer, events.len()),
+    let answer = check_record(alloc, checked, &code, &input, throttle, events);
+    drop(code);
+    drop(input);
+    match answer {
+        Ok(answer) => {
+            let found = outcome_of(&answer, events.len());
+            drop(answer);
+            found
+        }
         Err(NoMemory) => Outcome::Other,
     }
 }
@@ -189,7 +196,11 @@ fn first_other(alloc: Global, checked: &Checked) -> Option<usize>
 // The same for the program of `COUNTING`; the number of rows if it is refused.
 fn first_other_of_counting(alloc: Global) -> Option<usize> {
     match accepted(alloc, COUNTING.as_bytes()) {
-        Some(checked) => first_other(alloc, &checked),
+        Some(checked) => {
+            let found = first_other(alloc, &checked);
+            drop(checked);
+            found
+        }
         None => Some(ROWS.len()),
     }
 }

@@ -73,31 +73,31 @@ fn has_events(alloc: Global, checked: &Checked, text: &[u8], events: &[Event]) -
     }
 }
 
-const TEXTS: [(&[u8], Result<usize, u32>); 21] = [
-    (b"", Ok(0)),
-    (b"begin 0", Ok(1)),
+const TEXTS: [(&str, Result<usize, u32>); 21] = [
+    ("", Ok(0)),
+    ("begin 0", Ok(1)),
     (
-        b"12\n-7\nrace n write 0/1 read 1/-1\ntrap Index at 0/1\nbegin 0\n",
+        "12\n-7\nrace n write 0/1 read 1/-1\ntrap Index at 0/1\nbegin 0\n",
         Ok(1),
     ),
-    (b"trap Budget in init\n", Ok(0)),
-    (b"begin 0\n12\n", Err(1)),
-    (b"begin 0\ntrap Index at 0/1\n", Err(1)),
-    (b"race m write 0/1 read 1/1\n", Err(0)),
-    (b"race n write 0/1 read 65537/1\n", Err(0)),
-    (b"trap Index at 0\n", Err(0)),
-    (b"\n", Err(0)),
-    (b"begin 0\n\n", Err(1)),
-    (b"begin 0\r\n", Err(0)),
-    (b"begin 0\0\n", Err(0)),
-    (b"begin 00\n", Err(0)),
-    (b"begin 65537\n", Err(0)),
-    (b"begin 0 \n", Err(0)),
-    (b"read 0 n 01\n", Err(0)),
-    (b"read 0 n -0\n", Err(0)),
-    (b"read 0 n 12345678901234567890\n", Err(0)),
-    (b"read 0 a[3] 0\n", Err(0)),
-    (b"write 0 a 0\n", Err(0)),
+    ("trap Budget in init\n", Ok(0)),
+    ("begin 0\n12\n", Err(1)),
+    ("begin 0\ntrap Index at 0/1\n", Err(1)),
+    ("race m write 0/1 read 1/1\n", Err(0)),
+    ("race n write 0/1 read 65537/1\n", Err(0)),
+    ("trap Index at 0\n", Err(0)),
+    ("\n", Err(0)),
+    ("begin 0\n\n", Err(1)),
+    ("begin 0\r\n", Err(0)),
+    ("begin 0\0\n", Err(0)),
+    ("begin 00\n", Err(0)),
+    ("begin 65537\n", Err(0)),
+    ("begin 0 \n", Err(0)),
+    ("read 0 n 01\n", Err(0)),
+    ("read 0 n -0\n", Err(0)),
+    ("read 0 n 12345678901234567890\n", Err(0)),
+    ("read 0 a[3] 0\n", Err(0)),
+    ("write 0 a 0\n", Err(0)),
 ];
 
 // Whether a text has this number of events, or this first bad line.
@@ -112,7 +112,7 @@ fn is_read(alloc: Global, checked: &Checked, text: &[u8], wanted: Result<usize, 
 // The first text with another number of events, or another first bad line.
 fn first_other(alloc: Global, checked: &Checked) -> Option<usize> {
     for (k, (text, wanted)) in TEXTS.iter().enumerate() {
-        if !is_read(alloc, checked, text, *wanted) {
+        if !is_read(alloc, checked, text.as_bytes(), *wanted) {
             return Some(k);
         }
     }
@@ -123,7 +123,9 @@ fn first_other(alloc: Global, checked: &Checked) -> Option<usize> {
 fn texts_read(alloc: Global) -> Option<(bool, Option<usize>)> {
     let checked = accepted(alloc, SOURCE.as_bytes())?;
     let right = has_events(alloc, &checked, RECORD.as_bytes(), &EVENTS);
-    Some((right, first_other(alloc, &checked)))
+    let other = first_other(alloc, &checked);
+    drop(checked);
+    Some((right, other))
 }
 
 #[test]
@@ -148,7 +150,11 @@ fn lengths_are_bounded(alloc: Global, checked: &Checked) -> bool {
 
 fn long_texts(alloc: Global) -> bool {
     match accepted(alloc, SOURCE.as_bytes()) {
-        Some(checked) => lengths_are_bounded(alloc, &checked),
+        Some(checked) => {
+            let found = lengths_are_bounded(alloc, &checked);
+            drop(checked);
+            found
+        }
         None => false,
     }
 }

@@ -67,14 +67,22 @@ fn have_lines(alloc: Global, reports: &Reports, checked: &Checked) -> bool {
 // The same for the program of the source.
 fn source_has_lines(alloc: Global, reports: &Reports) -> bool {
     match accepted(alloc, SOURCE.as_bytes()) {
-        Some(checked) => have_lines(alloc, reports, &checked),
+        Some(checked) => {
+            let found = have_lines(alloc, reports, &checked);
+            drop(checked);
+            found
+        }
         None => false,
     }
 }
 
 fn races_have_lines(alloc: Global) -> bool {
     match reports(alloc) {
-        Ok(reports) => source_has_lines(alloc, &reports),
+        Ok(reports) => {
+            let found = source_has_lines(alloc, &reports);
+            drop(reports);
+            found
+        }
         Err(NoMemory) => false,
     }
 }

@@ -155,14 +155,22 @@ fn has_lines(alloc: Global, log: &RunLog, checked: &Checked) -> bool {
 // The same for the program of the source.
 fn source_has_lines(alloc: Global, log: &RunLog) -> bool {
     match accepted(alloc, SOURCE.as_bytes()) {
-        Some(checked) => has_lines(alloc, log, &checked),
+        Some(checked) => {
+            let found = has_lines(alloc, log, &checked);
+            drop(checked);
+            found
+        }
         None => false,
     }
 }
 
 fn log_has_lines(alloc: Global) -> bool {
     match run_log(alloc) {
-        Ok(log) => source_has_lines(alloc, &log),
+        Ok(log) => {
+            let found = source_has_lines(alloc, &log);
+            drop(log);
+            found
+        }
         Err(NoMemory) => false,
     }
 }

@@ -2,8 +2,8 @@
 
 ghost use Rattle.std.specs.Prelude.{◌≡◌, ◌≤◌, ◌<◌, ◌+◌, ◌++◌, ◌∷◌, [], OnOk, length};
 ghost use Rattle.pipe_model.specs.Language.Programs.{range_of};
-ghost use Rattle.pipe_model.specs.Language.SyntaxTree.{Assign, AssignElement, Emit, Let, expression_of, stage_statement, statement_of};
-ghost use Rattle.pipe_model.specs.Language.SyntaxTree.{statements_of};
+ghost use Rattle.pipe_model.specs.Language.SyntaxTree.{Assign, AssignElement, Emit, If, Let, While};
+ghost use Rattle.pipe_model.specs.Language.SyntaxTree.{expression_of, stage_statement, statement_of, statements_of};
 ghost use Rattle.stage_code.specs.CodeOfTrees.{assign_code, assign_element_code, next_stage_code, stage_code, statement_code};
 ghost use Rattle.stage_code.specs.CodeOfTrees.{statements_code};
 ghost use Rattle.stage_code.specs.Fitting.{CodeFits};
@@ -159,6 +159,66 @@ fn put_stage(
     }
 }
 
+// Appends the code of an `if`.
+#[cycle(walk)]
+fn put_if(
+    alloc: Global,
+    code: &mut Vec<Instr>,
+    cells: &CellRanges,
+    locals: &mut Locals,
+    e: &Expr,
+    a: &Block,
+    b: &Block,
+) -> Result<(), NoMemory>
+    requires fits { CodeFits code.old.items (statement_code (range_of 2 cells.now) locals.old (length code.old.items)
+        (If (expression_of e.now) (statements_of a.now.statements.items) (statements_of b.now.statements.items))) }
+    requires first { HaveSlots locals.old (statements_of a.now.statements.items) }
+    requires second { HaveSlots locals.old (statements_of b.now.statements.items) }
+    ensures code { OnOk result (code.new.items
+        ≡ code.old.items ++ statement_code (range_of 2 cells.now) locals.old (length code.old.items)
+        (If (expression_of e.now) (statements_of a.now.statements.items) (statements_of b.now.statements.items))) }
+    ensures after { OnOk result (locals.new ≡ locals.old) }
+{
+    put_expression(code, cells, locals, e)?;
+    let test = code.len();
+    put(code, Instr::Branch(0))?;
+    put_block(alloc, code, cells, locals, a)?;
+    let end = code.len();
+    put(code, Instr::Jump(0))?;
+    code[test] = Instr::Branch(place(code));
+    put_block(alloc, code, cells, locals, b)?;
+    code[end] = Instr::Jump(place(code));
+    Ok(())
+}
+
+// Appends the code of a `while`.
+#[cycle(walk)]
+fn put_while(
+    alloc: Global,
+    code: &mut Vec<Instr>,
+    cells: &CellRanges,
+    locals: &mut Locals,
+    e: &Expr,
+    body: &Block,
+) -> Result<(), NoMemory>
+    requires fits { CodeFits code.old.items (statement_code (range_of 2 cells.now) locals.old (length code.old.items)
+        (While (expression_of e.now) (statements_of body.now.statements.items))) }
+    requires slots { HaveSlots locals.old (statements_of body.now.statements.items) }
+    ensures code { OnOk result (code.new.items
+        ≡ code.old.items ++ statement_code (range_of 2 cells.now) locals.old (length code.old.items)
+        (While (expression_of e.now) (statements_of body.now.statements.items))) }
+    ensures after { OnOk result (locals.new ≡ locals.old) }
+{
+    let start = place(code);
+    put_expression(code, cells, locals, e)?;
+    let test = code.len();
+    put(code, Instr::Branch(0))?;
+    put_block(alloc, code, cells, locals, body)?;
+    put(code, Instr::Jump(start))?;
+    code[test] = Instr::Branch(place(code));
+    Ok(())
+}
+
 // Appends the code of a statement. Its local, if it is a `let`, is then in scope.
 #[cycle(walk)]
 fn put_statement(
@@ -180,28 +240,8 @@ fn put_statement(
         Stmt::Assign(name, e) => put_assign(code, cells, locals, name, e),
         Stmt::AssignElement(name, i, e) => put_assign_element(code, cells, locals, name, i, e),
         Stmt::Emit(e) => put_emit(code, cells, locals, e),
-        Stmt::If(e, a, b) => {
-            put_expression(code, cells, locals, e)?;
-            let test = code.len();
-            put(code, Instr::Branch(0))?;
-            put_block(alloc, code, cells, locals, a)?;
-            let end = code.len();
-            put(code, Instr::Jump(0))?;
-            code[test] = Instr::Branch(place(code));
-            put_block(alloc, code, cells, locals, b)?;
-            code[end] = Instr::Jump(place(code));
-            Ok(())
-        }
-        Stmt::While(e, a) => {
-            let start = place(code);
-            put_expression(code, cells, locals, e)?;
-            let test = code.len();
-            put(code, Instr::Branch(0))?;
-            put_block(alloc, code, cells, locals, a)?;
-            put(code, Instr::Jump(start))?;
-            code[test] = Instr::Branch(place(code));
-            Ok(())
-        }
+        Stmt::If(e, a, b) => put_if(alloc, code, cells, locals, e, a, b),
+        Stmt::While(e, a) => put_while(alloc, code, cells, locals, e, a),
         Stmt::Wait(number) => put_stage(code, cells, locals, StageKind::Wait, number),
         Stmt::Continue(number) => put_stage(code, cells, locals, StageKind::Continue, number),
     }

@@ -9,12 +9,12 @@ pub returns-in-Ok-clause-command : goal.returns-in-Ok-clause-command
 returns-in-Ok-clause-command c =
     accepted_words _ (words_of c.args.words.now) _ (subcommand_rows_of c.in-Ok.matches) c.in_ok-command_line.ensures c.in-Ok.ensures.kinds
     c.in-Ok.ensures.matches
-    c.command_in.ensures
+    c.command_in-command.ensures
 
 pub returns-in-Ok-clause-ranges : goal.returns-in-Ok-clause-ranges
-returns-in-Ok-clause-ranges c = command_between _ (subcommand_rows_of c.in-Ok.matches) c.command_in.ensures
+returns-in-Ok-clause-ranges c = command_between _ (subcommand_rows_of c.in-Ok.matches) c.command_in-command.ensures
 
-pub returns-clause-command : goal.returns-clause-command
-returns-clause-command c =
+pub returns-else-eq-clause-command : goal.returns-else-eq-clause-command
+returns-else-eq-clause-command c =
     refused_words _ (words_of c.args.words.now) c.in-Err.error.kind c.in_ok-command_line.ensures c.in-Err.ensures.kinds
     (λ memory. let d : false ≡ true = rw (c.kind.ensures ∙ memory) at c.if-eq.ensures in cc (d))

@@ -1,10 +1,12 @@
-use Rattle.std.proofs.Common.{rules, ◌≡◌, ◌<◌, ◌≤◌, ◌∙◌, ◌++◌, length, refl, sym, ap, slice_set, arith, length-append, List, ℕ, [], ◌∷◌}
+use Rattle.std.proofs.Common.{rules, OnOk, ◌≡◌, ◌<◌, ◌≤◌, ◌∙◌, ◌++◌, ◌∷◌, [], List, ℕ, length, refl, sym, ap, subst, slice_set}
+use Rattle.std.proofs.Common.{arith, length-append}
 use Rattle.pipe_check.proofs.Statements.{one_counts}
 use Rattle.pipe_model.specs.Language.Programs.{range_of}
 use Rattle.pipe_model.specs.Language.SpellablePrograms.{statement_count, statement_counts}
 use Rattle.pipe_model.specs.Language.SyntaxTree.{expression_of, statement_of, statements_of}
 use Rattle.pipe_model.proofs.NestedBlocks.{if_seen, while_seen}
 use Rattle.stage_code.specs.CodeOfTrees.{expression_code, statement_code, statements_code}
+use Rattle.stage_code.specs.Fitting.{CodeFits}
 use Rattle.stage_code.specs.declared.instr.Instr.TheVariants as instrs
 use Rattle.stage_code.proofs.Patches.{passing_patched, choosing_patched}
 use Rattle.stage_code.proofs.Statements.{statement_fits, statement_slots, block_left, first_fits, between_fits, second_fits, if_slots}
@@ -34,136 +36,161 @@ put_block-returns-clause-after t c =
     c.leave.ensures ∙ rw visible (block_left c.args.locals.now c.loop-s.locals items c.loop-s.s-index
     (statements_of c.args.block.now.statements.items) w c.loop-s.invariant.after)
 
-pub put_statement-put_block-requires : goal.put_statement-put_block-requires
-put_statement-put_block-requires t c =
+pub put_statement-put_if-requires : goal.put_statement-put_if-requires
+put_statement-put_if-requires t c =
+    let base = c.args.code.now.items in
     let is = ap statement_of c.in-If.is ∙ if_seen c.in-If.e c.in-If.a c.in-If.b in
     let counted = ap statement_count is in (
       omega (arith, c.decreases, counted),
       (
-        first_fits (range_of 2 c.args.cells.now) c.args.locals.now (expression_of c.in-If.e) (statements_of c.in-If.a.statements.items)
-            (statements_of c.in-If.b.statements.items) _
-            c.args.code.now.items c.put_expression.new.code.items c.put.new.code.items (instrs.Branch 0) is c.requires.fits
-            c.in_ok-put_expression-in-If.ensures c.in_ok-put-in-If.ensures,
-        (if_slots c.args.locals.now (expression_of c.in-If.e) _ _ _ is c.requires.slots).0,
+        subst (λ s. CodeFits base (statement_code (range_of 2 c.args.cells.now) c.args.locals.now (length base) s)) is c.requires.fits,
+        if_slots c.args.locals.now (expression_of c.in-If.e) _ _ _ is c.requires.slots,
       ),
     )
 
-pub put_statement-place-requires : goal.put_statement-place-requires
-put_statement-place-requires t c =
-    let is = ap statement_of c.in-If.is ∙ if_seen c.in-If.e c.in-If.a c.in-If.b in
-    let fits = between_fits (range_of 2 c.args.cells.now) c.args.locals.now (expression_of c.in-If.e)
-    (statements_of c.in-If.a.statements.items)
-    (statements_of c.in-If.b.statements.items) _
-    c.args.code.now.items c.put_expression.new.code.items c.put.new.code.items c.put_block.new.code.items c.put-in-If.new.code.items
-    (instrs.Branch 0) (instrs.Jump 0) is c.requires.fits
-    c.in_ok-put_expression-in-If.ensures c.in_ok-put-in-If.ensures c.in_ok-put_block-in-If.ensures.code c.in_ok-put-in-If-2.ensures in
-    omega (arith, fits)
-
-pub put_statement-put_block-requires-in-If : goal.put_statement-put_block-requires-in-If
-put_statement-put_block-requires-in-If t c =
-    let is = ap statement_of c.in-If.is ∙ if_seen c.in-If.e c.in-If.a c.in-If.b in
-    let counted = ap statement_count is in
-    let a = statements_of c.in-If.a.statements.items in
-    let b = statements_of c.in-If.b.statements.items in
-    let fits = between_fits (range_of 2 c.args.cells.now) c.args.locals.now (expression_of c.in-If.e) a b _
-    c.args.code.now.items c.put_expression.new.code.items c.put.new.code.items c.put_block.new.code.items c.put-in-If.new.code.items
-    (instrs.Branch 0) (instrs.Jump 0) is c.requires.fits
-    c.in_ok-put_expression-in-If.ensures c.in_ok-put-in-If.ensures c.in_ok-put_block-in-If.ensures.code c.in_ok-put-in-If-2.ensures in
-    let left : c.put_block.new.locals ≡ c.args.locals.now = c.in_ok-put_block-in-If.ensures.after in (
+pub put_statement-put_while-requires : goal.put_statement-put_while-requires
+put_statement-put_while-requires t c =
+    let base = c.args.code.now.items in
+    let is = ap statement_of c.in-While.is ∙ while_seen c.in-While.e c.in-While.a in
+    let counted = ap statement_count is in (
       omega (arith, c.decreases, counted),
       (
-        second_fits (range_of 2 c.args.cells.now) c.args.locals.now c.put_block.new.locals b c.put-in-If.new.code.items c.len-test.result
-            (instrs.Branch c.place.result) left fits,
-        rw left (if_slots c.args.locals.now (expression_of c.in-If.e) a b _ is c.requires.slots).1,
+        subst (λ s. CodeFits base (statement_code (range_of 2 c.args.cells.now) c.args.locals.now (length base) s)) is c.requires.fits,
+        while_slots c.args.locals.now (expression_of c.in-While.e) _ _ is c.requires.slots,
       ),
     )
 
-pub put_statement-place-requires-in-If : goal.put_statement-place-requires-in-If
-put_statement-place-requires-in-If t c =
+pub put_statement-returns-in-If-clause-code : goal.put_statement-returns-in-If-clause-code
+put_statement-returns-in-If-clause-code t c =
+    let base = c.args.code.now.items in
     let is = ap statement_of c.in-If.is ∙ if_seen c.in-If.e c.in-If.a c.in-If.b in
-    let cells = range_of 2 c.args.cells.now in
-    let a = statements_of c.in-If.a.statements.items in
-    let b = statements_of c.in-If.b.statements.items in
-    let fits = between_fits cells c.args.locals.now (expression_of c.in-If.e) a b _
-    c.args.code.now.items c.put_expression.new.code.items c.put.new.code.items c.put_block.new.code.items c.put-in-If.new.code.items
-    (instrs.Branch 0) (instrs.Jump 0) is c.requires.fits
-    c.in_ok-put_expression-in-If.ensures c.in_ok-put-in-If.ensures c.in_ok-put_block-in-If.ensures.code c.in_ok-put-in-If-2.ensures in
-    let c5 = slice_set c.put-in-If.new.code.items c.len-test.result (instrs.Branch c.place.result) in
-    let more = statements_code cells c.put_block.new.locals (length c5) b in
-    let left : c.put_block.new.locals ≡ c.args.locals.now = c.in_ok-put_block-in-If.ensures.after in
-    let bounded = second_fits cells c.args.locals.now c.put_block.new.locals b c.put-in-If.new.code.items c.len-test.result
-    (instrs.Branch c.place.result) left fits in
-    let grown : c.put_block-in-If.new.code.items ≡ c5 ++ more = c.in_ok-put_block-in-If-2.ensures.code in
-    omega (arith, bounded, ap length grown, length-append c5 more)
+    subst (λ s. OnOk c.put_if.result (c.put_if.new.code.items
+    ≡ base ++ statement_code (range_of 2 c.args.cells.now) c.args.locals.now (length base) s)) (sym is) c.put_if.ensures.code
 
-pub put_statement-put_block-requires-in-While : goal.put_statement-put_block-requires-in-While
-put_statement-put_block-requires-in-While t c =
+pub put_statement-returns-in-While-clause-code : goal.put_statement-returns-in-While-clause-code
+put_statement-returns-in-While-clause-code t c =
+    let base = c.args.code.now.items in
     let is = ap statement_of c.in-While.is ∙ while_seen c.in-While.e c.in-While.a in
-    let counted = ap statement_count is in
-    let fits = body_fits (range_of 2 c.args.cells.now) c.args.locals.now (expression_of c.in-While.e)
-    (statements_of c.in-While.a.statements.items) _
-    c.args.code.now.items c.put_expression-in-While.new.code.items c.put-in-While.new.code.items (instrs.Branch 0) is c.requires.fits
-    c.in_ok-put_expression-in-While.ensures c.in_ok-put-in-While.ensures in (
-      omega (arith, c.decreases, counted),
-      (omega (arith, fits), while_slots c.args.locals.now (expression_of c.in-While.e) _ _ is c.requires.slots),
+    subst (λ s. OnOk c.put_while.result (c.put_while.new.code.items
+    ≡ base ++ statement_code (range_of 2 c.args.cells.now) c.args.locals.now (length base) s)) (sym is) c.put_while.ensures.code
+
+pub put_if-put_block-requires : goal.put_if-put_block-requires
+put_if-put_block-requires t c = (
+  omega (arith, c.decreases),
+  (
+    first_fits (range_of 2 c.args.cells.now) c.args.locals.now (expression_of c.args.e.now) (statements_of c.args.a.now.statements.items)
+        (statements_of c.args.b.now.statements.items) _
+        c.args.code.now.items c.put_expression.new.code.items c.put.new.code.items (instrs.Branch 0) refl c.requires.fits
+        c.in_ok-put_expression.ensures c.in_ok-put.ensures,
+    c.requires.first,
+  ),
+)
+
+pub put_if-place-requires : goal.put_if-place-requires
+put_if-place-requires t c =
+    let fits = between_fits (range_of 2 c.args.cells.now) c.args.locals.now (expression_of c.args.e.now)
+    (statements_of c.args.a.now.statements.items)
+    (statements_of c.args.b.now.statements.items) _
+    c.args.code.now.items c.put_expression.new.code.items c.put.new.code.items c.put_block.new.code.items c.put-2.new.code.items
+    (instrs.Branch 0) (instrs.Jump 0) refl c.requires.fits
+    c.in_ok-put_expression.ensures c.in_ok-put.ensures c.in_ok-put_block.ensures.code c.in_ok-put-2.ensures in
+    omega (arith, fits)
+
+pub put_if-put_block-requires-2 : goal.put_if-put_block-requires-2
+put_if-put_block-requires-2 t c =
+    let a = statements_of c.args.a.now.statements.items in
+    let b = statements_of c.args.b.now.statements.items in
+    let fits = between_fits (range_of 2 c.args.cells.now) c.args.locals.now (expression_of c.args.e.now) a b _
+    c.args.code.now.items c.put_expression.new.code.items c.put.new.code.items c.put_block.new.code.items c.put-2.new.code.items
+    (instrs.Branch 0) (instrs.Jump 0) refl c.requires.fits
+    c.in_ok-put_expression.ensures c.in_ok-put.ensures c.in_ok-put_block.ensures.code c.in_ok-put-2.ensures in
+    let left : c.put_block.new.locals ≡ c.args.locals.now = c.in_ok-put_block.ensures.after in (
+      omega (arith, c.decreases),
+      (
+        second_fits (range_of 2 c.args.cells.now) c.args.locals.now c.put_block.new.locals b c.put-2.new.code.items c.len-test.result
+            (instrs.Branch c.place.result) left fits,
+        rw left c.requires.second,
+      ),
     )
 
-pub put_statement-place-requires-in-While : goal.put_statement-place-requires-in-While
-put_statement-place-requires-in-While t c =
-    let is = ap statement_of c.in-While.is ∙ while_seen c.in-While.e c.in-While.a in
+pub put_if-place-requires-2 : goal.put_if-place-requires-2
+put_if-place-requires-2 t c =
     let cells = range_of 2 c.args.cells.now in
-    let a = statements_of c.in-While.a.statements.items in
-    let fits = body_fits cells c.args.locals.now (expression_of c.in-While.e) a _
-    c.args.code.now.items c.put_expression-in-While.new.code.items c.put-in-While.new.code.items (instrs.Branch 0) is c.requires.fits
-    c.in_ok-put_expression-in-While.ensures c.in_ok-put-in-While.ensures in
-    let c2 = c.put-in-While.new.code.items in
+    let a = statements_of c.args.a.now.statements.items in
+    let b = statements_of c.args.b.now.statements.items in
+    let fits = between_fits cells c.args.locals.now (expression_of c.args.e.now) a b _
+    c.args.code.now.items c.put_expression.new.code.items c.put.new.code.items c.put_block.new.code.items c.put-2.new.code.items
+    (instrs.Branch 0) (instrs.Jump 0) refl c.requires.fits
+    c.in_ok-put_expression.ensures c.in_ok-put.ensures c.in_ok-put_block.ensures.code c.in_ok-put-2.ensures in
+    let c5 = slice_set c.put-2.new.code.items c.len-test.result (instrs.Branch c.place.result) in
+    let more = statements_code cells c.put_block.new.locals (length c5) b in
+    let left : c.put_block.new.locals ≡ c.args.locals.now = c.in_ok-put_block.ensures.after in
+    let bounded = second_fits cells c.args.locals.now c.put_block.new.locals b c.put-2.new.code.items c.len-test.result
+    (instrs.Branch c.place.result) left fits in
+    let grown : c.put_block-2.new.code.items ≡ c5 ++ more = c.in_ok-put_block-2.ensures.code in
+    omega (arith, bounded, ap length grown, length-append c5 more)
+
+pub put_while-put_block-requires : goal.put_while-put_block-requires
+put_while-put_block-requires t c =
+    let fits = body_fits (range_of 2 c.args.cells.now) c.args.locals.now (expression_of c.args.e.now)
+    (statements_of c.args.body.now.statements.items) _
+    c.args.code.now.items c.put_expression.new.code.items c.put.new.code.items (instrs.Branch 0) refl c.requires.fits
+    c.in_ok-put_expression.ensures c.in_ok-put.ensures in (
+      omega (arith, c.decreases),
+      (omega (arith, fits), c.requires.slots),
+    )
+
+pub put_while-place-requires : goal.put_while-place-requires
+put_while-place-requires t c =
+    let cells = range_of 2 c.args.cells.now in
+    let a = statements_of c.args.body.now.statements.items in
+    let fits = body_fits cells c.args.locals.now (expression_of c.args.e.now) a _
+    c.args.code.now.items c.put_expression.new.code.items c.put.new.code.items (instrs.Branch 0) refl c.requires.fits
+    c.in_ok-put_expression.ensures c.in_ok-put.ensures in
+    let c2 = c.put.new.code.items in
     let body = statements_code cells c.args.locals.now (length c2) a in
-    let grown : c.put_block-in-While.new.code.items ≡ c2 ++ body = c.in_ok-put_block-in-While.ensures.code in
+    let grown : c.put_block.new.code.items ≡ c2 ++ body = c.in_ok-put_block.ensures.code in
     omega (
       arith,
       fits,
       ap length grown,
       length-append c2 body,
-      ap length c.in_ok-put-in-While-2.ensures,
+      ap length c.in_ok-put-2.ensures,
       length-append
-          c.put_block-in-While.new.code.items (instrs.Jump c.place-start.result ∷ []),
+          c.put_block.new.code.items (instrs.Jump c.place-start.result ∷ []),
     )
 
-pub put_statement-returns-in_ok-put_block-in-If-2-clause-code : goal.put_statement-returns-in_ok-put_block-in-If-2-clause-code
-put_statement-returns-in_ok-put_block-in-If-2-clause-code t c =
-    let is = ap statement_of c.in-If.is ∙ if_seen c.in-If.e c.in-If.a c.in-If.b in
+pub put_if-returns-clause-code : goal.put_if-returns-clause-code
+put_if-returns-clause-code t c =
     let cells = range_of 2 c.args.cells.now in
     let scope = c.args.locals.now in
     let base = c.args.code.now.items in
-    let a = statements_of c.in-If.a.statements.items in
-    let b = statements_of c.in-If.b.statements.items in
-    let c5 = slice_set c.put-in-If.new.code.items c.len-test.result (instrs.Branch c.place.result) in
-    let left : c.put_block.new.locals ≡ scope = c.in_ok-put_block-in-If.ensures.after in
-    let grown : c.put_block-in-If.new.code.items ≡ c5 ++ statements_code cells scope (length c5) b =
-    c.in_ok-put_block-in-If-2.ensures.code ∙ ap (λ (names : List (List ℕ)). c5 ++ statements_code cells names (length c5) b) left in
-    choosing_patched base (expression_code cells scope (length base) (expression_of c.in-If.e)) c.put_expression.new.code.items
-    c.put.new.code.items c.put_block.new.code.items c.put-in-If.new.code.items
-    c5 c.put_block-in-If.new.code.items (λ n. statements_code cells scope n a) (λ n. statements_code cells scope n b) (instrs.Branch 0)
+    let a = statements_of c.args.a.now.statements.items in
+    let b = statements_of c.args.b.now.statements.items in
+    let c5 = slice_set c.put-2.new.code.items c.len-test.result (instrs.Branch c.place.result) in
+    let left : c.put_block.new.locals ≡ scope = c.in_ok-put_block.ensures.after in
+    let grown : c.put_block-2.new.code.items ≡ c5 ++ statements_code cells scope (length c5) b =
+    c.in_ok-put_block-2.ensures.code ∙ ap (λ (names : List (List ℕ)). c5 ++ statements_code cells names (length c5) b) left in
+    choosing_patched base (expression_code cells scope (length base) (expression_of c.args.e.now)) c.put_expression.new.code.items
+    c.put.new.code.items c.put_block.new.code.items c.put-2.new.code.items
+    c5 c.put_block-2.new.code.items (λ n. statements_code cells scope n a) (λ n. statements_code cells scope n b) (instrs.Branch 0)
     (instrs.Jump 0)
-    c.len-test.result c.len-end.result c.place.result c.place-in-If.result c.in_ok-put_expression-in-If.ensures (search rules)
-    c.in_ok-put-in-If.ensures c.in_ok-put_block-in-If.ensures.code
-    (search rules) c.in_ok-put-in-If-2.ensures c.place.ensures refl grown c.place-in-If.ensures
-    ∙ ap (λ s. base ++ statement_code cells scope (length base) s) (sym is)
+    c.len-test.result c.len-end.result c.place.result c.place-2.result c.in_ok-put_expression.ensures (search rules)
+    c.in_ok-put.ensures c.in_ok-put_block.ensures.code
+    (search rules) c.in_ok-put-2.ensures c.place.ensures refl grown c.place-2.ensures
 
-pub put_statement-returns-in_ok-put-in-While-2-clause-code : goal.put_statement-returns-in_ok-put-in-While-2-clause-code
-put_statement-returns-in_ok-put-in-While-2-clause-code t c =
-    let is = ap statement_of c.in-While.is ∙ while_seen c.in-While.e c.in-While.a in
+pub put_while-returns-clause-code : goal.put_while-returns-clause-code
+put_while-returns-clause-code t c =
     let cells = range_of 2 c.args.cells.now in
     let scope = c.args.locals.now in
     let base = c.args.code.now.items in
-    let a = statements_of c.in-While.a.statements.items in
-    let start : c.put-in-While-2.new.code.items ≡ c.put_block-in-While.new.code.items ++ instrs.Jump (length base) ∷ [] =
-    c.in_ok-put-in-While-2.ensures ∙ ap (λ (n : ℕ). c.put_block-in-While.new.code.items ++ instrs.Jump n ∷ []) c.place-start.ensures in
-    passing_patched (λ n. instrs.Branch n) base (expression_code cells scope (length base) (expression_of c.in-While.e))
-    c.put_expression-in-While.new.code.items c.put-in-While.new.code.items
-    c.put_block-in-While.new.code.items c.put-in-While-2.new.code.items (λ n. statements_code cells scope n a) (instrs.Branch 0)
+    let a = statements_of c.args.body.now.statements.items in
+    let start : c.put-2.new.code.items ≡ c.put_block.new.code.items ++ instrs.Jump (length base) ∷ [] =
+    c.in_ok-put-2.ensures ∙ ap (λ (n : ℕ). c.put_block.new.code.items ++ instrs.Jump n ∷ []) c.place-start.ensures in
+    passing_patched (λ n. instrs.Branch n) base (expression_code cells scope (length base) (expression_of c.args.e.now))
+    c.put_expression.new.code.items c.put.new.code.items
+    c.put_block.new.code.items c.put-2.new.code.items (λ n. statements_code cells scope n a) (instrs.Branch 0)
     (instrs.Jump (length base))
-    c.len-test-in-While.result c.place-in-While.result c.in_ok-put_expression-in-While.ensures (search rules) c.in_ok-put-in-While.ensures
-    c.in_ok-put_block-in-While.ensures.code
-    start c.place-in-While.ensures
-    ∙ ap (λ s. base ++ statement_code cells scope (length base) s) (sym is)
+    c.len-test.result c.place.result c.in_ok-put_expression.ensures (search rules) c.in_ok-put.ensures
+    c.in_ok-put_block.ensures.code
+    start c.place.ensures

@@ -12,6 +12,14 @@ decreases-put_block l = 4 * statement_counts (statements_of l.block.now.statemen
 abbrev pub decreases-put_statement : goal.decreases-put_statement
 decreases-put_statement l = 4 * statement_count (statement_of l.s.now)
 
+abbrev pub decreases-put_if : goal.decreases-put_if
+decreases-put_if l =
+    let first = statement_counts (statements_of l.a.now.statements.items) in
+    4 * (first + statement_counts (statements_of l.b.now.statements.items)) + 2
+
+abbrev pub decreases-put_while : goal.decreases-put_while
+decreases-put_while l = 4 * statement_counts (statements_of l.body.now.statements.items) + 2
+
 -- the code so far and the code of the rest are the code of the whole
 abbrev pub invariant-put_block-loop-s : goal.invariant-put_block-loop-s
 invariant-put_block-loop-s l = record {
