@@ -8,7 +8,8 @@ returns c =
     let tree = tree_of c.args.checked.now in
     let played = c.in_ok-run_log.ensures in
     let accepted = c.requires.accepted in
-    seeded_play tree c.args.input.now c.args.workers c.args.throttle c.args.seed c.as_slice.result.now c.enough_turns.result
+    rw c.of_run_log.ensures
+    (seeded_play tree c.args.input.now c.args.workers c.args.throttle c.args.seed c.as_slice.result.now c.enough_turns.result
     c.in_ok-run_log.field-0
     (c.as_slice.ensures.value ∙ c.in_ok-choices.ensures.choices)
     (c.enough_turns.ensures tree (record {
@@ -17,4 +18,4 @@ returns c =
       runs =
           c.in_ok-code.ensures.runs;
     }))
-    played.events played.run played.columns played.throttled played.finished played.reports played.right played.elision played.enough
+    played.events played.run played.columns played.throttled played.finished played.reports played.right played.elision played.enough)
