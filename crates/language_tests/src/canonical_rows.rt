@@ -6,7 +6,7 @@ use pipe_format::program::format;
 use pipe_lexer::scan::tokens;
 use pipe_model::memory::NoMemory;
 use pipe_model::tree::Program;
-use pipe_parser::parse::parse;
+use pipe_parser::parse::{Parsed, parse};
 use std::alloc::Global;
 
 // The lines that are the same in each row.
@@ -119,8 +119,14 @@ fn program_of(alloc: Global, source: &[u8]) -> Option<Program> {
     let Ok(tokens) = tokens(alloc, source) else {
         return None;
     };
-    match parse(alloc, source, &tokens) {
-        Ok(parsed) => Some(parsed.program),
+    let parsed = parse(alloc, source, &tokens);
+    drop(tokens);
+    match parsed {
+        Ok(parsed) => {
+            let Parsed { program, places } = parsed;
+            drop(places);
+            Some(program)
+        }
         Err(_) => None,
     }
 }
@@ -135,7 +141,11 @@ fn is_text(alloc: Global, program: &Program, text: &str) -> bool {
 // Whether the source is a program of this text.
 fn has_text(alloc: Global, source: &str, text: &str) -> bool {
     match program_of(alloc, source.as_bytes()) {
-        Some(program) => is_text(alloc, &program, text),
+        Some(program) => {
+            let found = is_text(alloc, &program, text);
+            drop(program);
+            found
+        }
         None => false,
     }
 }

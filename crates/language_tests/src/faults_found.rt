@@ -45,7 +45,10 @@ fn find_in_program(alloc: Global, source: &[u8], tokens: &Tokens) -> FoundFault
         Ok(parsed) => {
             let Parsed { program, places } = parsed;
             let fault = match check(alloc, program) {
-                Ok(_) => None,
+                Ok(checked) => {
+                    drop(checked);
+                    None
+                }
                 Err(fault) => Some(SourceFault::Broken(fault)),
             };
             FoundFault { fault, places }
@@ -59,13 +62,20 @@ fn find_fault(alloc: Global, source: &[u8]) -> FoundFault {
             fault: Some(SourceFault::Lexical(fault)),
             places: Numbers::new(alloc),
         },
-        Ok(tokens) => find_in_program(alloc, source, &tokens),
+        Ok(tokens) => {
+            let found = find_in_program(alloc, source, &tokens);
+            drop(tokens);
+            found
+        }
     }
 }
 
 /// Returns the first fault of a source, if it has one.
 pub fn first_fault(alloc: Global, source: &str) -> Option<SourceFault> {
-    find_fault(alloc, source.as_bytes()).fault
+    let found = find_fault(alloc, source.as_bytes());
+    let fault = found.fault;
+    drop(found);
+    fault
 }
 
 /// Returns whether the source is a program that breaks no rule.
@@ -106,7 +116,9 @@ fn has_fault_at(alloc: Global, kind: &str, source: &[u8], offset: usize) -> bool
     let found = find_fault(alloc, source);
     // The fault of a rule has the number of the mark, counted from 0.
     let mark = number_of_mark(found.places.as_slice(), offset);
-    is_fault(alloc, found.fault, kind, mark.unwrap_or(offset))
+    let fault = found.fault;
+    drop(found);
+    is_fault(alloc, fault, kind, mark.unwrap_or(offset))
 }
 
 fn number_of_mark(places: &[i64], offset: usize) -> Option<usize> {

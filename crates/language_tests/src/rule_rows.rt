@@ -116,7 +116,9 @@ const CELLS: &[u8] =
 // The number of cells of the program, and that of its declarations.
 fn counted(alloc: Global) -> Option<(u32, usize)> {
     let checked = accepted(alloc, CELLS)?;
-    Some((checked.cell_count(), checked.program().cells.len()))
+    let counts = (checked.cell_count(), checked.program().cells.len());
+    drop(checked);
+    Some(counts)
 }
 
 // `input`, `output`, n and the three elements of a.

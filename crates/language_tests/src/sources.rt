@@ -7,7 +7,7 @@ ghost use Rattle.pipe_model.specs.Language.SyntaxTree.{tree_of};
 use pipe_check::checked::Checked;
 use pipe_check::program::check;
 use pipe_lexer::scan::tokens;
-use pipe_parser::parse::parse;
+use pipe_parser::parse::{Parsed, parse};
 use std::alloc::Global;
 
 /// Returns the program of a source, or nothing if the source is refused or memory runs out.
@@ -18,9 +18,13 @@ pub fn accepted(alloc: Global, source: &[u8]) -> Option<Checked>
         return None;
     };
     let Ok(parsed) = parse(alloc, source, &tokens) else {
+        drop(tokens);
         return None;
     };
-    let Ok(checked) = check(alloc, parsed.program) else {
+    drop(tokens);
+    let Parsed { program, places } = parsed;
+    drop(places);
+    let Ok(checked) = check(alloc, program) else {
         return None;
     };
     Some(checked)

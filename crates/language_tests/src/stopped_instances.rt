@@ -79,13 +79,20 @@ fn first_instance(alloc: Global, checked: &Checked) -> Result<(Option<StageEnd>,
     machine.reset(Part::Pipe, 0);
     let end = end_after_stop(&mut machine, &code, &input, &mut memory);
     let accesses = [READ, READ, WRITE, READ_AGAIN];
-    Ok((end, memory.made.as_slice() == accesses.as_slice()))
+    let are_made = memory.made.as_slice() == accesses.as_slice();
+    drop(machine);
+    drop(memory);
+    drop(input);
+    drop(code);
+    Ok((end, are_made))
 }
 
 // The same for the program of the source; nothing if it is refused or memory runs out.
 fn stopped_instance(alloc: Global) -> Option<(Option<StageEnd>, bool)> {
     let checked = accepted(alloc, SOURCE.as_bytes())?;
-    first_instance(alloc, &checked).ok()
+    let found = first_instance(alloc, &checked).ok();
+    drop(checked);
+    found
 }
 
 #[test]
