@@ -95,9 +95,8 @@ measures_the_elision tree numbers columns workers output m is same e =
     e ∙ λ i. record { workers = workers; instances = instances_in (given_columns tree numbers columns is i); last = last_or_zero (same i) }
 
 -- the summary of two runs, with the counts of their serial elision
-pub summary_made : (seed size : ℕ) (tree : SyntaxTree) (numbers : List ℤ) (items : ℕ) (one eight : Measured)
-    (made : Result (List ℕ) NoMemory)
-    → IsGenerated seed size tree numbers → items ≡ length numbers
+pub summary_made : (tree : SyntaxTree) (numbers : List ℤ) (items : ℕ) (one eight : Measured) (made : Result (List ℕ) NoMemory)
+    → items ≡ length numbers
     → one ≡ record {
       workers = 1;
       instances = instances_in (elision_columns tree numbers);
@@ -111,11 +110,10 @@ pub summary_made : (seed size : ℕ) (tree : SyntaxTree) (numbers : List ℤ) (i
           last_or_zero (elision_output tree numbers);
     }
     → IfOk made (λ text. text ≡ summary_text items one.instances one.workers one.last eight.workers eight.last)
-    → IfOk made (λ text. (other : SyntaxTree) (others : List ℤ) → IsGenerated seed size other others → text ≡ elision_summary other others)
-summary_made seed size tree numbers items one eight (Ok text) generated l w v is = λ other others g.
-    same_summary seed size tree other numbers others text generated
-    (is ∙ λ k. summary_text (l k) ((w k).instances) ((w k).workers) ((w k).last) ((v k).workers) ((v k).last)) g
-summary_made seed size tree numbers items one eight (Err m) generated l w v is = is
+    → IfOk made (λ text. text ≡ elision_summary tree numbers)
+summary_made tree numbers items one eight (Ok text) l w v is =
+    is ∙ λ k. summary_text (l k) ((w k).instances) ((w k).workers) ((w k).last) ((v k).workers) ((v k).last)
+summary_made tree numbers items one eight (Err m) l w v is = is
 
 -- ---- the result of a call
 

@@ -26,7 +26,7 @@ use Rattle.command_results.specs.Headline.{AgreesWithElision, IsToRun, MeetsHead
 use Rattle.command_results.specs.CommandFiles.{asks_record, asks_wave, program_by}
 use Rattle.command_results.specs.declared.command_result.CommandResult.{CommandResult}
 use Rattle.command_results.specs.declared.program_run.FinishedRun.{FinishedRun}
-use Rattle.command_results.specs.RecordedRuns.{IsRecordedRun, ReturnsRun, recorded}
+use Rattle.command_results.specs.RecordedRuns.{IsRecordedRun, ReturnsRun}
 use Rattle.command_results.specs.RunResults.{HasRun, IsFinishedRunOf, IsPrintedRun}
 use Rattle.command_results.specs.ProgramFiles.{FileContents}
 use Rattle.command_results.specs.ResultTable.{ResultRow, NoCommand, SourceRefused, Formats, Benches, WaveRefused, InputRefused, Runs}

@@ -96,10 +96,15 @@ fn measured_run<R: Threads + Wait + Sync, G: Gate + Sync>(
 {
     let run = run_program(rt, alloc, checked, input, workers, throttle, gate)?;
     if run.reports.is_empty() {
-        return Ok(measure(workers, run.run_log.columns(), &run.output));
+        let measured = measure(workers, run.run_log.columns(), &run.output);
+        drop(run);
+        return Ok(measured);
     }
+    drop(run);
     let elision = elide(alloc, checked, input)?;
-    Ok(measure(workers, &elision.columns, &elision.output))
+    let measured = measure(workers, &elision.columns, &elision.output);
+    drop(elision);
+    Ok(measured)
 }
 
 // Appends the line of a run.
@@ -127,6 +132,23 @@ fn summary_text(
     Ok(Bytes::from_vec(text))
 }
 
+// Runs a program twice, and returns the summary.
+fn summary_of<R: Threads + Wait + Sync, G: Gate + Sync>(
+    rt: &R,
+    alloc: Global,
+    program: &Checked,
+    numbers: &Numbers,
+    gate: &G,
+) -> Result<Bytes, NoMemory>
+    requires accepted { BreaksNoRule (tree_of program.now) }
+    requires bounded { instances_in (elision_columns (tree_of program.now) numbers.now) ≤ bounds.MOST_COUNTED_INSTANCES }
+    ensures { IfOk result (λ text. text ≡ elision_summary (tree_of program.now) numbers.now) }
+{
+    let with_one = measured_run(rt, alloc, program, numbers, 1, 4, gate)?;
+    let with_eight = measured_run(rt, alloc, program, numbers, 8, 32, gate)?;
+    summary_text(alloc, numbers.len(), &with_one, &with_eight)
+}
+
 /// Runs the generated program on the generated input of this seed and size, once with 1 worker and
 /// throttling limit 4 and once with 8 workers and limit 32, and returns the summary. Returns an error
 /// only if memory runs out.
@@ -143,7 +165,7 @@ pub fn bench<R: Threads + Wait + Sync, G: Gate + Sync>(
         → text ≡ elision_summary tree numbers) }
 {
     let (program, numbers) = generated_program(alloc, seed, size)?;
-    let with_one = measured_run(rt, alloc, &program, &numbers, 1, 4, gate)?;
-    let with_eight = measured_run(rt, alloc, &program, &numbers, 8, 32, gate)?;
-    summary_text(alloc, numbers.len(), &with_one, &with_eight)
+    let summary = summary_of(rt, alloc, &program, &numbers, gate);
+    drop(program);
+    summary
 }

@@ -40,9 +40,19 @@ pub fn prepare<F: Files>(
         Runnable::Refused(text) => return Ok(Prepared::Decided(refused(alloc, text))),
         Runnable::Failed => return Ok(Prepared::Decided(read_fault(alloc, source)?)),
     };
-    match load_input(alloc, files, input)? {
-        Input::Accepted(numbers) => Ok(Prepared::Ready(program, numbers)),
-        Input::Refused(text) => Ok(Prepared::Decided(refused(alloc, text))),
-        Input::Failed => Ok(Prepared::Decided(read_fault(alloc, input)?)),
+    match load_input(alloc, files, input) {
+        Ok(Input::Accepted(numbers)) => Ok(Prepared::Ready(program, numbers)),
+        Ok(Input::Refused(text)) => {
+            drop(program);
+            Ok(Prepared::Decided(refused(alloc, text)))
+        }
+        Ok(Input::Failed) => {
+            drop(program);
+            Ok(Prepared::Decided(read_fault(alloc, input)?))
+        }
+        Err(NoMemory) => {
+            drop(program);
+            Err(NoMemory)
+        }
     }
 }
