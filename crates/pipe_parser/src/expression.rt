@@ -4,7 +4,7 @@ ghost use Rattle.std.specs.Prelude.{◌≡◌, ◌∷◌, [], ◌<◌, ◌≤◌
 ghost use Rattle.pipe_model.specs.declared.sign_bytes.TheConstants as signs;
 ghost use Rattle.pipe_model.specs.declared.symbol.Symbol.TheVariants as terminals;
 ghost use Rattle.grammar_laws.specs.ExpressionMachine.{Sign, Operand, Index, Tail};
-ghost use Rattle.pipe_model.specs.Language.SyntaxTree.{Element, binary_expression, expression_of};
+ghost use Rattle.pipe_model.specs.Language.SyntaxTree.{expression_of};
 ghost use Rattle.pipe_model.specs.Language.Grammar.{any_expression, operand_level, level_of};
 ghost use Rattle.grammar_laws.specs.Reading.{Reads, Extends, next_level};
 ghost use Rattle.grammar_laws.specs.ProgramMachine as machine;
@@ -65,39 +65,6 @@ fn boxed(alloc: Global, e: Expr) -> Result<Box<Expr>, AllocError>
     Ok(Box::new(alloc, e)?)
 }
 
-// Returns the expression of a binary operator with its sides.
-fn binary(alloc: Global, code: u8, left: Expr, right: Expr) -> Result<Expr, AllocError>
-    ensures { IfOk result (λ e. expression_of e ≡ binary_expression code (expression_of left) (expression_of right)) }
-{
-    match boxed(alloc, left) {
-        Ok(left) => match boxed(alloc, right) {
-            Ok(right) => Ok(Expr::Binary(code, left, right)),
-            Err(error) => {
-                drop(left);
-                Err(error)
-            }
-        },
-        Err(error) => {
-            drop(right);
-            Err(error)
-        }
-    }
-}
-
-// Returns the expression of an element of an array.
-fn element(alloc: Global, name: &[u8], index: Expr) -> Result<Expr, AllocError>
-    ensures { IfOk result (λ e. expression_of e ≡ Element name.now (expression_of index)) }
-{
-    let index = boxed(alloc, index)?;
-    match Name::new(alloc, name) {
-        Ok(name) => Ok(Expr::Element(name, index)),
-        Err(error) => {
-            drop(index);
-            Err(error)
-        }
-    }
-}
-
 /// Returns the symbols after `sign`. Returns an error if `sign` does not come first.
 pub fn expect_sign<'a>(symbols: &Symbols<'a>, sign: u8) -> Result<Symbols<'a>, SyntaxFault>
     ensures ok { IfOk result (λ following. symbols.now ≡ terminals.Sign sign ∷ following) }
@@ -110,28 +77,14 @@ pub fn expect_sign<'a>(symbols: &Symbols<'a>, sign: u8) -> Result<Symbols<'a>, S
     }
 }
 
-// Reads the brackets of a call.
-fn read_brackets<'a>(symbols: &Symbols<'a>) -> Result<Symbols<'a>, SyntaxFault>
-    ensures ok { IfOk result (λ rest. symbols.now ≡ terminals.Sign signs.OPEN_ROUND ∷ terminals.Sign signs.CLOSE_ROUND ∷ rest) }
-    ensures err { IfErr result (λ fault. ExpressionStops (Sign signs.OPEN_ROUND ∷ Sign signs.CLOSE_ROUND ∷ []) symbols.now fault) }
-{
-    let rest = expect_sign(symbols, b'(')?;
-    let rest = expect_sign(&rest, b')')?;
-    Ok(rest)
-}
-
 // Reads the brackets of a call, after its word.
 fn read_call<'a>(e: Expr, symbols: &Symbols<'a>) -> Read<'a, Expr>
     ensures ok { IfOk result (λ r. (symbols.now ≡ terminals.Sign signs.OPEN_ROUND ∷ terminals.Sign signs.CLOSE_ROUND ∷ r.1) × (r.0 ≡ e)) }
     ensures err { IfErr result (λ fault. ExpressionStops (Sign signs.OPEN_ROUND ∷ Sign signs.CLOSE_ROUND ∷ []) symbols.now fault) }
 {
-    match read_brackets(symbols) {
-        Ok(rest) => Ok((e, rest)),
-        Err(fault) => {
-            drop(e);
-            Err(fault)
-        }
-    }
+    let rest = expect_sign(symbols, b'(')?;
+    let rest = expect_sign(&rest, b')')?;
+    Ok((e, rest))
 }
 
 #[cycle(expression)]
@@ -164,13 +117,8 @@ fn read_closed<'a>(alloc: Global, sign: u8, symbols: &Symbols<'a>) -> Read<'a, E
     ensures shorter { IfOk result (λ r. length r.1 < length symbols.now) }
 {
     let (e, rest) = read_expression(alloc, ANY_EXPRESSION, symbols)?;
-    match expect_sign(&rest, sign) {
-        Ok(rest) => Ok((e, rest)),
-        Err(fault) => {
-            drop(e);
-            Err(fault)
-        }
-    }
+    let rest = expect_sign(&rest, sign)?;
+    Ok((e, rest))
 }
 
 // Reads what follows a name: an index or nothing.
@@ -180,18 +128,13 @@ fn read_named<'a>(alloc: Global, name: &[u8], symbols: Symbols<'a>) -> Read<'a, 
     ensures err { IfErr result (λ fault. ExpressionStops (Index ∷ []) symbols.entry fault) }
     ensures shorter { IfOk result (λ r. length r.1 ≤ length symbols.entry) }
 {
+    let name = Name::new(alloc, name)?;
     match symbols.after_sign(b'[') {
-        Some(inside) => match read_closed(alloc, b']', &inside) {
-            Ok((index, rest)) => match element(alloc, name, index) {
-                Ok(e) => Ok((e, rest)),
-                Err(_) => Err(SyntaxFault::NoMemory),
-            },
-            Err(fault) => Err(fault),
-        },
-        None => match Name::new(alloc, name) {
-            Ok(name) => Ok((Expr::Name(name), symbols)),
-            Err(_) => Err(SyntaxFault::NoMemory),
-        },
+        Some(inside) => {
+            let (e, rest) = read_closed(alloc, b']', &inside)?;
+            Ok((Expr::Element(name, boxed(alloc, e)?), rest))
+        }
+        None => Ok((Expr::Name(name), symbols)),
     }
 }
 
@@ -246,16 +189,9 @@ fn extend<'a>(alloc: Global, level: u8, first: Expr, symbols: Symbols<'a>) -> Re
     let mut joined = first;
     let mut rest = symbols;
     while let Some((code, following)) = operator_of_level(&rest, level) {
-        match read_expression(alloc, level + 1, &following) {
-            Ok((second, after)) => {
-                joined = binary(alloc, code, joined, second)?;
-                rest = after;
-            }
-            Err(fault) => {
-                drop(joined);
-                return Err(fault);
-            }
-        }
+        let (second, after) = read_expression(alloc, level + 1, &following)?;
+        joined = Expr::Binary(code, boxed(alloc, joined)?, boxed(alloc, second)?);
+        rest = after;
     }
     Ok((joined, rest))
 }

@@ -42,7 +42,6 @@ fn read_in_window<'a>(alloc: Global, symbols: &Symbols<'a>) -> Read<'a, Expr>
     match read_expression(alloc, ANY_EXPRESSION, &window) {
         Ok((e, rest)) => {
             if rest.len() == 0 {
-                drop(e);
                 return Err(SyntaxFault::TooLong(more + 1));
             }
             Ok((e, symbols.skip(LONGEST_EXPRESSION + 1 - rest.len())))

@@ -163,13 +163,10 @@ pub fn parse(alloc: Global, source: &[u8], tokens: &Tokens) -> Result<Parsed, Pa
 {
     let symbols = Symbols::new(source, tokens.as_slice());
     match read_bounded(alloc, &symbols) {
-        Ok(program) => match places_of_marks(alloc, tokens.as_slice()) {
-            Ok(places) => Ok(Parsed { program, places }),
-            Err(fault) => {
-                drop(program);
-                Err(fault)
-            }
-        },
+        Ok(program) => {
+            let places = places_of_marks(alloc, tokens.as_slice())?;
+            Ok(Parsed { program, places })
+        }
         Err(fault) => Err(placed(source, tokens.as_slice(), symbols.len(), fault)),
     }
 }

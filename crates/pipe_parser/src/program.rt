@@ -147,13 +147,8 @@ fn read_loop<'a>(
 {
     let following = expect_word(symbols, PIPE_WHILE)?;
     let (test, inside) = read_test(alloc, &following)?;
-    match read_block(alloc, &inside) {
-        Ok((body, rest)) => Ok((test, body, rest)),
-        Err(fault) => {
-            drop(test);
-            Err(fault)
-        }
-    }
+    let (body, rest) = read_block(alloc, &inside)?;
+    Ok((test, body, rest))
 }
 
 /// Reads a program from all of the symbols, without a bound on open brackets. Returns an error if
@@ -164,43 +159,18 @@ pub fn read_program(alloc: Global, symbols: &Symbols) -> Result<Program, SyntaxF
 {
     let (limits, first) = read_limits(symbols)?;
     let (cells, second) = read_cells(alloc, first)?;
-    let (init, third) = match read_part(alloc, INIT, second) {
-        Ok((init, third)) => (init, third),
-        Err(fault) => {
-            drop(cells);
-            return Err(fault);
-        }
-    };
-    let (test, body, fourth) = match read_loop(alloc, &third) {
-        Ok((test, body, fourth)) => (test, body, fourth),
-        Err(fault) => {
-            drop(cells);
-            drop(init);
-            return Err(fault);
-        }
-    };
-    match read_part(alloc, FINAL, fourth) {
-        Ok((last, rest)) => {
-            let program = Program {
-                limits,
-                cells,
-                init,
-                test,
-                body,
-                last,
-            };
-            if 0 < rest.len() {
-                drop(program);
-                return Err(SyntaxFault::Unexpected(rest.len()));
-            }
-            Ok(program)
-        }
-        Err(fault) => {
-            drop(cells);
-            drop(init);
-            drop(test);
-            drop(body);
-            Err(fault)
-        }
+    let (init, third) = read_part(alloc, INIT, second)?;
+    let (test, body, fourth) = read_loop(alloc, &third)?;
+    let (last, rest) = read_part(alloc, FINAL, fourth)?;
+    if 0 < rest.len() {
+        return Err(SyntaxFault::Unexpected(rest.len()));
     }
+    Ok(Program {
+        limits,
+        cells,
+        init,
+        test,
+        body,
+        last,
+    })
 }

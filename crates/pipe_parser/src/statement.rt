@@ -29,13 +29,8 @@ fn read_until<'a>(alloc: Global, sign: u8, symbols: &Symbols<'a>) -> Read<'a, Ex
     ensures shorter { IfOk result (λ r. length r.1 < length symbols.now) }
 {
     let (e, rest) = read_full(alloc, symbols)?;
-    match expect_sign(&rest, sign) {
-        Ok(rest) => Ok((e, rest)),
-        Err(fault) => {
-            drop(e);
-            Err(fault)
-        }
-    }
+    let rest = expect_sign(&rest, sign)?;
+    Ok((e, rest))
 }
 
 /// Reads a test in round brackets.
@@ -60,13 +55,8 @@ fn read_let<'a>(alloc: Global, symbols: &Symbols<'a>) -> Read<'a, Stmt>
     };
     let rest = expect_sign(&following, b'=')?;
     let (e, rest) = read_until(alloc, b';', &rest)?;
-    match Name::new(alloc, name) {
-        Ok(name) => Ok((Stmt::Let(name, e), rest)),
-        Err(_) => {
-            drop(e);
-            Err(SyntaxFault::NoMemory)
-        }
-    }
+    let name = Name::new(alloc, name)?;
+    Ok((Stmt::Let(name, e), rest))
 }
 
 // Reads an assignment to an element, after its opening bracket.
@@ -77,28 +67,10 @@ fn read_element<'a>(alloc: Global, name: &[u8], symbols: &Symbols<'a>) -> Read<'
     ensures shorter { IfOk result (λ r. length r.1 < length symbols.now) }
 {
     let (index, rest) = read_until(alloc, b']', symbols)?;
-    let rest = match expect_sign(&rest, b'=') {
-        Ok(rest) => rest,
-        Err(fault) => {
-            drop(index);
-            return Err(fault);
-        }
-    };
-    let (e, rest) = match read_until(alloc, b';', &rest) {
-        Ok((e, rest)) => (e, rest),
-        Err(fault) => {
-            drop(index);
-            return Err(fault);
-        }
-    };
-    match Name::new(alloc, name) {
-        Ok(name) => Ok((Stmt::AssignElement(name, index, e), rest)),
-        Err(_) => {
-            drop(e);
-            drop(index);
-            Err(SyntaxFault::NoMemory)
-        }
-    }
+    let rest = expect_sign(&rest, b'=')?;
+    let (e, rest) = read_until(alloc, b';', &rest)?;
+    let name = Name::new(alloc, name)?;
+    Ok((Stmt::AssignElement(name, index, e), rest))
 }
 
 // Reads an assignment, after its name.
@@ -115,13 +87,8 @@ fn read_assignment<'a>(alloc: Global, name: &[u8], symbols: &Symbols<'a>) -> Rea
         return Err(SyntaxFault::Unexpected(symbols.len()));
     };
     let (e, rest) = read_until(alloc, b';', &following)?;
-    match Name::new(alloc, name) {
-        Ok(name) => Ok((Stmt::Assign(name, e), rest)),
-        Err(_) => {
-            drop(e);
-            Err(SyntaxFault::NoMemory)
-        }
-    }
+    let name = Name::new(alloc, name)?;
+    Ok((Stmt::Assign(name, e), rest))
 }
 
 // Reads an `emit`, after its word.
@@ -147,13 +114,8 @@ fn read_stage<'a>(alloc: Global, symbols: &Symbols<'a>) -> Read<'a, Option<Expr>
         return Ok((None, rest));
     }
     let (e, following) = read_until(alloc, b')', &inside)?;
-    match expect_sign(&following, b';') {
-        Ok(rest) => Ok((Some(e), rest)),
-        Err(fault) => {
-            drop(e);
-            Err(fault)
-        }
-    }
+    let rest = expect_sign(&following, b';')?;
+    Ok((Some(e), rest))
 }
 
 // Reads a statement; the block does not end here.
@@ -169,14 +131,14 @@ fn read_statement<'a>(alloc: Global, symbols: &Symbols<'a>) -> Read<'a, Stmt>
     };
     match first.kind {
         TokenKind::Name => read_assignment(alloc, first.text, &first.following),
-        TokenKind::Word(PIPE_WAIT) => match read_stage(alloc, &first.following) {
-            Ok((number, rest)) => Ok((Stmt::Wait(number), rest)),
-            Err(fault) => Err(fault),
-        },
-        TokenKind::Word(PIPE_CONTINUE) => match read_stage(alloc, &first.following) {
-            Ok((number, rest)) => Ok((Stmt::Continue(number), rest)),
-            Err(fault) => Err(fault),
-        },
+        TokenKind::Word(PIPE_WAIT) => {
+            let (number, rest) = read_stage(alloc, &first.following)?;
+            Ok((Stmt::Wait(number), rest))
+        }
+        TokenKind::Word(PIPE_CONTINUE) => {
+            let (number, rest) = read_stage(alloc, &first.following)?;
+            Ok((Stmt::Continue(number), rest))
+        }
         TokenKind::Word(LET) => read_let(alloc, &first.following),
         TokenKind::Word(IF) => read_if(alloc, &first.following),
         TokenKind::Word(WHILE) => read_while(alloc, &first.following),
@@ -193,21 +155,9 @@ fn read_if<'a>(alloc: Global, symbols: &Symbols<'a>) -> Read<'a, Stmt>
     ensures shorter { IfOk result (λ r. length r.1 < length symbols.now) }
 {
     let (e, rest) = read_test(alloc, symbols)?;
-    let (then, rest) = match read_block(alloc, &rest) {
-        Ok((then, rest)) => (then, rest),
-        Err(fault) => {
-            drop(e);
-            return Err(fault);
-        }
-    };
-    match read_part(alloc, ELSE, rest) {
-        Ok((other, rest)) => Ok((Stmt::If(e, then, other), rest)),
-        Err(fault) => {
-            drop(e);
-            drop(then);
-            Err(fault)
-        }
-    }
+    let (then, rest) = read_block(alloc, &rest)?;
+    let (other, rest) = read_part(alloc, ELSE, rest)?;
+    Ok((Stmt::If(e, then, other), rest))
 }
 
 // Reads a `while`, after its word.
@@ -218,13 +168,8 @@ fn read_while<'a>(alloc: Global, symbols: &Symbols<'a>) -> Read<'a, Stmt>
     ensures shorter { IfOk result (λ r. length r.1 < length symbols.now) }
 {
     let (e, rest) = read_test(alloc, symbols)?;
-    match read_block(alloc, &rest) {
-        Ok((body, rest)) => Ok((Stmt::While(e, body), rest)),
-        Err(fault) => {
-            drop(e);
-            Err(fault)
-        }
-    }
+    let (body, rest) = read_block(alloc, &rest)?;
+    Ok((Stmt::While(e, body), rest))
 }
 
 /// Reads a part that may be missing: a word and a block. If it is missing, the result is the empty
@@ -259,15 +204,8 @@ pub fn read_block<'a>(alloc: Global, symbols: &Symbols<'a>) -> Read<'a, Block>
         if let Some(following) = rest.after_sign(b'}') {
             return Ok((Block { statements }, following));
         }
-        match read_statement(alloc, &rest) {
-            Ok((statement, following)) => {
-                statements.push(statement).map_err(AllocError::from)?;
-                rest = following;
-            }
-            Err(fault) => {
-                drop(statements);
-                return Err(fault);
-            }
-        }
+        let (statement, following) = read_statement(alloc, &rest)?;
+        statements.push(statement).map_err(AllocError::from)?;
+        rest = following;
     }
 }

@@ -1,5 +1,6 @@
 use Rattle.std.proofs.Common.{rules, length, ◌≡◌, ◌∙◌, ◌+◌, suc, arith, subst, w64, ◌∷◌, ap}
 use mir.Val.{SFits}
+use Rattle.std.proofs.lemmas.Result.{err_from_is_err_and}
 use Rattle.std.proofs.lemmas.Int.{to_z-of_z}
 use Rattle.pipe_model.specs.declared.operator_codes.TheConstants as operator_codes
 use Rattle.pipe_model.specs.declared.sign_bytes.TheConstants as signs
@@ -16,24 +17,26 @@ pub extend-loop-code-preserved : goal.extend-loop-code-preserved
 extend-loop-code-preserved t c =
     let front = c.in-Some.ensures.some in
     let next : c.args.level + 1 ≡ suc c.args.level = omega arith in
-    let right : Reads (suc c.args.level) c.in-Some.following (expression_of c.in-Ok.second) c.in-Ok.after =
-    subst (λ level. Reads level c.in-Some.following (expression_of c.in-Ok.second) c.in-Ok.after) next
-    c.in-Ok.ensures.ok in
-    rw c.in_ok-joined-in-Ok.ensures (record {
+    let right : Reads (suc c.args.level) c.in-Some.following (expression_of c.in_ok-second.second) c.in_ok-second.after =
+    subst (λ level. Reads level c.in-Some.following (expression_of c.in_ok-second.second) c.in_ok-second.after) next
+    c.in_ok-second.ensures.ok in
+    rw (c.in_ok-boxed.ensures, c.in_ok-boxed-2.ensures) (record {
       extends = λ e end g. c.loop-code.invariant.extends e end
-          (joins c.args.level c.in-Some.code _ _ e c.loop-code.rest c.in-Some.following c.in-Ok.after end front.0 front.1 right g);
+          (joins c.args.level c.in-Some.code _ _ e c.loop-code.rest c.in-Some.following c.in_ok-second.after end front.0 front.1 right g);
       passes = λ below. c.loop-code.invariant.passes below
-          ∙ passes_join c.args.level c.in-Some.code _ c.loop-code.rest c.in-Some.following c.in-Ok.after c.requires.from front.0
+          ∙ passes_join c.args.level c.in-Some.code _ c.loop-code.rest c.in-Some.following c.in_ok-second.after c.requires.from front.0
           front.1 right below;
-      shorter = omega (arith, c.loop-code.invariant.shorter, c.in-Ok.ensures.shorter, ap length front.0);
+      shorter = omega (arith, c.loop-code.invariant.shorter, c.in_ok-second.ensures.shorter, ap length front.0);
     })
 
 pub extend-returns-clause-ok : goal.extend-returns-clause-ok
 extend-returns-clause-ok t c =
     c.loop-code.invariant.extends _ _ (Ends c.loop-code.rest (λ e. c.in_default.ensures.none e))
 
-pub read_closed-returns-in-Err-clause-err : goal.read_closed-returns-in-Err-clause-err
-read_closed-returns-in-Err-clause-err t c = fault_closed _ _ _ _ c.in_ok-e.ensures.ok _ c.in-Err.ensures.stuck
+pub read_closed-returns-in_err-rest-clause-err : goal.read_closed-returns-in_err-rest-clause-err
+read_closed-returns-in_err-rest-clause-err t c =
+    let p = err_from_is_err_and c.from_residual-in_err-rest.result c.from_residual-in_err-rest.ensures.1 in
+    rw (p.1, p.2) (fault_closed _ _ _ _ c.in_ok-e.ensures.ok _ c.in_err-rest.ensures.stuck)
 
 pub read_expression-returns-clause-ok : goal.read_expression-returns-clause-ok
 read_expression-returns-clause-ok t c =
@@ -47,13 +50,14 @@ read_expression-returns-clause-err t c =
     if_err _ _ c.extend.result (λ x g. fault_chained (c.args.level + 1) _ _ _ (omega arith) c.in_ok-first.ensures.ok x g)
     c.extend.ensures.err
 
-pub read_named-returns-in-Ok-element-clause-ok : goal.read_named-returns-in-Ok-element-clause-ok
-read_named-returns-in-Ok-element-clause-ok t c =
-    rw c.in-Ok-element.ensures (element_read _ _ _ _ _ c.in-Some.ensures.some c.in-Ok.ensures.ok)
+pub read_named-returns-in_ok-boxed-in-Some-clause-ok : goal.read_named-returns-in_ok-boxed-in-Some-clause-ok
+read_named-returns-in_ok-boxed-in-Some-clause-ok t c =
+    let same : c.name.inside.bytes.items ≡ c.args.name.now = search rules in
+    rw (same, c.in_ok-boxed-in-Some.ensures) (element_read _ _ _ _ _ c.in-Some.ensures.some c.in_ok-e-in-Some.ensures.ok)
 
-pub read_named-returns-in-Ok-new-clause-ok : goal.read_named-returns-in-Ok-new-clause-ok
-read_named-returns-in-Ok-new-clause-ok t c =
-    let same : c.in-Ok-new.name ≡ c.args.name.now = search rules in rw same (name_read _ _ c.in-None.ensures.none)
+pub read_named-returns-in-None-clause-ok : goal.read_named-returns-in-None-clause-ok
+read_named-returns-in-None-clause-ok t c =
+    let same : c.in_ok-name.name ≡ c.args.name.now = search rules in rw same (name_read _ _ c.in-None.ensures.none)
 
 pub read_operand-returns-in-Number-clause-ok : goal.read_operand-returns-in-Number-clause-ok
 read_operand-returns-in-Number-clause-ok t c =
