@@ -12,7 +12,6 @@ pub fn runs_make_their_columns()
 
 /// If tickets rise in the book and in each shard, the events of their merge are those of all entries,
 /// sorted by ticket; and no others.
-#[tactic(auto, using(crate::proofs::SortedEntries::merges_are_those))]
 pub fn merges_are_sorted()
     ensures { MergesAreSorted }
 {}
