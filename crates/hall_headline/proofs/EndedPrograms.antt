@@ -4,7 +4,8 @@ use Rattle.hall_laws.specs.ClosedHalls.{ClosedHall}
 use Rattle.hall_laws.proofs.HallPrograms.{finished_halls_meet_the_headline, merged_halls_report_their_races}
 use Rattle.hall_laws.proofs.HallRuns.{finished_books_have_no_token_out}
 use Rattle.hall_headline.specs.EndedPrograms.{HallEndsAreMerged, HallEndsReportTheirRaces, FinishedHallEndsMeetTheHeadline}
-use Rattle.hall_headline.specs.HallEnds.{found_by, history_of, logs_of}
+use Rattle.hall_shards.specs.FoundRaces.{found_by}
+use Rattle.hall_headline.specs.HallEnds.{history_of, logs_of}
 use Rattle.hall_headline.proofs.EndedReports.{hall_ends_have_histories, hall_ends_find_all}
 use Rattle.hall_headline.proofs.HallEnds.{hall_ends_are_closed}
 

@@ -17,10 +17,10 @@ use Rattle.hall_laws.specs.HallRuns.{entries_to}
 use Rattle.hall_laws.proofs.ShardRaces.{shards_find_all}
 use Rattle.hall_laws.proofs.SlotRaces.{slots_are_found}
 use Rattle.hall_calls.specs.Closing.{no_shard, shard_in}
-use Rattle.hall_shards.specs.FoundRaces.{found_in_slots, found_of}
+use Rattle.hall_shards.specs.FoundRaces.{found_by, found_in, found_in_slots, found_of}
 use Rattle.hall_table.specs.Logs.{noted_to}
 use Rattle.hall_shards.specs.ShardValues.{ShardValue, history_at}
-use Rattle.hall_headline.specs.HallEnds.{HallEndsHaveHistories, HallEndsFindAll, found_by, found_in, history_of, logs_of}
+use Rattle.hall_headline.specs.HallEnds.{HallEndsHaveHistories, HallEndsFindAll, history_of, logs_of}
 use Rattle.hall_headline.proofs.HallEnds.{has_shard, log_is, width}
 
 pub hall_ends_have_histories : HallEndsHaveHistories

@@ -22,7 +22,8 @@ use Rattle.hall_laws.specs.ClosedHalls.{NoTokenIsOut}
 use Rattle.hall_laws.specs.HallPrograms.{IsMergedHall, whole_in}
 use Rattle.hall_laws.specs.HallReports.{AreReportsOf}
 use Rattle.hall_shards.specs.ShardValues.{ShardValue}
-use Rattle.hall_headline.specs.HallEnds.{IsHallEnd, found_by, logs_of}
+use Rattle.hall_shards.specs.FoundRaces.{found_by}
+use Rattle.hall_headline.specs.HallEnds.{IsHallEnd, logs_of}
 use Rattle.pipe_model.specs.Races.Columns.{node_columns}
 
 -- a hall that was opened after the accesses of `init`, which did not trap, and the run log into which its logs were merged

@@ -1,11 +1,8 @@
 -- A hall that has ended: what `close` and `Book::entries` ensure of its book and its shards. Together their logs make a run.
 use Rattle.std.specs.Prelude.{◌≡◌, ◌<◌, ◌%◌, ◌/◌, ◌++◌, ℕ, List, map, length, All}
-use Rattle.std.specs.List.{flat_map}
-use Rattle.access_history.specs.declared.history.Found.{Found}
 use Rattle.access_history.specs.declared.history.History.{History}
 use Rattle.cell_store.specs.ShardState.{IsStateAfter, ShardState}
 use Rattle.pipe_model.specs.declared.access.Access.{Access}
-use Rattle.pipe_model.specs.declared.access.CellId.{CellId}
 use Rattle.pipe_model.specs.declared.event.Event.{Event}
 use Rattle.pipe_model.specs.declared.ticket.ShardEntry.{ShardEntry}
 use Rattle.pipe_model.specs.Language.Programs.{store_of}
@@ -19,7 +16,7 @@ use Rattle.hall_laws.specs.ClosedHalls.{ClosedHall, IsSoundBook, NoTokenIsOut}
 use Rattle.hall_laws.specs.HallReports.{AreFound, HaveNotedEntries}
 use Rattle.hall_laws.specs.HallRuns.{IsRunOfHall}
 use Rattle.hall_calls.specs.Closing.{EndedHall, StopIsLast, shard_in}
-use Rattle.hall_shards.specs.FoundRaces.{found_in_slots}
+use Rattle.hall_shards.specs.FoundRaces.{found_by}
 use Rattle.hall_shards.specs.ShardValues.{ShardValue, history_at}
 use Rattle.hall_table.specs.SeatViews.{start_of}
 
@@ -30,14 +27,6 @@ logs_of shards = map (λ (x : ShardValue). x.log) shards
 -- the history of cell c
 abbrev pub history_of : List ShardValue → ℕ → History
 history_of shards c = history_at (shard_in shards (c % 16)).histories (c / 16)
-
--- what `Shard::found` returns
-abbrev pub found_in : ShardValue → List (CellId × Found)
-found_in x = found_in_slots 16 x.number 0 x.histories
-
--- what the histories of all shards report, one shard after the other
-abbrev pub found_by : List ShardValue → List (CellId × Found)
-found_by shards = flat_map found_in shards
 
 -- what `close` and `Book::entries` ensure of a hall that was opened after these accesses
 pub record IsHallEnd (before : List Access) (b : BookState) (shards : List ShardValue) : Type 0 where

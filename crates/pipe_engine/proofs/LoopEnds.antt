@@ -7,7 +7,8 @@ use Rattle.cell_store.specs.ShardState.{IsStateAfter, ShardState}
 use Rattle.std.specs.Prelude.{is_some, length}
 use Rattle.frame_book.specs.BookStates.{BookState, state_of}
 use Rattle.hall_headline.specs.EndedPrograms.{AreGathered, AreRacesOfLog, IsProgramEnd}
-use Rattle.hall_headline.specs.HallEnds.{IsHallEnd, found_by, logs_of}
+use Rattle.hall_headline.specs.HallEnds.{IsHallEnd, logs_of}
+use Rattle.hall_shards.specs.FoundRaces.{found_by}
 use Rattle.hall_headline.proofs.EndedLogs.{entry_inside, hall_ends_are_runs}
 use Rattle.hall_headline.proofs.EndedPrograms.{hall_ends_are_merged, hall_ends_report_their_races}
 use Rattle.hall_headline.proofs.HallEnds.{has_shard, log_is, log_past, logs_of_hall_ends_can_be_merged, width}

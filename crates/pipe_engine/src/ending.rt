@@ -2,7 +2,6 @@
 
 ghost use Rattle.std.specs.Prelude.{◌≡◌, ℕ, ℤ, List, IfOk, map};
 ghost use Rattle.frame_book.specs.BookStates.{state_of};
-ghost use Rattle.hall_headline.specs.HallEnds.{found_by};
 ghost use Rattle.hall_headline.specs.HallEnds as ends;
 ghost use Rattle.hall_laws.specs.ClosedHalls.{IsSoundBook};
 ghost use Rattle.pipe_engine.specs.LoopEnds.{IsLoopEnd};
@@ -17,15 +16,14 @@ ghost use Rattle.pipe_model.specs.Runs.Run.{IsFinished};
 ghost use Rattle.serial_elision.specs.PartRuns.{Serves};
 
 use crate::replay::replay;
-use access_history::history::Found;
 use cell_store::cells::Cells;
 use frame_book::book::Book;
+use hall_shards::found::found_by;
 use hall_shards::shard::Shard;
 use om_shared::writer::OmWriter;
 use pipe_frame::results::Rescue;
 use pipe_hall::close::{HallEnd, close};
 use pipe_hall::hall::{HallKey, HallOf};
-use pipe_model::access::CellId;
 use pipe_model::memory::NoMemory;
 use pipe_model::report::Reports;
 use pipe_model::ticket::{BookLog, ShardLog};
@@ -63,17 +61,6 @@ fn finished_log<B: RunCode>(mut book: Book<Carried<B>, OmWriter>) -> Result<Book
     }
 }
 
-// Returns the races that the shards have found, one shard after the other.
-fn found_in(alloc: Global, shards: &[Shard]) -> Result<Vec<(CellId, Found)>, NoMemory>
-    ensures { IfOk result (λ found. found.items ≡ found_by shards.now) }
-{
-    let mut found = Vec::new(alloc);
-    for shard in shards {
-        found.extend_from_slice(shard.found()?.as_slice())?;
-    }
-    Ok(found)
-}
-
 // Returns the logs of the shards.
 fn logs_of(alloc: Global, shards: Vec<Shard>) -> Result<Vec<ShardLog>, NoMemory>
     ensures { IfOk result (λ logs. logs.items ≡ ends.logs_of shards.items) }
@@ -108,7 +95,7 @@ pub(crate) fn end_loop<R: Wait, B: RunCode>(
     let _ = throttle;
     let HallEnd { book, shards } = close(rt, alloc, hall, key)?;
     let book_log = finished_log(book)?;
-    let found = found_in(alloc, shards.as_slice())?;
+    let found = found_by(alloc, shards.as_slice())?;
     let shard_logs = logs_of(alloc, shards)?;
     replay(&mut cells, shard_logs.as_slice());
     let run_log = LoggedRun::of_logs(alloc, book_log, shard_logs)?;

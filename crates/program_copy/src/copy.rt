@@ -30,24 +30,31 @@ fn copy_expression(alloc: Global, e: &Expr) -> Result<Expr, NoMemory>
         Expr::Number(number) => Ok(Expr::Number(*number)),
         Expr::Name(name) => Ok(Expr::Name(copy_name(alloc, name)?)),
         Expr::Element(name, index) => {
-            let name = copy_name(alloc, name)?;
-            let index = copy_expression(alloc, index)?;
-            Ok(Expr::Element(name, Box::new(alloc, index)?))
+            let index = Box::new(alloc, copy_expression(alloc, index)?)?;
+            Ok(Expr::Element(copy_name(alloc, name)?, index))
         }
         Expr::Binary(code, a, b) => {
-            let a = copy_expression(alloc, a)?;
-            let b = copy_expression(alloc, b)?;
-            let a = Box::new(alloc, a)?;
-            Ok(Expr::Binary(*code, a, Box::new(alloc, b)?))
+            let a = Box::new(alloc, copy_expression(alloc, a)?)?;
+            let b = Box::new(alloc, copy_expression(alloc, b)?)?;
+            Ok(Expr::Binary(*code, a, b))
         }
         Expr::Unary(code, a) => {
-            let a = copy_expression(alloc, a)?;
-            Ok(Expr::Unary(*code, Box::new(alloc, a)?))
+            let a = Box::new(alloc, copy_expression(alloc, a)?)?;
+            Ok(Expr::Unary(*code, a))
         }
         Expr::More => Ok(Expr::More),
         Expr::Take => Ok(Expr::Take),
         Expr::Iter => Ok(Expr::Iter),
     }
+}
+
+// Copies a name and the expression beside it.
+fn copy_named(alloc: Global, name: &Name, e: &Expr) -> Result<(Name, Expr), NoMemory>
+    ensures name { IfOk result (λ copy. copy.0 ≡ name.now) }
+    ensures expression { IfOk result (λ copy. expression_of copy.1 ≡ expression_of e.now) }
+{
+    let name = copy_name(alloc, name)?;
+    Ok((name, copy_expression(alloc, e)?))
 }
 
 fn copy_stage(alloc: Global, number: &Option<Expr>) -> Result<Option<Expr>, NoMemory>
@@ -66,16 +73,15 @@ pub fn copy_statement(alloc: Global, s: &Stmt) -> Result<Stmt, NoMemory>
 {
     match s {
         Stmt::Let(name, e) => {
-            let name = copy_name(alloc, name)?;
-            Ok(Stmt::Let(name, copy_expression(alloc, e)?))
+            let (name, e) = copy_named(alloc, name, e)?;
+            Ok(Stmt::Let(name, e))
         }
         Stmt::Assign(name, e) => {
-            let name = copy_name(alloc, name)?;
-            Ok(Stmt::Assign(name, copy_expression(alloc, e)?))
+            let (name, e) = copy_named(alloc, name, e)?;
+            Ok(Stmt::Assign(name, e))
         }
         Stmt::AssignElement(name, index, e) => {
-            let name = copy_name(alloc, name)?;
-            let index = copy_expression(alloc, index)?;
+            let (name, index) = copy_named(alloc, name, index)?;
             Ok(Stmt::AssignElement(name, index, copy_expression(alloc, e)?))
         }
         Stmt::Emit(e) => Ok(Stmt::Emit(copy_expression(alloc, e)?)),
@@ -130,12 +136,17 @@ pub fn copy_declarations(alloc: Global, cells: &Declarations) -> Result<Declarat
 pub fn copy_program(alloc: Global, program: &Program) -> Result<Program, NoMemory>
     ensures { IfOk result (λ copy. tree_of copy ≡ tree_of program.now) }
 {
+    let cells = copy_declarations(alloc, &program.cells)?;
+    let init = copy_block(alloc, &program.init)?;
+    let body = copy_block(alloc, &program.body)?;
+    let last = copy_block(alloc, &program.last)?;
+    let test = copy_expression(alloc, &program.test)?;
     Ok(Program {
         limits: program.limits,
-        cells: copy_declarations(alloc, &program.cells)?,
-        init: copy_block(alloc, &program.init)?,
-        test: copy_expression(alloc, &program.test)?,
-        body: copy_block(alloc, &program.body)?,
-        last: copy_block(alloc, &program.last)?,
+        cells,
+        init,
+        test,
+        body,
+        last,
     })
 }

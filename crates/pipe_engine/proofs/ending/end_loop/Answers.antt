@@ -3,7 +3,8 @@ use Rattle.std.specs.List.Sorted.{IsPermutation}
 use Rattle.access_history.specs.declared.history.Found.{Found}
 use Rattle.cell_store.specs.ShardState.{IsStateAfter}
 use Rattle.hall_headline.specs.EndedPrograms.{AreGathered}
-use Rattle.hall_headline.specs.HallEnds.{found_by, logs_of}
+use Rattle.hall_headline.specs.HallEnds.{logs_of}
+use Rattle.hall_shards.specs.FoundRaces.{found_by}
 use Rattle.pipe_engine.proofs.LoopEnds.{can_be_merged, can_be_replayed, finished_end, loop_end, races, serves_still}
 use Rattle.pipe_engine.specs.ShardAccesses.{AreInside, accesses_in_all}
 use Rattle.pipe_model.specs.declared.access.CellId.{CellId}
