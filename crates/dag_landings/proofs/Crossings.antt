@@ -6,7 +6,7 @@ use Rattle.pipe_model.specs.declared.node.Kind.TheVariants.{Wait}
 use Rattle.pipe_model.specs.declared.node.Node.{Node}
 use Rattle.pipe_model.specs.Races.Columns.{node_at, IsRising}
 use Rattle.pipe_model.specs.Races.Dag.{CrossEdge, HeadCross, WaitCross, IsLastUpTo}
-use Rattle.dag_build.specs.Landings.{CrossesFrom, NoneCross}
+use Rattle.dag_landings.specs.Landings.{CrossesFrom, NoneCross}
 
 -- the last instance whose number is at most s, at index `from` or later
 record HasLast (left : List Node) (s : ℤ) (from : ℕ) : Type 0 where

@@ -4,7 +4,7 @@
 ghost use Rattle.std.specs.Prelude.{ℕ, ◌<◌, ◌≤◌, length, IfOk};
 ghost use Rattle.std.specs.Bool.{OnTrue, OnFalse};
 ghost use Rattle.pipe_model.specs.Races.Columns.{IsRising};
-ghost use Rattle.dag_build.specs.Landings.{AreLandings, CrossesFrom, IsLanding, NoneCross};
+ghost use Rattle.dag_landings.specs.Landings.{AreLandings, CrossesFrom, IsLanding, NoneCross};
 
 use pipe_model::list::ListOf;
 use pipe_model::memory::NoMemory;

@@ -1,6 +1,6 @@
 use Rattle.std.proofs.Common.{◌≡◌, ℕ, ◌<◌, ◌≤◌, length, get_or}
-use Rattle.dag_build.specs.Landings.{IsLanding, NoneCross}
-use Rattle.dag_build.proofs.landing.landings.Given as goal
+use Rattle.dag_landings.specs.Landings.{IsLanding, NoneCross}
+use Rattle.dag_landings.proofs.landing.landings.Given as goal
 
 abbrev pub invariant-loop-from : goal.invariant-loop-from
 invariant-loop-from l = (l.place ≤ length l.right)

@@ -5,9 +5,9 @@ use Rattle.std.specs.Prelude.{IfNone, IfSome}
 use mir.Syntax.{w64}
 use mir.Val.{SFits, of_z, to_z}
 use Rattle.left_parent.specs.LastNumber.{AreRising, IsLastUpTo}
-use Rattle.order_2d.specs.StartedNodes.{parent_by}
-use Rattle.order_2d.proofs.LeftParentSearch.{found_is, rising_numbers}
-use Rattle.order_2d.proofs.parents.parent_below.Goals as goal
+use Rattle.left_parent.specs.Parents.{parent_by}
+use Rattle.left_parent.proofs.LeftParentSearch.{found_is, rising_numbers}
+use Rattle.left_parent.proofs.parents.parent_below.Goals as goal
 use Rattle.pipe_model.specs.Orders.LeftParent.{last_up_to}
 
 pub find-requires-clause-rising : goal.find-requires-clause-rising

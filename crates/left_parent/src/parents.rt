@@ -1,40 +1,16 @@
 //! The left parents of instances.
 
-ghost use Rattle.std.specs.Prelude.{◌≡◌, ◌<◌, ◌^◌, ℕ, List, IfOk, length, map};
-ghost use Rattle.order_2d.specs.StartedNodes.{IsAbove, numbers_of, parent_by};
+ghost use Rattle.std.specs.Prelude.{◌≡◌, ◌<◌, ◌^◌, ℕ, List, length, map};
+ghost use Rattle.left_parent.specs.Parents.{IsAbove, numbers_of, parent_by};
 ghost use Rattle.pipe_model.specs.Orders.LeftParent.{last_up_to, left_parent};
 ghost use Rattle.pipe_model.specs.Races.Columns.{IsNodeOf, IsRising, nodes_at, node_columns};
 ghost use Rattle.pipe_model.specs.declared.node.Node.{Node as PlainNode};
 
+use crate::search::find;
 use crate::started::StartedNode;
-use left_parent::search::find;
 use pipe_model::column::Column;
-use pipe_model::list::{ListOf, Numbers};
-use pipe_model::memory::NoMemory;
+use pipe_model::list::Numbers;
 use pipe_model::node::{Kind, Node, NodeId};
-use std::alloc::Global;
-
-// The stage numbers of a column.
-fn stage_numbers(alloc: Global, nodes: &[Node]) -> Result<Numbers, NoMemory>
-    ensures { IfOk result (λ numbers. numbers ≡ map (λ (n : PlainNode). n.number) nodes.now) }
-{
-    let mut numbers = ListOf::with_capacity(alloc, nodes.len())?;
-    for node in nodes {
-        numbers.push(node.number)?;
-    }
-    Ok(numbers)
-}
-
-/// Returns the stage numbers of each column. Returns an error only if memory runs out.
-pub(crate) fn column_numbers(alloc: Global, columns: &[Column]) -> Result<ListOf<Numbers>, NoMemory>
-    ensures { IfOk result (λ rows. rows ≡ numbers_of (node_columns columns.now)) }
-{
-    let mut rows = ListOf::with_capacity(alloc, columns.len())?;
-    for column in columns {
-        rows.push(stage_numbers(alloc, column.nodes.as_slice())?)?;
-    }
-    Ok(rows)
-}
 
 // The left parent of an instance below a head, from the numbers of the left column and the joined
 // index of the instance above.
@@ -50,9 +26,9 @@ fn parent_below(node: Node, numbers: &[i64], joined: u32) -> Option<u32>
     }
 }
 
-/// Returns the index in the left column of the left parent of `x`, if it has one; `above` is the
-/// instance above `x`, if there is one.
-pub(crate) fn left_index(
+/// Returns the index in the left column of the left parent of `x`, if it has one. `numbers` has the
+/// stage numbers of each column, and `above` is the instance above `x`, if there is one. Binary search.
+pub fn left_index(
     columns: &[Column],
     numbers: &[Numbers],
     x: NodeId,

@@ -1,7 +1,7 @@
 use Rattle.std.proofs.Common.{arith}
 use Rattle.std.proofs.lemmas.Int.{ints}
-use Rattle.dag_build.proofs.Crossings.{crossed_by_head, crossed_by_wait, none_by_number}
-use Rattle.dag_build.proofs.landing.is_crossed.Goals as goal
+use Rattle.dag_landings.proofs.Crossings.{crossed_by_head, crossed_by_wait, none_by_number}
+use Rattle.dag_landings.proofs.landing.is_crossed.Goals as goal
 
 pub returns-then-from-eq0-clause-yes : goal.returns-then-from-eq0-clause-yes
 returns-then-from-eq0-clause-yes c =

@@ -1,9 +1,9 @@
 -- The left column is that before the instance's own.
 use Rattle.std.proofs.Common.{◌∙◌, ◌-◌, ap, arith, length, slice_index_or}
 use Rattle.std.proofs.lemmas.List.{length-map}
-use Rattle.order_2d.specs.StartedNodes.{parent_by}
-use Rattle.order_2d.proofs.LeftParentSearch.{left_parent_is, nodes_read, numbers_at}
-use Rattle.order_2d.proofs.parents.left_index.Goals as goal
+use Rattle.left_parent.specs.Parents.{parent_by}
+use Rattle.left_parent.proofs.LeftParentSearch.{left_parent_is, nodes_read, numbers_at}
+use Rattle.left_parent.proofs.parents.left_index.Goals as goal
 use Rattle.pipe_model.specs.declared.node.Node.{Node}
 use Rattle.pipe_model.specs.Orders.LeftParent.{last_up_to}
 use Rattle.pipe_model.specs.Races.Columns.{no_node, nodes_at, node_columns}

@@ -3,7 +3,7 @@ use Rattle.std.proofs.Common.{◌∙◌, ◌-◌, ◌<◌, ap, arith, length, []
 use Rattle.std.proofs.lemmas.List.{get_or_default}
 use Rattle.order_2d.specs.StartedNodes.{row_at}
 use Rattle.order_2d.proofs.RowsSoFar.{read_row}
-use Rattle.order_2d.proofs.started.above.Goals as goal
+use Rattle.order_2d.proofs.rows.above.Goals as goal
 
 pub bounds-row-x : goal.bounds-row-x
 bounds-row-x c =

@@ -5,8 +5,8 @@ use Rattle.std.proofs.lemmas.Bool.{cases_lt, lt-ltb, le-ltb}
 use Rattle.std.proofs.lemmas.List.{length-map}
 use Rattle.std.specs.Prelude.{IfNone, IfSome, Option, Some, None}
 use Rattle.left_parent.specs.LastNumber.{AreRising, IsLastUpTo as IsLastNumber}
-use Rattle.order_2d.specs.declared.started.StartedNode.{StartedNode}
-use Rattle.order_2d.specs.StartedNodes.{IsAbove, joined_from, left_joined, numbers_of, parent_by}
+use Rattle.left_parent.specs.declared.started.StartedNode.{StartedNode}
+use Rattle.left_parent.specs.Parents.{IsAbove, joined_from, left_joined, numbers_of, parent_by}
 use Rattle.pipe_model.specs.declared.column.Column.{Column}
 use Rattle.pipe_model.specs.declared.node.Kind.{Kind}
 use Rattle.pipe_model.specs.declared.node.Kind.TheVariants.{Zero, Wait, Continue}

@@ -1,20 +1,12 @@
 //! The instances that have started so far, in a row for each column.
 
 ghost use Rattle.std.specs.Prelude.{◌≡◌, ◌<◌, ◌+◌, ◌-◌, ℕ, Some, None, length, option_map};
-ghost use Rattle.order_2d.specs.StartedNodes.{joined_from, node_in, row_at};
+ghost use Rattle.order_2d.specs.StartedNodes.{node_in, row_at};
 
+use left_parent::started::StartedNode;
 use pipe_model::list::ListOf;
 use pipe_model::marks::Marks;
 use pipe_model::node::NodeId;
-
-/// A started instance.
-#[derive(Clone, Copy)]
-pub struct StartedNode {
-    /// Its marks.
-    pub marks: Marks,
-    /// The last index of the left column that precedes it; 0 in column 0.
-    pub joined: u32,
-}
 
 /// The started instances of a column, in order.
 pub type StartedColumn = ListOf<StartedNode>;
@@ -57,17 +49,5 @@ pub(crate) fn left_marks(rows: &[StartedColumn], x: NodeId, left: Option<u32>) -
             Some(row[j as usize].marks)
         }
         None => None,
-    }
-}
-
-/// Returns the last index of the left column that precedes an instance, from its left parent and
-/// the instance above.
-pub(crate) fn joined_index(left: Option<u32>, above: Option<StartedNode>) -> u32
-    ensures { result ≡ joined_from left above }
-{
-    match (left, above) {
-        (Some(j), _) => j,
-        (None, Some(above)) => above.joined,
-        (None, None) => 0,
     }
 }
