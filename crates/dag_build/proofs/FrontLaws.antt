@@ -8,7 +8,7 @@ use Rattle.pipe_model.specs.declared.node.Node.{Node}
 use Rattle.pipe_model.specs.declared.node.NodeId.{NodeId}
 use Rattle.pipe_model.specs.Races.CellRaces.{NotedAccess, access_at}
 use Rattle.dag_build.specs.AccessFronts.{AreFronts, LeadsFrom, joined_fronts}
-use Rattle.dag_build.specs.Landings.{MovesTo}
+use Rattle.dag_build.specs.Jumps.{MovesTo}
 use Rattle.dag_build.specs.declared.fronts.Fronts.{Fronts}
 use Rattle.dag_build.specs.RacingAccesses.{noted_all}
 use Rattle.dag_build.proofs.RacePlaces.{noted_at}

@@ -1,5 +1,4 @@
 pub mod CellGroups
-pub mod Crossings
 pub mod FirstRaceLaws
 pub mod FrontLaws
 pub mod Moves

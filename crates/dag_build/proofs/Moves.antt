@@ -7,9 +7,10 @@ use Rattle.std.proofs.lemmas.List.Elements.{All-push}
 use Rattle.std.specs.List.{All}
 use Rattle.pipe_model.specs.declared.node.Node.{Node}
 use Rattle.pipe_model.specs.Races.Columns.{nodes_at}
-use Rattle.dag_build.specs.Landings.{AreJumps, AreLandings, AreLevels, IsLanding, IsJumpTable, MovesTo, Stays, Moves}
+use Rattle.dag_build.specs.Jumps.{AreJumps, AreLevels, IsJumpTable, MovesTo, Stays, Moves}
+use Rattle.dag_landings.specs.Landings.{AreLandings, IsLanding}
 use Rattle.dag_build.specs.declared.jumps.Jumps.{Jumps}
-use Rattle.dag_build.proofs.Crossings.{edge_begins_within}
+use Rattle.dag_landings.proofs.Crossings.{edge_begins_within}
 
 -- one move after another
 pub moves_both : {columns : List (List Node)} {i m t place u end : ℕ} → MovesTo columns i m t place

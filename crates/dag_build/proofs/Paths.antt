@@ -5,9 +5,10 @@ use Rattle.pipe_model.specs.declared.node.Node.{Node}
 use Rattle.pipe_model.specs.declared.node.NodeId.{NodeId}
 use Rattle.pipe_model.specs.Races.Columns.{nodes_at, at}
 use Rattle.pipe_model.specs.Races.Dag.{AreParallel, CrossEdge, Edge, DownEdge, AcrossEdge, Precedes, ByEdge, ByPath}
-use Rattle.dag_build.proofs.Crossings.{edge_begins_within}
+use Rattle.dag_landings.proofs.Crossings.{edge_begins_within}
 use Rattle.dag_build.specs.AccessFronts.{LeadsTo, LeadsFrom}
-use Rattle.dag_build.specs.Landings.{IsLanding, MovesTo, Stays, Moves}
+use Rattle.dag_build.specs.Jumps.{MovesTo, Stays, Moves}
+use Rattle.dag_landings.specs.Landings.{IsLanding}
 
 -- in column i, x leads exactly to the instances at index m and after it
 pub record ReachesFrom (columns : List (List Node)) (x : NodeId) (i m : ℕ) : Type 0 where

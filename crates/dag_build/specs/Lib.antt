@@ -1,4 +1,4 @@
 pub mod AccessFronts
-pub mod Landings
+pub mod Jumps
 pub mod NodeColumns
 pub mod RacingAccesses

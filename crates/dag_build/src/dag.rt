@@ -3,7 +3,7 @@
 ghost use Rattle.std.specs.Prelude.{◌≡◌, ◌<◌, ◌≤◌, ◌+◌, ◌↔◌, length, IfOk, IsTrue};
 ghost use Rattle.pipe_model.specs.Races.Columns.{nodes_at, IsNodeOf, node_columns};
 ghost use Rattle.pipe_model.specs.Races.Dag.{Precedes};
-ghost use Rattle.dag_build.specs.Landings.{MovesTo};
+ghost use Rattle.dag_build.specs.Jumps.{MovesTo};
 ghost use Rattle.dag_build.specs.NodeColumns.{AreRising};
 
 use crate::jumps::{Jumps, jumped, levels, nodes_of};
@@ -24,7 +24,7 @@ pub struct Dag {
 impl Model for Dag {
     ghost use Rattle.std.specs.Prelude.{List};
     ghost use Rattle.pipe_model.specs.declared.node.Node.{Node};
-    ghost use Rattle.dag_build.specs.Landings.{AreLevels};
+    ghost use Rattle.dag_build.specs.Jumps.{AreLevels};
 
     ghost Value = { List (List Node) };
 

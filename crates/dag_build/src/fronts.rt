@@ -2,7 +2,7 @@
 
 ghost use Rattle.std.specs.Prelude.{◌≡◌, ◌<◌, ◌≤◌, length};
 ghost use Rattle.dag_build.specs.AccessFronts.{front_for, joined_fronts};
-ghost use Rattle.dag_build.specs.Landings.{MovesTo};
+ghost use Rattle.dag_build.specs.Jumps.{MovesTo};
 
 use crate::dag::Dag;
 use pipe_model::access::AccessKind;

@@ -3,10 +3,10 @@
 
 ghost use Rattle.std.specs.Prelude.{◌≡◌, ◌+◌, ◌<◌, ◌≤◌, IfOk, length};
 ghost use Rattle.pipe_model.specs.Races.Columns.{nodes_at};
-ghost use Rattle.dag_build.specs.Landings.{AreJumps, AreLevels, IsJumpTable, MovesTo};
+ghost use Rattle.dag_build.specs.Jumps.{AreJumps, AreLevels, IsJumpTable, MovesTo};
 ghost use Rattle.dag_build.specs.NodeColumns.{AreRising};
 
-use crate::landing::landings;
+use dag_landings::landing::landings;
 use pipe_model::list::ListOf;
 use pipe_model::memory::NoMemory;
 use pipe_model::node::{Node, Nodes};

@@ -5,5 +5,4 @@
 pub mod dag;
 mod fronts;
 mod jumps;
-mod landing;
 pub mod races;

@@ -1,1 +1,2 @@
+pub mod LeftParentSearch
 pub mod PartitionPoints

@@ -1,6 +1,5 @@
 pub mod EventsSoFar
 pub mod GrownLogs
-pub mod LeftParentSearch
 pub mod ListsSoFar
 pub mod OwnLogs
 pub mod ParentMarks

@@ -6,7 +6,8 @@ use Rattle.order_2d.specs.declared.starts.TheConstants.{MOST_STARTS}
 use Rattle.order_2d.specs.LogStarts.{IsControlLog, IsOwnLog, log_columns, log_starts}
 use Rattle.order_2d.specs.OrderPairs.{OrderPair}
 use Rattle.order_2d.specs.ReplayedOrders.{OrdersArePrecedes, marks_of_starts}
-use Rattle.order_2d.specs.StartedNodes.{CanReplay, HasLists, numbers_of}
+use Rattle.left_parent.specs.Parents.{numbers_of}
+use Rattle.order_2d.specs.StartedNodes.{CanReplay, HasLists}
 use Rattle.order_2d.proofs.ListsSoFar.{orders_are_precedes}
 use Rattle.order_2d.proofs.RowsSoFar.{column_short}
 use Rattle.pipe_model.specs.declared.column.Column.{Column}

@@ -1,9 +1,10 @@
 -- The parents of the next instance, and the elements that it takes.
 use Rattle.std.proofs.Common.{◌≡◌, ◌∙◌, refl, sym, ap, subst, ℕ, zero, suc, ◌+◌, ◌-◌, ◌*◌, ◌<◌, List, length, arith}
 use Rattle.std.specs.Prelude.{Option, Some, None, option_map}
-use Rattle.order_2d.specs.declared.started.StartedNode.{StartedNode}
+use Rattle.left_parent.specs.declared.started.StartedNode.{StartedNode}
 use Rattle.order_2d.specs.OrderPairs.{AreInserted, down_taken, right_taken}
-use Rattle.order_2d.specs.StartedNodes.{HasStarted, IsAbove, node_in, row_at, started_node}
+use Rattle.left_parent.specs.Parents.{IsAbove}
+use Rattle.order_2d.specs.StartedNodes.{HasStarted, node_in, row_at, started_node}
 use Rattle.pipe_model.specs.declared.marks.Marks.{Marks}
 use Rattle.pipe_model.specs.declared.node.Node.{Node}
 use Rattle.pipe_model.specs.declared.node.NodeId.{NodeId}

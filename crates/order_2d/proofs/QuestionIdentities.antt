@@ -1,5 +1,5 @@
 -- A question does not change which lists the passes are of.
-use Rattle.std.proofs.Common.{◌≡◌, ℕ, List, [], ◌∷◌, get_or, ap}
+use Rattle.std.proofs.Common.{◌≡◌, ℕ, List, [], get_or, ap}
 use Rattle.pipe_frame.specs.Ties.{SeenLists}
 use Rattle.order_2d.specs.SeenOrders.{AreSameLists, question_identity}
 

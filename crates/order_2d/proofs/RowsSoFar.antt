@@ -5,7 +5,7 @@ use Rattle.std.proofs.lemmas.Bool.{cases_eq, cases_lt}
 use Rattle.std.specs.Prelude.{Some}
 use Rattle.std.proofs.lemmas.List.{get_or_append_left, get_or_default, get_or_push, get_or-set_other, get_or-set_same, length_push}
 use Rattle.std.proofs.lemmas.List.{length-map}
-use Rattle.order_2d.specs.declared.started.StartedNode.{StartedNode}
+use Rattle.left_parent.specs.declared.started.StartedNode.{StartedNode}
 use Rattle.order_2d.specs.StartedNodes.{HasStarted, no_rows, no_started_node, node_in, row_at, started_node}
 use Rattle.pipe_model.specs.declared.column.Column.{Column}
 use Rattle.pipe_model.specs.declared.node.Node.{Node}

@@ -1,9 +1,9 @@
 -- A longer log keeps the order of the elements that were seen.
-use Rattle.std.proofs.Common.{◌≡◌, ℕ, ◌+◌, ◌<◌, ◌≤◌, List, [], ◌∷◌, ◌++◌, length, true, subst, sym, ap, arith, length-append}
+use Rattle.std.proofs.Common.{◌≡◌, ℕ, List, ◌++◌, length, subst, ap, arith, length-append}
 use Rattle.om_shared.specs.SharedLists.{StartsWith}
 use Rattle.om_shared.proofs.SeenLogs.{log_prefix}
 use Rattle.pipe_model.specs.Orders.GrowingLists.{KeepsOrder}
-use Rattle.pipe_model.specs.Orders.OrderList.{IsLog, has, list_of_log}
+use Rattle.pipe_model.specs.Orders.OrderList.{IsLog, list_of_log}
 use Rattle.run_laws.proofs.ListOrders.InsertionLists.{list_has_below}
 use Rattle.run_laws.proofs.ListOrders.LongerLogs.{longer_logs_keep_the_order}
 

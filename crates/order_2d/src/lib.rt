@@ -4,10 +4,10 @@
 #![tactic(auto)]
 
 pub mod list_writer;
-mod parents;
+mod numbers;
 pub mod plain_orders;
 pub mod replay;
-pub mod started;
+pub mod rows;
 mod starts;
 pub mod two_orders;
 pub mod two_passes;

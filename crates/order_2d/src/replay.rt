@@ -12,10 +12,12 @@ ghost use Rattle.pipe_model.specs.Orders.TwoOrders.{down_first_log, right_first_
 ghost use Rattle.pipe_model.specs.Races.Columns.{IsNodeOf, node_columns};
 ghost use Rattle.pipe_model.specs.declared.node.NodeId.{NodeId as PlainNodeId};
 
-use crate::parents::{column_numbers, left_index};
-use crate::started::{StartedColumn, StartedNode, above, joined_index, left_marks, marks_of};
+use crate::numbers::column_numbers;
+use crate::rows::{StartedColumn, above, left_marks, marks_of};
 use crate::starts::{MOST_STARTS, starts_of_log};
 use crate::two_orders::TwoOrders;
+use left_parent::parents::left_index;
+use left_parent::started::{StartedNode, joined_index};
 use om_list::om_list::OmList;
 use pipe_model::column::Column;
 use pipe_model::event::RunLog;

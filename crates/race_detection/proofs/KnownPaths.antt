@@ -7,7 +7,7 @@ use Rattle.access_history.specs.declared.history.History.{History}
 use Rattle.access_history.specs.declared.history.MarkedNode.{MarkedNode}
 use Rattle.access_history.specs.KeptInstances.{AllKept}
 use Rattle.access_history.specs.KnownOrder.{AgreeOnKnown, AgreeOnKnownKept}
-use Rattle.order_2d.specs.StartedNodes.{left_joined}
+use Rattle.left_parent.specs.Parents.{left_joined}
 use Rattle.pipe_model.specs.declared.node.Node.{Node}
 use Rattle.pipe_model.specs.declared.node.NodeId.{NodeId}
 use Rattle.pipe_model.specs.Orders.LeftParent.{joined_at}

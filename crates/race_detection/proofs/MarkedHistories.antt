@@ -9,7 +9,7 @@ use Rattle.access_history.specs.declared.history.MarkedNode.{MarkedNode}
 use Rattle.access_history.specs.KnownOrder.{AgreeOnKnownKept}
 use Rattle.access_history.specs.KeptInstances.{AgreeOn, AgreeOnKept, AllKept, IsEither, IsHistoryAfter, KeepsAmong, earlier_access, kept_of}
 use Rattle.access_history.specs.KeptInstances.{node_of, report_after}
-use Rattle.order_2d.specs.declared.started.StartedNode.{StartedNode}
+use Rattle.left_parent.specs.declared.started.StartedNode.{StartedNode}
 use Rattle.order_2d.specs.StartedNodes.{started_node}
 use Rattle.pipe_model.specs.declared.access.AccessKind.{AccessKind}
 use Rattle.pipe_model.specs.declared.access.AccessKind.TheVariants.{Read, Write}

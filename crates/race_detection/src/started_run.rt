@@ -7,8 +7,8 @@ ghost use Rattle.pipe_model.specs.Races.Columns.{IsNodeOf, node_columns};
 ghost use Rattle.race_detection.specs.NotedRuns.{HasNoted, IsReplayOf};
 
 use access_history::history::{History, MarkedNode};
+use left_parent::started::StartedNode;
 use order_2d::replay::Replayed;
-use order_2d::started::StartedNode;
 use pipe_model::access::NodeAccess;
 use pipe_model::column::Columns;
 use pipe_model::node::NodeId;

@@ -1,5 +1,5 @@
 use Rattle.std.proofs.Common.{◌≡◌, ℕ, ◌+◌, ◌<◌, length, get_or}
-use Rattle.dag_build.specs.Landings.{MovesTo}
+use Rattle.dag_build.specs.Jumps.{MovesTo}
 use Rattle.dag_build.proofs.jumps.doubled_table.Given as goal
 
 abbrev pub invariant-loop-place : goal.invariant-loop-place

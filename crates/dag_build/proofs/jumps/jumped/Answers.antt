@@ -1,5 +1,5 @@
 use Rattle.std.proofs.Common.{arith}
-use Rattle.dag_build.specs.Landings.{Stays}
+use Rattle.dag_build.specs.Jumps.{Stays}
 use Rattle.dag_build.proofs.Moves.{moves_both}
 use Rattle.dag_build.proofs.jumps.jumped.Goals as goal
 

@@ -1,5 +1,5 @@
 use Rattle.std.proofs.Common.{◌≤◌, ◌-◌}
-use Rattle.dag_build.specs.Landings.{MovesTo}
+use Rattle.dag_build.specs.Jumps.{MovesTo}
 use Rattle.dag_build.proofs.jumps.jumped.Given as goal
 
 abbrev pub invariant-loop-column : goal.invariant-loop-column

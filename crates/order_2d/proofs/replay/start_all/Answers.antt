@@ -1,6 +1,6 @@
 -- Start after start.
 use Rattle.std.proofs.Common.{◌∙◌, ◌++◌, ◌∷◌, [], ap, slice_set}
-use Rattle.order_2d.specs.declared.started.StartedNode.{StartedNode}
+use Rattle.left_parent.specs.declared.started.StartedNode.{StartedNode}
 use Rattle.order_2d.specs.StartedNodes.{row_at}
 use Rattle.order_2d.proofs.ListsSoFar.{marks_more}
 use Rattle.order_2d.proofs.RowsSoFar.{none_started, one_more_started}

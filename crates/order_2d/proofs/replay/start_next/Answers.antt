@@ -1,10 +1,11 @@
 -- The next instance takes the placeholders of its parents.
 use Rattle.std.proofs.Common.{◌∙◌, ◌+◌, sym, ap₂, subst, arith, length}
 use mathlib.Core.Path.{subst₂}
-use Rattle.order_2d.specs.declared.started.StartedNode.{StartedNode}
+use Rattle.left_parent.specs.declared.started.StartedNode.{StartedNode}
 use Rattle.order_2d.specs.OrderPairs.{AreInserted, down_taken, right_taken}
-use Rattle.order_2d.specs.StartedNodes.{HasLists, IsAbove, joined_from}
-use Rattle.order_2d.proofs.LeftParentSearch.{joined_is}
+use Rattle.left_parent.specs.Parents.{IsAbove, joined_from}
+use Rattle.order_2d.specs.StartedNodes.{HasLists}
+use Rattle.left_parent.proofs.LeftParentSearch.{joined_is}
 use Rattle.order_2d.proofs.ListsSoFar.{has_room, lists_more, log_long, marks_are}
 use Rattle.order_2d.proofs.ParentMarks.{above_is, above_node, above_there, inserted, is_above, left_there, parents_are, taken_down}
 use Rattle.order_2d.proofs.ParentMarks.{taken_right}

@@ -1,5 +1,5 @@
 use Rattle.std.proofs.Common.{arith}
-use Rattle.dag_build.specs.Landings.{Stays}
+use Rattle.dag_build.specs.Jumps.{Stays}
 use Rattle.dag_build.proofs.Moves.{at_the_end, moves_both, step_at}
 use Rattle.dag_build.proofs.dag.Dag.moved.Goals as goal
 

@@ -1,5 +1,5 @@
 use Rattle.std.proofs.Common.{◌+◌, ◌<◌, ◌≤◌, get_or, length}
-use Rattle.dag_build.specs.Landings.{MovesTo}
+use Rattle.dag_build.specs.Jumps.{MovesTo}
 use Rattle.dag_build.specs.declared.jumps.Jumps.{Jumps}
 use Rattle.dag_build.proofs.dag.Dag.moved.Given as goal
 
