@@ -2,7 +2,7 @@
 use Rattle.std.proofs.Common.{◌≡◌, ◌∙◌, ◌++◌, ◌∷◌, [], List, All, sym}
 use Rattle.pipe_frame.specs.Ties.{HallName}
 use Rattle.hall_table.specs.WorkerSeats.{WorkerSeat, hall_name}
-use Rattle.pipe_worker.specs.Tasks.{IsOver}
+use Rattle.worker_tasks.specs.Tasks.{IsOver}
 use Rattle.work_deques.proofs.TestedLists.{All_init, All_last}
 
 module _ (name : HallName) (seats : List WorkerSeat) (last : WorkerSeat) where

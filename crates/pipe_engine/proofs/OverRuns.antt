@@ -10,7 +10,7 @@ use Rattle.pipe_model.specs.Runs.ControlRun.{ControlRun}
 use Rattle.pipe_model.specs.Runs.Run.{IsFinished}
 use Rattle.pipe_model.specs.Runs.RunLogs.{state_after}
 use Rattle.pipe_model.specs.Runs.State.{State, initial_state, is_completed}
-use Rattle.pipe_worker.specs.Tasks.{IsOver}
+use Rattle.worker_tasks.specs.Tasks.{IsOver}
 use Rattle.run_laws.proofs.ListOrders.SoundStarts.{control_starts_sound}
 use Rattle.run_laws.proofs.LogMerge.ControlStates.{IsAllowedAt, allowed_at, control_state_is}
 use Rattle.run_laws.proofs.RunStates.FrameMoves.{IsSound}

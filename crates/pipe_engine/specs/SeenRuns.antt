@@ -4,7 +4,7 @@ use Rattle.pipe_frame.specs.HallViews.{BeginsWith}
 use Rattle.pipe_model.specs.declared.event.Event.{Event}
 use Rattle.pipe_model.specs.Runs.ControlRun.{ControlRun}
 use Rattle.pipe_model.specs.Runs.RunLogs.{state_after}
-use Rattle.pipe_worker.specs.Tasks.{IsOver}
+use Rattle.worker_tasks.specs.Tasks.{IsOver}
 
 -- the events that were seen begin with a run that is over
 pub record HasSeenOver (seen : List Event) : Type 0 where

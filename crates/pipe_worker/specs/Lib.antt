@@ -1,5 +1,3 @@
 pub mod Machines
 pub mod HeldInstances
-pub mod Tasks
 pub mod Workers
-pub mod HeldTokens

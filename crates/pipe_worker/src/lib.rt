@@ -11,5 +11,4 @@ pub mod instance;
 pub mod lent;
 pub mod memory;
 pub mod runs;
-pub mod work_test;
 pub mod worker;

@@ -1,18 +1,18 @@
 //! The loop of a worker.
 
 ghost use Rattle.std.specs.Prelude.{◌≡◌, IfSome};
+ghost use Rattle.pipe_frame.specs.ResultTokens.{IfGo};
 ghost use Rattle.pipe_frame.specs.SeatedTokens.{IsGivenToken};
-ghost use Rattle.pipe_frame.specs.TokenCounts.{tokens_in};
-ghost use Rattle.pipe_worker.specs.HeldTokens.{KeepsTokens, TakesTokens, tokens_taken};
+ghost use Rattle.pipe_frame.specs.TokenCounts.{tokens_entered, tokens_in, tokens_next};
+ghost use Rattle.worker_tasks.specs.HeldTokens.{KeepsTokens};
 ghost use Rattle.pipe_worker.specs.Machines.{CanDrive};
-ghost use Rattle.pipe_worker.specs.Tasks.{IsOver, IsStopSeen};
+ghost use Rattle.worker_tasks.specs.Tasks.{IsOver};
 ghost use Rattle.pipe_worker.specs.Workers.{IsSameWorker, ends_of, number_of};
 
 use crate::advance::run_and_advance;
 use crate::gate::Gate;
 use crate::idle::Idle;
 use crate::runs::Runs;
-use crate::work_test::WorkTest;
 use lazy_enable::look::{Look, StageOutcome, after};
 use pipe_frame::hall::Hall;
 use pipe_frame::results::{Begun, Next, Rescue};
@@ -24,13 +24,14 @@ use stage_code::code::Code;
 use std::alloc::Global;
 use std::sync::Wait;
 use work_deques::ends::Ends;
+use worker_tasks::tasks::WorkerTasks;
+use worker_tasks::work_test::WorkTest;
 
 /// A worker, with its ends of the deques. Workers have numbers from 0, as their deques have.
 #[derive(Drop)]
 pub struct Worker<M: Runs + Drop, Q: WorkTest<M>> {
     alloc: Global,
-    number: u32,
-    ends: Ends<Task<M>, Q>,
+    tasks: WorkerTasks<M, Q>,
 }
 
 // What came of a worker's question to the book.
@@ -61,8 +62,7 @@ impl<M: Runs + Drop, Q: WorkTest<M>> Worker<M, Q> {
     {
         Worker {
             alloc,
-            number,
-            ends,
+            tasks: WorkerTasks::new(number, ends),
         }
     }
 
@@ -70,74 +70,7 @@ impl<M: Runs + Drop, Q: WorkTest<M>> Worker<M, Q> {
     pub fn into_ends(self) -> Ends<Task<M>, Q>
         ensures { result ≡ ends_of self }
     {
-        self.ends
-    }
-
-    // Takes a task from the deque of another worker, if one has some.
-    fn steal<R: Wait>(&mut self, rt: &R) -> Option<Task<M>>
-        ensures task { IfSome result Q.meets }
-        ensures tokens { TakesTokens Q.weight (tokens_taken result) (ends_of self.old) (ends_of self.new) }
-        ensures worker { IsSameWorker self.old self.new }
-    {
-        let workers = self.ends.workers();
-        for step in 1..workers {
-            let victim = (u64::from(self.number) + u64::from(step)) % u64::from(workers);
-            if let Some(task) = self.ends.steal(rt, victim as u32) {
-                return Some(task);
-            }
-        }
-        None
-    }
-
-    // Takes the last task of the worker's own deque, or else one of another worker.
-    fn take_task<R: Wait>(&mut self, rt: &R) -> Option<Task<M>>
-        ensures task { IfSome result Q.meets }
-        ensures tokens { TakesTokens Q.weight (tokens_taken result) (ends_of self.old) (ends_of self.new) }
-        ensures worker { IsSameWorker self.old self.new }
-    {
-        match self.ends.pop() {
-            Some(task) => Some(task),
-            None => self.steal(rt),
-        }
-    }
-
-    // Keeps a token as a task, or leaves it to others if the deque refuses it.
-    fn keep<R: Wait, H: Hall<M>>(&mut self, rt: &R, hall: &mut H, token: FrameToken<M>)
-        requires named { H.named hall.old ≡ Q.named }
-        requires given { IsGivenToken M.ready_at M.tie Q.named token }
-        ensures named { H.named hall.new ≡ Q.named }
-        ensures tokens { KeepsTokens Q.weight 1 0 (H.tokens hall.old) (ends_of self.old) (H.tokens hall.new) (ends_of self.new) }
-        ensures worker { IsSameWorker self.old self.new }
-    {
-        if let Err(Task::Resume(token)) = self.ends.push(Task::Resume(token)) {
-            hall.leave_ready(rt, token);
-        }
-    }
-
-    // Leaves the tasks of the worker's own deque to others. A task to begin an iteration is dropped,
-    // since the book knows whether one may begin.
-    fn empty<R: Wait, H: Hall<M>>(&mut self, rt: &R, hall: &mut H)
-        requires named { H.named hall.old ≡ Q.named }
-        ensures named { H.named hall.new ≡ Q.named }
-        ensures stopped { IsStopSeen (H.seen hall.old) → IsStopSeen (H.seen hall.new) }
-        ensures tokens { KeepsTokens Q.weight 0 0 (H.tokens hall.old) (ends_of self.old) (H.tokens hall.new) (ends_of self.new) }
-        ensures worker { IsSameWorker self.old self.new }
-    {
-        for _ in rt.forever() {
-            match self.ends.pop() {
-                None => return,
-                Some(Task::Begin) => {}
-                Some(Task::Resume(token)) => hall.leave_ready(rt, token),
-            }
-        }
-    }
-
-    // Lets the next iteration begin, by a task. If the deque refuses it, the book knows that one may begin.
-    fn offer_next(&mut self)
-        ensures tokens { TakesTokens Q.weight 0 (ends_of self.old) (ends_of self.new) }
-        ensures worker { IsSameWorker self.old self.new }
-    {
-        let _refused = self.ends.push(Task::Begin);
+        self.tasks.into_ends()
     }
 
     // Looks for a further task after an iteration that cannot go on. If the next iteration may begin, its
@@ -161,11 +94,74 @@ impl<M: Runs + Drop, Q: WorkTest<M>> Worker<M, Q> {
             Look::On | Look::Rescue => None,
         };
         if next_begins {
-            self.offer_next();
+            self.tasks.offer_next();
         }
         if let Some(token) = found {
-            self.keep(rt, hall, token);
+            self.tasks.keep(rt, hall, token);
         }
+    }
+
+    // Goes on after an instance, as its iteration does: returns the token of the next instance, or looks
+    // for a further task, or leaves all tasks to others if the run is stopped.
+    fn go_on<R: Wait, H: Hall<M>>(
+        &mut self,
+        rt: &R,
+        hall: &mut H,
+        iteration: u32,
+        next: Next<M>,
+        next_begins: bool,
+    ) -> Option<FrameToken<M>>
+        requires named { H.named hall.old ≡ Q.named }
+        requires given { IfGo next (IsGivenToken M.ready_at M.tie Q.named) }
+        ensures named { H.named hall.new ≡ Q.named }
+        ensures given { IfSome result (IsGivenToken M.ready_at M.tie Q.named) }
+        ensures tokens { KeepsTokens Q.weight (tokens_next next) (tokens_entered result) (H.tokens hall.old) (ends_of self.old)
+            (H.tokens hall.new) (ends_of self.new) }
+        ensures worker { IsSameWorker self.old self.new }
+    {
+        let outcome = match next {
+            Next::Go(further) => {
+                if next_begins {
+                    self.tasks.offer_next();
+                }
+                return Some(further);
+            }
+            Next::Stopped => {
+                self.tasks.empty(rt, hall);
+                return None;
+            }
+            Next::Suspended => StageOutcome::Suspended,
+            Next::Ended => StageOutcome::Ended,
+        };
+        self.look(rt, hall, iteration, outcome, next_begins);
+        None
+    }
+
+    // Runs an instance. Returns the token of the iteration's next instance, if that is to run next.
+    fn step<R: Wait, H: Hall<M>, G: Gate>(
+        &mut self,
+        rt: &R,
+        code: &Code,
+        input: &Numbers,
+        hall: &mut H,
+        gate: &G,
+        token: FrameToken<M>,
+    ) -> Option<FrameToken<M>>
+        requires named { H.named hall.old ≡ Q.named }
+        requires drives { CanDrive M.code Q.named code.now input.now }
+        requires given { IsGivenToken M.ready_at M.tie Q.named token }
+        ensures named { H.named hall.new ≡ Q.named }
+        ensures given { IfSome result (IsGivenToken M.ready_at M.tie Q.named) }
+        ensures tokens { KeepsTokens Q.weight 1 (tokens_entered result) (H.tokens hall.old) (ends_of self.old) (H.tokens hall.new)
+            (ends_of self.new) }
+        ensures worker { IsSameWorker self.old self.new }
+    {
+        let iteration = token.iteration;
+        let index = token.index;
+        gate.at(rt, self.tasks.number(), NodeId { iteration, index });
+        let (next, end) = run_and_advance(self.alloc, rt, code, input, hall, token);
+        let next_begins = index == 0 && loop_goes_on(end);
+        self.go_on(rt, hall, iteration, next, next_begins)
     }
 
     // Runs an iteration from an instance on, until it cannot go on.
@@ -187,30 +183,9 @@ impl<M: Runs + Drop, Q: WorkTest<M>> Worker<M, Q> {
     {
         let mut token = token;
         for _ in rt.forever() {
-            let iteration = token.iteration;
-            let index = token.index;
-            gate.at(rt, self.number, NodeId { iteration, index });
-            let (next, end) = run_and_advance(self.alloc, rt, code, input, hall, token);
-            let next_begins = index == 0 && loop_goes_on(end);
-            match next {
-                Next::Go(further) => {
-                    if next_begins {
-                        self.offer_next();
-                    }
-                    token = further;
-                }
-                Next::Suspended => {
-                    self.look(rt, hall, iteration, StageOutcome::Suspended, next_begins);
-                    return;
-                }
-                Next::Ended => {
-                    self.look(rt, hall, iteration, StageOutcome::Ended, next_begins);
-                    return;
-                }
-                Next::Stopped => {
-                    self.empty(rt, hall);
-                    return;
-                }
+            match self.step(rt, code, input, hall, gate, token) {
+                Some(further) => token = further,
+                None => return,
             }
         }
     }
@@ -232,7 +207,7 @@ impl<M: Runs + Drop, Q: WorkTest<M>> Worker<M, Q> {
     {
         match hall.begin(rt) {
             Begun::Started(token) => self.run(rt, code, input, hall, gate, token),
-            Begun::Stopped => self.empty(rt, hall),
+            Begun::Stopped => self.tasks.empty(rt, hall),
             Begun::Throttled | Begun::Closed | Begun::NotYet => {}
         }
     }
@@ -293,7 +268,7 @@ impl<M: Runs + Drop, Q: WorkTest<M>> Worker<M, Q> {
             Rescue::Nothing => Rescued::Nothing,
             Rescue::Finished => Rescued::Over,
             Rescue::Stopped => {
-                self.empty(rt, hall);
+                self.tasks.empty(rt, hall);
                 Rescued::Over
             }
         }
@@ -322,7 +297,7 @@ impl<M: Runs + Drop, Q: WorkTest<M>> Worker<M, Q> {
         let mut idle = Idle::new();
         let mut looks = 0u32;
         for _ in rt.forever() {
-            if let Some(task) = self.take_task(rt) {
+            if let Some(task) = self.tasks.take(rt) {
                 idle.reset();
                 looks = 0;
                 self.perform(rt, code, input, hall, gate, task);

@@ -10,7 +10,7 @@ use Rattle.worker_threads.specs.TaskNumbers.{tokens_of_number}
 use Rattle.worker_threads.specs.TokensOut.{AreOut, LaneKeeps, NoneIsLost, came, given_by, returned_to, went}
 use Rattle.worker_threads.specs.declared.lanes.Lane.{Lane}
 use Rattle.worker_threads.specs.declared.task_test.TestOf.{TestOf}
-use Rattle.pipe_worker.specs.HeldTokens.{put_by, taken_by}
+use Rattle.worker_tasks.specs.HeldTokens.{put_by, taken_by}
 use Rattle.work_deques.specs.Tallies.{tally}
 use Rattle.work_deques.specs.WorkerEnds.{AreFresh, weight_put, weight_taken}
 use Rattle.work_deques.specs.declared.ends.Ends.{Ends}

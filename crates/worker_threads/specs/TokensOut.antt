@@ -4,7 +4,7 @@ use Rattle.pipe_frame.specs.TokenCounts.{TokenCounts}
 use Rattle.worker_threads.specs.Lanes.{ends_in, seat_in}
 use Rattle.worker_threads.specs.TaskNumbers.{tokens_of_number}
 use Rattle.worker_threads.specs.declared.lanes.Lane.{Lane}
-use Rattle.pipe_worker.specs.HeldTokens.{KeepsTokens, put_by, taken_by}
+use Rattle.worker_tasks.specs.HeldTokens.{KeepsTokens, put_by, taken_by}
 
 module _ {H : Type 0} (tokens : H → TokenCounts) where
   -- all tokens that the calls of these seats have given, and all that they have taken back

@@ -3,7 +3,7 @@
 ghost use Rattle.std.specs.Prelude.{◌≡◌, ◌<◌, ◌≤◌, ◌+◌, ◌++◌, ◌∷◌, ◌^◌, [], ℕ, All, IfOk, vec_len};
 ghost use Rattle.worker_threads.specs.TokensOut.{AreOut};
 ghost use Rattle.pipe_worker.specs.Machines.{CanDrive};
-ghost use Rattle.pipe_worker.specs.Tasks.{IsOver};
+ghost use Rattle.worker_tasks.specs.Tasks.{IsOver};
 
 use crate::lanes::{disband, lanes, work};
 use crate::task_test::{DrivenHall, TestOf};

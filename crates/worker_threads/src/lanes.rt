@@ -5,7 +5,7 @@ ghost use Rattle.std.specs.Prelude.{vec_len};
 ghost use Rattle.worker_threads.specs.Lanes.{AreNumbered, ends_in, seat_in};
 ghost use Rattle.worker_threads.specs.TokensOut.{LaneKeeps, NoneIsLost};
 ghost use Rattle.pipe_worker.specs.Machines.{CanDrive};
-ghost use Rattle.pipe_worker.specs.Tasks.{IsOver};
+ghost use Rattle.worker_tasks.specs.Tasks.{IsOver};
 ghost use Rattle.pipe_worker.specs.Workers.{IsSameWorker};
 ghost use Rattle.worker_threads.specs.declared.lanes.Lane.{Lane};
 ghost use Rattle.work_deques.specs.WorkerEnds.{AreAllEnds, weight_put, weight_taken};

@@ -2,9 +2,9 @@
 
 use pipe_frame::token::Task;
 use pipe_worker::runs::Runs;
-use pipe_worker::work_test::WorkTest;
 use std::marker::{Brand, PhantomData};
 use work_deques::tally::TaskTest;
+use worker_tasks::work_test::WorkTest;
 
 /// The hall that workers share. It exists in proofs only, and the call that starts the workers picks
 /// it.
@@ -29,7 +29,7 @@ pub struct TestOf<J, M> {
 
 impl<J: DrivenHall, M: Runs + Drop> TaskTest<Task<M>> for TestOf<J, M> {
     ghost use Rattle.pipe_frame.specs.SeatedTokens.{IsGivenToken};
-    ghost use Rattle.pipe_worker.specs.Tasks.{IsTask};
+    ghost use Rattle.worker_tasks.specs.Tasks.{IsTask};
     ghost use Rattle.worker_threads.specs.TaskNumbers.{task_number};
 
     ghost meets = { λ t. IsTask (IsGivenToken M.ready_at M.tie J.named) t };

@@ -4,7 +4,7 @@ use Rattle.work_deques.specs.WorkerEnds.{AreAllEnds}
 use Rattle.worker_threads.specs.Lanes.{ends_in, seat_in}
 use Rattle.worker_threads.proofs.LaneLists.{all_seats}
 use Rattle.worker_threads.proofs.LaneTokens.{left_out}
-use Rattle.pipe_worker.specs.Tasks.{IsOver}
+use Rattle.worker_tasks.specs.Tasks.{IsOver}
 use Rattle.worker_threads.proofs.drive.drive_hall.Goals as goal
 
 pub returns-clause-named : goal.returns-clause-named

@@ -3,7 +3,7 @@ use Rattle.std.proofs.Common.{◌∙◌, ap, subst}
 use Rattle.std.proofs.lemmas.Bool.{false≢true}
 use Rattle.pipe_frame.specs.SeatedTokens.{IsSeated}
 use Rattle.pipe_frame.specs.TokenFields.{TokenFields, fields_of}
-use Rattle.pipe_worker.proofs.TokenSums.{then_exchanges}
+use Rattle.worker_tasks.proofs.TokenSums.{then_exchanges}
 use Rattle.pipe_worker.proofs.memory.InstanceMemoryMemory.read.Goals as goal
 
 pub invariant_of-self : goal.invariant_of-self

@@ -1,6 +1,6 @@
 use Rattle.std.proofs.Common.{subst}
 use Rattle.pipe_frame.specs.SeatedTokens.{IsGivenToken}
-use Rattle.pipe_worker.specs.Tasks.{IsTask}
+use Rattle.worker_tasks.specs.Tasks.{IsTask}
 use Rattle.pipe_worker.proofs.worker.Worker.perform.Goals as goal
 
 pub run-requires-clause-given : goal.run-requires-clause-given

@@ -1,6 +1,6 @@
 use Rattle.std.proofs.Common.{◌≡◌}
 use Rattle.pipe_frame.specs.SeatedTokens.{IsGivenToken}
-use Rattle.pipe_worker.specs.HeldTokens.{KeepsTokens}
+use Rattle.worker_tasks.specs.HeldTokens.{KeepsTokens}
 use Rattle.pipe_worker.specs.Workers.{IsSameWorker, ends_of}
 use Rattle.pipe_worker.proofs.worker.Worker.run.Given as goal
 

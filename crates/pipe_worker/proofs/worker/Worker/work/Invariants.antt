@@ -1,5 +1,5 @@
 use Rattle.std.proofs.Common.{◌≡◌}
-use Rattle.pipe_worker.specs.HeldTokens.{KeepsTokens}
+use Rattle.worker_tasks.specs.HeldTokens.{KeepsTokens}
 use Rattle.pipe_worker.specs.Workers.{IsSameWorker, ends_of}
 use Rattle.pipe_worker.proofs.worker.Worker.work.Given as goal
 

@@ -1,14 +1,14 @@
 use Rattle.std.proofs.Common.{◌≡◌, ◌∙◌, ap, arith, None, Some, subst, sym}
 use Rattle.pipe_frame.specs.SeatedTokens.{IsGivenToken, IsSeated, seated_replies}
 use Rattle.pipe_frame.specs.TokenFields.{fields_of}
-use Rattle.pipe_worker.specs.HeldTokens.{TakesTokens}
-use Rattle.pipe_worker.specs.Tasks.{IsTask}
-use Rattle.pipe_worker.specs.Workers.{ends_of}
+use Rattle.worker_tasks.specs.HeldTokens.{TakesTokens}
+use Rattle.worker_tasks.specs.Tasks.{IsTask}
+use Rattle.worker_tasks.specs.OwnedEnds.{owned_ends}
 use Rattle.pipe_frame.specs.TokenCounts.{tokens_in}
-use Rattle.pipe_worker.proofs.SameEnds.{then_same}
-use Rattle.pipe_worker.proofs.SeenRuns.{keeps_stop}
-use Rattle.pipe_worker.proofs.TokenSums.{pop_takes, take_keeps, then_keeps}
-use Rattle.pipe_worker.proofs.worker.Worker.empty.Goals as goal
+use Rattle.worker_tasks.proofs.SameEnds.{then_same}
+use Rattle.worker_tasks.proofs.SeenRuns.{keeps_stop}
+use Rattle.worker_tasks.proofs.TokenSums.{pop_takes, take_keeps, then_keeps}
+use Rattle.worker_tasks.proofs.tasks.WorkerTasks.empty.Goals as goal
 
 pub loop-preserved : goal.loop-preserved
 loop-preserved g c =
@@ -41,9 +41,9 @@ loop-preserved-in-Some-Begin g c =
         deques = then_same c.args.self.now.ends c.loop.self.ends c.pop.new.self c.loop.invariant.worker.deques c.pop.ensures.deques;
       };
       tokens = then_keeps g.Q.WorkTest.weight 0 0 0 (counts c.args.hall.now) (counts c.loop.hall) (counts c.loop.hall)
-          (ends_of c.args.self.now) (ends_of c.loop.self) c.pop.new.self c.loop.invariant.tokens
-          (take_keeps g.Q.WorkTest.weight 0 0 (counts c.loop.hall) (ends_of c.loop.self) c.pop.new.self
-          (subst (λ n. TakesTokens g.Q.WorkTest.weight n (ends_of c.loop.self) c.pop.new.self) none taken));
+          (owned_ends c.args.self.now) (owned_ends c.loop.self) c.pop.new.self c.loop.invariant.tokens
+          (take_keeps g.Q.WorkTest.weight 0 0 (counts c.loop.hall) (owned_ends c.loop.self) c.pop.new.self
+          (subst (λ n. TakesTokens g.Q.WorkTest.weight n (owned_ends c.loop.self) c.pop.new.self) none taken));
     }
 
 pub leave_ready-requires-clause-out : goal.leave_ready-requires-clause-out
@@ -71,7 +71,7 @@ pub returns-in-None-pop-clause-tokens : goal.returns-in-None-pop-clause-tokens
 returns-in-None-pop-clause-tokens g c =
     let counts = g.H.Hall.tokens in
     then_keeps g.Q.WorkTest.weight 0 0 0 (counts c.args.hall.now) (counts c.loop.hall) (counts c.loop.hall)
-    (ends_of c.args.self.now) (ends_of c.loop.self) c.pop.new.self c.loop.invariant.tokens
-    (take_keeps g.Q.WorkTest.weight 0 0 (counts c.loop.hall) (ends_of c.loop.self) c.pop.new.self
+    (owned_ends c.args.self.now) (owned_ends c.loop.self) c.pop.new.self c.loop.invariant.tokens
+    (take_keeps g.Q.WorkTest.weight 0 0 (counts c.loop.hall) (owned_ends c.loop.self) c.pop.new.self
     (pop_takes g.Q.WorkTest.weight g.Q.TaskTest.tag g.met.Q.WorkTest.weighs c.loop.self.ends c.pop.new.self 0 None
     c.in-None-pop.ensures.own c.in-None-pop.ensures.fronts))

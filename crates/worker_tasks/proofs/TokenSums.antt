@@ -5,7 +5,7 @@ use Rattle.std.proofs.lemmas.List.{length-map}
 use Rattle.std.proofs.lemmas.List.Sums.{sum_by-cons, sum_by_push}
 use Rattle.pipe_frame.specs.TokenCounts.{Exchanges, TokenCounts, tokens_in}
 use Rattle.pipe_frame.specs.declared.token.Task.{Task}
-use Rattle.pipe_worker.specs.HeldTokens.{KeepsTokens, TakesTokens, tokens_taken}
+use Rattle.worker_tasks.specs.HeldTokens.{KeepsTokens, TakesTokens, tokens_taken}
 use Rattle.work_deques.specs.WorkerEnds.{front_count, front_tallies, front_tally, own_tally, tally_of_front}
 use Rattle.work_deques.specs.Tallies.{tally, with_taken}
 use Rattle.work_deques.specs.declared.tally.Tally.{Tally}

@@ -1,6 +1,6 @@
 use Rattle.std.proofs.Common.{Some}
-use Rattle.pipe_worker.proofs.TokenSums.{pop_takes}
-use Rattle.pipe_worker.proofs.worker.Worker.take_task.Goals as goal
+use Rattle.worker_tasks.proofs.TokenSums.{pop_takes}
+use Rattle.worker_tasks.proofs.tasks.WorkerTasks.take.Goals as goal
 
 pub returns-in-Some-clause-tokens : goal.returns-in-Some-clause-tokens
 returns-in-Some-clause-tokens g c =

@@ -12,7 +12,7 @@ pub trait WorkTest<M: Stands + Drop>: TaskTest<Task<M>> {
     ghost use Rattle.pipe_frame.specs.Ties.{HallName};
     ghost use Rattle.pipe_frame.specs.TokenCounts.{tokens_in};
     ghost use Rattle.pipe_frame.specs.declared.token.Task.{Task};
-    ghost use Rattle.pipe_worker.specs.Tasks.{IsTask};
+    ghost use Rattle.worker_tasks.specs.Tasks.{IsTask};
 
     /// The hall, with its program, input and throttling limit.
     ghost named: { HallName };

@@ -1,10 +1,10 @@
 -- A theft takes what it returns, and one that finds nothing takes nothing.
 use Rattle.std.proofs.Common.{rules, subst, Some}
 use Rattle.pipe_frame.specs.TokenCounts.{tokens_in}
-use Rattle.pipe_worker.specs.HeldTokens.{TakesTokens}
-use Rattle.pipe_worker.proofs.SameEnds.{then_same}
-use Rattle.pipe_worker.proofs.TokenSums.{no_theft, theft_takes, then_takes}
-use Rattle.pipe_worker.proofs.worker.Worker.steal.Goals as goal
+use Rattle.worker_tasks.specs.HeldTokens.{TakesTokens}
+use Rattle.worker_tasks.proofs.SameEnds.{then_same}
+use Rattle.worker_tasks.proofs.TokenSums.{no_theft, theft_takes, then_takes}
+use Rattle.worker_tasks.proofs.tasks.WorkerTasks.steal.Goals as goal
 
 pub returns-in-Some-clause-tokens : goal.returns-in-Some-clause-tokens
 returns-in-Some-clause-tokens g c =

@@ -6,7 +6,7 @@ use Rattle.pipe_model.specs.declared.event.Event.TheVariants.{Begin, Access, Adv
 use Rattle.pipe_model.specs.Runs.Run.{state_from}
 use Rattle.pipe_model.specs.Runs.RunLogs.{state_after}
 use Rattle.pipe_model.specs.Runs.State.{State, initial_state, next_state}
-use Rattle.pipe_worker.specs.Tasks.{IsStopSeen}
+use Rattle.worker_tasks.specs.Tasks.{IsStopSeen}
 
 stays_once : (s : State) (e : Event) → s.stopped ≡ true → (next_state s e).stopped ≡ true
 stays_once s (Begin i) h = h
