@@ -1,5 +1,5 @@
 -- The words and the links have the same labels, before and after the pending elements get theirs.
-use Rattle.std.proofs.Common.{◌≡◌, ℕ, ◌++◌, ◌∙◌, List, sym, subst, arith, eqb-true}
+use Rattle.std.proofs.Common.{◌≡◌, ℕ, ◌++◌, ◌∙◌, List, ap, sym, subst, arith, eqb-true}
 use Rattle.std.proofs.lemmas.List.{nil_from_length}
 use Rattle.om_shared.specs.Seats.{stage_of, word_labels}
 use Rattle.om_shared.specs.SharedLists.{HasChosenLabels, WrittenList}
@@ -29,3 +29,29 @@ returns-clause-chosen c = λ done log.
     c.self.view_is
     (subst (λ (p : List ℕ × List ℕ). HasChosenLabels done p.0 i.pending.items p.1) (λ k. (sym before k, sym after k))
     (labelled.ensures.chosen done parts))
+
+pub returns-clause-log : goal.returns-clause-log
+returns-clause-log c = c.label_pending-self-inside.ensures.log ∙ ap (λ (l : WrittenList). l.log) c.self.view_is
+
+pub returns-clause-capacity : goal.returns-clause-capacity
+returns-clause-capacity c = ap (λ (l : WrittenList). l.capacity) c.self.view_is
+
+pub returns-clause-pending : goal.returns-clause-pending
+returns-clause-pending c = c.label_pending-self-inside.ensures.pending
+
+pub returns-clause-table : goal.returns-clause-table
+returns-clause-table c = c.label_pending-self-inside.ensures.own ∙ ap (λ (l : WrittenList). l.table) c.self.view_is
+
+pub returns-then-is_empty-clause-log : goal.returns-then-is_empty-clause-log
+returns-then-is_empty-clause-log c = ap (λ (l : WrittenList). l.log) c.self.view_is
+
+pub returns-then-is_empty-clause-capacity : goal.returns-then-is_empty-clause-capacity
+returns-then-is_empty-clause-capacity c = ap (λ (l : WrittenList). l.capacity) c.self.view_is
+
+pub returns-then-is_empty-clause-pending : goal.returns-then-is_empty-clause-pending
+returns-then-is_empty-clause-pending c =
+    let long = eqb-true _ 0 (sym c.is_empty.ensures ∙ c.if-is_empty.true) in
+    nil_from_length c.self.inside.pending.items (omega (arith, long))
+
+pub returns-then-is_empty-clause-table : goal.returns-then-is_empty-clause-table
+returns-then-is_empty-clause-table c = ap (λ (l : WrittenList). l.table) c.self.view_is
