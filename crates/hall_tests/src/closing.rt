@@ -5,6 +5,7 @@ ghost use Rattle.hall_table.specs.WorkerSeats.{IsSameHall};
 ghost use Rattle.run_record.specs.MergedLogs.{BookRises, ShardRises};
 
 use access_history::history::Found;
+use hall_shards::found::found_by;
 use hall_shards::shard::Shard;
 use pipe_hall::close::{HallEnd, close};
 use pipe_hall::hall::{HallKey, HallOf};
@@ -22,15 +23,6 @@ pub struct Logs {
     pub book: BookLog,
     pub shards: Vec<ShardLog>,
     pub found: Vec<(CellId, Found)>,
-}
-
-// The races that the shards have found.
-fn found_in(alloc: Global, shards: &[Shard]) -> Result<Vec<(CellId, Found)>, NoMemory> {
-    let mut found = Vec::new(alloc);
-    for shard in shards {
-        found.extend_from_slice(shard.found()?.as_slice())?;
-    }
-    Ok(found)
 }
 
 // The logs of the shards.
@@ -52,7 +44,7 @@ fn logs_with(alloc: Global, book: BookLog, shards: Vec<Shard>) -> Result<Logs, N
     ensures book { IfOk result (λ logs. BookRises logs.book) }
     ensures shards { IfOk result (λ logs. All ShardRises logs.shards.items) }
 {
-    let found = found_in(alloc, shards.as_slice())?;
+    let found = found_by(alloc, shards.as_slice())?;
     let shards = logs_of(alloc, shards)?;
     Ok(Logs {
         book,
