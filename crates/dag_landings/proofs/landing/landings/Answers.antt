@@ -22,7 +22,7 @@ loop-from-preserved c =
       omega (arith, longer, long),
       λ n l. elim (cases_lt n c.loop-from.from) [
         | inl less ↦ subst (IsLanding c.args.left.now c.args.right.now n)
-          (sym (ap (λ t. get_or t n 0) new ∙ get_or_append_left table (place ∷ []) 0 n (omega (arith, less, long)))) (old.3 n less)
+            (sym (ap (λ t. get_or t n 0) new ∙ get_or_append_left table (place ∷ []) 0 n (omega (arith, less, long)))) (old.3 n less)
         | inr past ↦ (
             let here : c.loop-from.from ≡ n = omega (arith, l, past) in
             subst (IsLanding c.args.left.now c.args.right.now n)

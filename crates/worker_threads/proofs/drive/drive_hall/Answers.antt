@@ -29,19 +29,47 @@ returns-clause-tokens g c =
 pub work-requires : goal.work-requires
 work-requires g c =
     let bounds = c.type_bounds in
-    let placed = c.in_ok-lanes.ensures in
-    (bounds.send-J, (bounds.send-M, (bounds.send-H, (bounds.sync-R, (bounds.sync-G, (
-      omega (arith, length-map c.in_ok-lanes.lanes.items ends_in, ap length placed.ends, c.in_ok-ends.ensures.length,
-      c.in_ok-lanes.lanes.ok.0, c.len-workers.ensures, c.requires.nonempty),
-      (placed.named, (c.requires.drives, subst AreAllEnds (sym placed.ends) c.in_ok-ends.ensures.all))))))))
+    let placed = c.in_ok-lanes.ensures in (
+      bounds.send-J,
+      (
+        bounds.send-M,
+        (
+          bounds.send-H,
+          (
+            bounds.sync-R,
+            (
+              bounds.sync-G,
+              (
+                omega (
+                  arith,
+                  length-map c.in_ok-lanes.lanes.items ends_in,
+                  ap length placed.ends,
+                  c.in_ok-ends.ensures.length,
+                  c.in_ok-lanes.lanes.ok.0,
+                  c.len-workers.ensures,
+                  c.requires.nonempty,
+                ),
+                (placed.named, (c.requires.drives, subst AreAllEnds (sym placed.ends) c.in_ok-ends.ensures.all)),
+              ),
+            ),
+          ),
+        ),
+      ),
+    )
 
 pub disband-seats-requires : goal.disband-seats-requires
 disband-seats-requires g c =
     let seats = c.in_ok-room_for_seats.ensures in
     let ends = c.in_ok-room_for_ends.ensures in
     let count : vec_len c.work.new.lanes ≡ c.len-workers.result =
-    omega (arith, c.work.ensures.length, length-map c.in_ok-lanes.lanes.items ends_in, ap length c.in_ok-lanes.ensures.ends,
-    c.in_ok-ends.ensures.length, c.in_ok-lanes.lanes.ok.0) in
+    omega (
+      arith,
+      c.work.ensures.length,
+      length-map c.in_ok-lanes.lanes.items ends_in,
+      ap length c.in_ok-lanes.ensures.ends,
+      c.in_ok-ends.ensures.length,
+      c.in_ok-lanes.lanes.ok.0,
+    ) in
     record {
       seats = (seats.items, omega (arith, count, seats.capacity));
       ends = (ends.items, omega (arith, count, ends.capacity));
@@ -50,6 +78,16 @@ disband-seats-requires g c =
 
 pub returns-clause-length : goal.returns-clause-length
 returns-clause-length g c =
-    omega (arith, ap length c.disband-seats.ensures.seats, length-map c.work.new.lanes.items seat_in, c.work.ensures.length,
-    length-map c.in_ok-lanes.lanes.items ends_in, ap length c.in_ok-lanes.ensures.ends, c.in_ok-ends.ensures.length, c.len-workers.ensures,
-    c.in_ok-lanes.lanes.ok.0, c.work.new.lanes.ok.0, c.disband-seats.result.0.ok.0)
+    omega (
+      arith,
+      ap length c.disband-seats.ensures.seats,
+      length-map c.work.new.lanes.items seat_in,
+      c.work.ensures.length,
+      length-map c.in_ok-lanes.lanes.items ends_in,
+      ap length c.in_ok-lanes.ensures.ends,
+      c.in_ok-ends.ensures.length,
+      c.len-workers.ensures,
+      c.in_ok-lanes.lanes.ok.0,
+      c.work.new.lanes.ok.0,
+      c.disband-seats.result.0.ok.0,
+    )

@@ -51,7 +51,7 @@ returns-clause-some c =
       later = c.in_ok-earlier.later;
       first = c.in_ok-earlier.ensures.some;
       report_is = c.report.ensures ∙ (names ∙ sym (ap (λ (r : Report). report_of columns r.cell.0
-      (access_at noted c.in_ok-earlier.earlier) (access_at noted c.in_ok-earlier.later)) c.report.ensures));
+          (access_at noted c.in_ok-earlier.earlier) (access_at noted c.in_ok-earlier.later)) c.report.ensures));
     }
 
 pub returns-clause-cell : goal.returns-clause-cell
