@@ -13,7 +13,7 @@ const COUNT_TO_TWO: &str =
 
 // Wrong words, missing files, and inputs with a fault, in the order of the refusals; and then options of
 // `run`, which do not change the result.
-const CALLS: [CallRow<'static>; 26] = [
+static CALLS: [CallRow<'static>; 26] = [
     (&[], COUNT_TO_TWO, 1, "refused usage\n"),
     (&["run"], COUNT_TO_TWO, 1, "refused usage\n"),
     (&["run", "a.pipe"], COUNT_TO_TWO, 1, "refused usage\n"),
@@ -161,7 +161,7 @@ const RACING_TAKES: &str =
 // input.
 type InputRow<'a> = (&'a str, &'a str, u8, &'a str);
 
-const INPUTS: [InputRow<'static>; 9] = [
+static INPUTS: [InputRow<'static>; 9] = [
     (COUNT_TO_TWO, "1 2 x", 1, "refused input BadByte at 4\n"),
     (COUNT_TO_TWO, "-", 1, "refused input BadByte at 1\n"),
     (
@@ -283,7 +283,7 @@ const COUNTS: Case<'static> = Case {
 };
 
 // Reads and writes that fail, each alone, and both.
-const FAULTS: [Case<'static>; 7] = [
+static FAULTS: [Case<'static>; 7] = [
     Case {
         write_fails: &[0],
         status: 5,
@@ -353,7 +353,7 @@ const ARRAY_TEXT: &str =
     "limits iterations 1, stages 1, steps 1, emits 1;\ncell d[2] = -7;\ninit {\n  d[0] = 1;\n}\npipe_while (d[1]) {\n  if (1) {\n  } else {\n    emit -(2 * (d[0] + 1));\n  }\n}\n";
 
 // Sources with their canonical texts. The last is canonical itself.
-const TEXTS: [CallRow<'static>; 3] = [
+static TEXTS: [CallRow<'static>; 3] = [
     (FORMAT, SUMS, 0, SUMS_TEXT),
     (FORMAT, ARRAY, 0, ARRAY_TEXT),
     (FORMAT, ARRAY_TEXT, 0, ARRAY_TEXT),

@@ -81,7 +81,7 @@ const EVENTS_OF_AN_ELEMENT: [Event; 10] = [
     Finish(1, ColumnEnd::Closed),
 ];
 
-const RUNS: [(&str, &[Event]); 3] = [
+static RUNS: [(&str, &[Event]); 3] = [
     (RUN_OF_TWO_STAGES, &EVENTS_OF_TWO_STAGES),
     (TRAP, &EVENTS_OF_A_TRAP),
     (ELEMENT, &EVENTS_OF_AN_ELEMENT),

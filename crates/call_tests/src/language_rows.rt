@@ -10,7 +10,7 @@ use std::thread::Threads;
 // and its text. Each part emits its number before that.
 type TrapRow<'a> = (u32, &'a str, &'a str, &'a str, &'a str);
 
-const TRAPS: [TrapRow<'static>; 18] = [
+static TRAPS: [TrapRow<'static>; 18] = [
     (
         9,
         "let x = 9223372036854775807 + 1;",
@@ -108,7 +108,7 @@ fn traps_leave_out_later_parts(rt: HostRuntime) {
 // A statement, its steps, and what it emits.
 type CostRow<'a> = (&'a str, u32, &'a str);
 
-const COSTS: [CostRow<'static>; 20] = [
+static COSTS: [CostRow<'static>; 20] = [
     ("let x = 1;", 2, ""),
     ("n = n;", 2, ""),
     ("a[1] = 2;", 3, ""),
@@ -177,7 +177,7 @@ fn statements_have_their_costs(rt: HostRuntime) {
 // program that emits it.
 type ValueRow<'a> = (&'a str, u8, &'a str);
 
-const VALUES: [ValueRow<'static>; 80] = [
+static VALUES: [ValueRow<'static>; 80] = [
     ("l", 0, "-9223372036854775808\n"),
     ("h + l", 0, "-1\n"),
     ("l + h", 0, "-1\n"),
@@ -297,7 +297,7 @@ const DEEPEST: &str = "init { emit \
     0 == 3 < 2 + 1 * (0 == 3 < 2 + 1 * (0 == 3 < 2 + 1 * (0 == 3 < 2 + 1 * (0 == 3 < 2 + 1 * (\
     1))))))))))))))))))))))))); } pipe_while (0) { }";
 
-const ROWS: [Row<'static>; 46] = [
+static ROWS: [Row<'static>; 46] = [
     ([1, 1, 202, 1], DEEPEST, 0, "1\n"),
     // `init`, the loop and `final` have a budget each, and share the cells and the output.
     (
@@ -586,7 +586,7 @@ fn each_form_has_its_result(rt: HostRuntime) {
 }
 
 // Pipelines whose stages depend on the iteration, `init`, `final` and traps, by `run` and by `serial`.
-const PIPELINES: [Row<'static>; 17] = [
+static PIPELINES: [Row<'static>; 17] = [
     // Stage 1 reads the counter, which stage 0 of the next iteration writes.
     (
         [8, 4, 100, 8],

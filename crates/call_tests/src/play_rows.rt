@@ -83,7 +83,7 @@ const TRAP_OF_ITERATION: &str =
     "limits iterations 4, stages 2, steps 50, emits 4; cell n = 0; pipe_while (n < 2) { n = n + 1; let t = n; pipe_wait(1); emit 6 / (2 - t); }";
 
 // With one iteration alive at a time there is one schedule, for `run` and for `play`.
-const SCHEDULES: [CallRow<'static>; 5] = [
+static SCHEDULES: [CallRow<'static>; 5] = [
     (
         &["run", "a.pipe", "a.in", "--record"],
         EMPTY,

@@ -13,7 +13,7 @@ use std::thread::Threads;
 // like this, counted by hand.
 type StartRow<'a> = (&'a str, &'a str, usize);
 
-const STARTS: [StartRow<'static>; 10] = [
+static STARTS: [StartRow<'static>; 10] = [
     ("", "pipe_wait(1);", 1),
     ("", "pipe_continue(1);", 5),
     ("let t = c;", "pipe_wait(1);", 3),
@@ -135,7 +135,7 @@ const WRITTEN_TWICE: &str =
 const RACING_SUMS: &str =
     "limits iterations 8, stages 4, steps 100, emits 8; cell n = 0; cell s = 0; pipe_while (n < 3) { n = n + 1; let t = n; pipe_continue(1); s = s + t; emit s; }";
 
-const RACES: [CallRow<'static>; 3] = [
+static RACES: [CallRow<'static>; 3] = [
     // The histories name the last write, and the explicit search the first.
     (RUN, WRITTEN_TWICE, 2, "race c write 0/2 read 1/0\n"),
     (SERIAL, WRITTEN_TWICE, 2, "race c write 0/1 read 1/0\n"),
@@ -195,7 +195,7 @@ fn a_thousand_items_pass_six_stages(rt: HostRuntime) {
 }
 
 // Sizes of generated workloads, and the summaries of their runs. The second is the greatest size.
-const WORKLOADS: [CallRow<'static>; 2] = [
+static WORKLOADS: [CallRow<'static>; 2] = [
     (
         &["bench", "--seed", "1", "--size", "1000"],
         "",

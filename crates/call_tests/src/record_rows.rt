@@ -26,7 +26,7 @@ const OF_RACING: Case<'static> = Case {
     ..BLANK
 };
 
-const RECORDS: [Case<'static>; 9] = [
+static RECORDS: [Case<'static>; 9] = [
     Case {
         record: "begin 0\nread 0 n 0\nwrite 0 n 1\nwait 0 1\nenter 0\nread 0 n 1\nread 0 output 0\nwrite 0 output 1\nend 0\nbegin 1\nread 1 n 1\nclosed 1\n",
         status: 0,
@@ -98,7 +98,7 @@ const BEGINNING: Case<'static> = Case {
 
 // A record that needs a greater throttling limit, one that is not there, and one that cannot be read. The
 // source takes eighteen reads, and the input one; the last read of a file finds its end.
-const OTHERS: [Case<'static>; 3] = [
+static OTHERS: [Case<'static>; 3] = [
     Case {
         words: &["check-record", "a.pipe", "a.in", "a.log", "--throttle", "1"],
         status: 1,
@@ -133,7 +133,7 @@ const RACING_GRID: &str =
 
 const WAVE: &[&str] = &["wave", "a.pipe", "a.in", "--workers", "8"];
 
-const WAVES: [CallRow<'static>; 6] = [
+static WAVES: [CallRow<'static>; 6] = [
     (
         &["wave", "a.pipe", "a.in", "--workers", "1"],
         GRID,

@@ -36,7 +36,7 @@ const TOO_MANY_LOCALS: &str = "pipe_while (0) { \
     let @b = 1; }";
 
 // The kind of the refusal, and the source after its limits.
-const REFUSED: [(&str, &str); 15] = [
+static REFUSED: [(&str, &str); 15] = [
     ("source BadByte", "pipe_while (0) { } @#"),
     ("source TooWide", "pipe_while (@9223372036854775808) { }"),
     (
@@ -131,7 +131,7 @@ fn sources_are_refused(rt: HostRuntime) {
 }
 
 // Sources and their lines. A limit that is out of range precedes the unknown name.
-const LINES: [(&str, &str); 7] = [
+static LINES: [(&str, &str); 7] = [
     ("", "refused source Unexpected at 0\n"),
     (
         "limits iterations 0, stages 1, steps 1, emits 0; pipe_while (x) { }",

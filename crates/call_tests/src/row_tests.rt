@@ -37,7 +37,7 @@ const MOST_LOCALS: &str = "pipe_while (0) { \
     let a63 = 1; }";
 
 // Programs that run.
-const PROGRAMS: [Row<'static>; 54] = [
+static PROGRAMS: [Row<'static>; 54] = [
     ([1, 1, 2, 0], "pipe_while (0) { }", 0, ""),
     (
         [1, 1, 1, 0],
@@ -284,7 +284,7 @@ fn first_other_by_four(
 type EndingRow<'a> = (&'a str, u8, &'a str);
 
 // Programs that finish, race and trap.
-const ENDINGS: [EndingRow<'static>; 3] = [
+static ENDINGS: [EndingRow<'static>; 3] = [
     (PREFIX_SUMS, 0, "1\n3\n6\n"),
     (RACING_SUMS, 2, RACING_LINES),
     (

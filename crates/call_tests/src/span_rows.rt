@@ -7,7 +7,7 @@ use std::thread::Threads;
 
 const SPAN: &[&str] = &["span", "a.pipe", "a.in"];
 
-const ROWS: [Row<'static>; 10] = [
+static ROWS: [Row<'static>; 10] = [
     // One column.
     (
         [1, 1, 2, 0],
@@ -100,7 +100,7 @@ const ONE_STAGE: &str =
     "limits iterations 65536, stages 1, steps 20, emits 0; pipe_while (iter() < 65536) { }";
 
 // A long chain, the most stages and the most iterations.
-const PATHS: [PathRow<'static>; 3] = [
+static PATHS: [PathRow<'static>; 3] = [
     (CHAIN, "work 704\nspan 406\n0/0\n", 50, 1, 2),
     (ONE_ITERATION, "work 36869\nspan 36865\n", 1, 0, 4096),
     (ONE_STAGE, "work 262148\nspan 262148\n", 65_537, 0, 1),

@@ -18,7 +18,7 @@ const PREFIX_SUMS: &str =
     "limits iterations 8, stages 4, steps 100, emits 8; cell n = 0; cell s = 0; pipe_while (n < 3) { n = n + 1; let t = n; pipe_wait(1); s = s + t; emit s; }";
 
 // Four workers, with one iteration alive, and with eight.
-const SUMS: [CallRow<'static>; 2] = [
+static SUMS: [CallRow<'static>; 2] = [
     (
         &["run", "a.pipe", "a.in", "--workers", "4", "--throttle", "1"],
         PREFIX_SUMS,

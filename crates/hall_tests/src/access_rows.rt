@@ -74,7 +74,7 @@ const OF_THE_LAST_CELL: [Asked; 3] = [
 // A cell that is read and written: the accesses have the two tickets after the ticket of the beginning. A
 // hall that begins after an earlier access. Cells of several shards, which are read back. Programs of one
 // cell, and of 4,096.
-const ROWS: [Row; 5] = [
+static ROWS: [Row; 5] = [
     (PREFIX_SUMS, false, &READ_AND_WRITTEN, &[(2, &[2, 3])]),
     (PREFIX_SUMS, true, &AFTER_A_WRITE, &[]),
     (THIRTY_CELLS, false, &OF_SEVERAL_SHARDS, &TICKETS_OF_SEVERAL),

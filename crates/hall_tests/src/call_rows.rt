@@ -225,7 +225,7 @@ const RACE: [Row; 5] = [
 ];
 
 // The race is that of `f`.
-const SCRIPTS: [Script; 3] = [
+static SCRIPTS: [Script; 3] = [
     (PREFIX_SUMS, 4, &LEFT_READY, None),
     (PREFIX_SUMS, 2, &ONE_AFTER_THE_OTHER, None),
     (RACING, 2, &RACE, Some(CellId(3))),
@@ -264,7 +264,7 @@ fn calls_of_two_workers_have_their_results(rt: HostRuntime) {
     assert!(rt; other.is_none(), "{other:?}");
 }
 
-const THREE_OUT: [Row; 7] = [
+static THREE_OUT: [Row; 7] = [
     (First, Begin, Token(0, 0)),
     (First, Run, Token(0, 1)),
     (First, Begin, Token(1, 0)),

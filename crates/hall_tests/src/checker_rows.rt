@@ -67,7 +67,7 @@ const EVENTS: [Event; 7] = [
 ];
 
 // An index, the event that is put there, and the verdict.
-const ROWS: [(usize, Event, Verdict); 9] = [
+static ROWS: [(usize, Event, Verdict); 9] = [
     (0, Event::Begin(0), Verdict::Finished),
     (0, Event::Begin(1), Verdict::Control(0)),
     (1, Event::Access(0, READ_5), Verdict::Value(1)),

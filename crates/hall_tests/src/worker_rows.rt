@@ -44,7 +44,7 @@ enum Tasks {
 // How many iterations may be alive, where there are tasks, and how often the worker makes each call.
 type Row = (u32, Tasks, Calls);
 
-const ROWS: [Row; 4] = [
+static ROWS: [Row; 4] = [
     // The worker takes its tasks from its own deque. The book is asked for a task only at the start, when no
     // iteration has begun, and at the end, when it says that the run is finished. Iterations 1 to 3 begin by
     // the tasks that instance 0 of the one before leaves in the deque. Each of the four iterations ends, and

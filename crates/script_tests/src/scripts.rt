@@ -249,7 +249,7 @@ const STOP_AT_THE_END: [Row; 6] = [
     (Begin, Stopped, 3),
 ];
 
-const SCRIPTS: [Script; 13] = [
+static SCRIPTS: [Script; 13] = [
     Script {
         source: Source {
             iterations: 2,
