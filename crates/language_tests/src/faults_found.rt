@@ -12,6 +12,7 @@ use pipe_model::memory::NoMemory;
 use pipe_model::token::Tokens;
 use pipe_parser::parse::{ParseFault, Parsed, parse};
 use std::alloc::Global;
+use std::fmt::Debug;
 
 /// Limits in their ranges, 49 bytes.
 pub const LIMITS: &str = "limits iterations 1, stages 1, steps 1, emits 1; ";
@@ -84,20 +85,20 @@ pub fn is_accepted(alloc: Global, source: &str) -> bool {
     first_fault(alloc, source).is_none()
 }
 
-// The fault as `Debug` prints it.
-fn printed(alloc: Global, fault: SourceFault) -> Result<String, NoMemory> {
-    Ok(match fault {
-        SourceFault::Lexical(fault) => format!(in alloc; "{fault:?}")?,
-        SourceFault::Syntactic(fault) => format!(in alloc; "{fault:?}")?,
-        SourceFault::Broken(fault) => format!(in alloc; "{fault:?}")?,
-    })
+// Whether `Debug` prints a fault of a crate like this.
+fn prints<F: Debug>(alloc: Global, fault: &F, expected: &str) -> bool {
+    match format!(in alloc; "{fault:?}") {
+        Ok(found) => found.as_str() == expected,
+        Err(_) => false,
+    }
 }
 
 // Whether a fault is printed like this.
 fn is_printed(alloc: Global, fault: SourceFault, expected: &str) -> bool {
-    match printed(alloc, fault) {
-        Ok(found) => found.as_str() == expected,
-        Err(NoMemory) => false,
+    match fault {
+        SourceFault::Lexical(fault) => prints(alloc, &fault, expected),
+        SourceFault::Syntactic(fault) => prints(alloc, &fault, expected),
+        SourceFault::Broken(fault) => prints(alloc, &fault, expected),
     }
 }
 
