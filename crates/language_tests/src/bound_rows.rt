@@ -12,18 +12,12 @@ const FINAL: &str = "pipe_while (0) { } final { ";
 // Texts, each repeated.
 type Parts = &'static [(&'static str, usize)];
 
-// Appends a text some times.
-fn push_times(source: &mut String, text: &str, times: usize) -> Result<(), NoMemory> {
-    for _ in 0..times {
-        source.push_str(text)?;
-    }
-    Ok(())
-}
-
 fn joined(alloc: Global, parts: Parts) -> Result<String, NoMemory> {
     let mut source = String::from_str(alloc, LIMITS)?;
     for (text, times) in parts {
-        push_times(&mut source, text, *times)?;
+        for _ in 0..*times {
+            source.push_str(text)?;
+        }
     }
     Ok(source)
 }
