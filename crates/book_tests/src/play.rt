@@ -2,10 +2,11 @@
 
 ghost use Rattle.std.specs.Prelude.{◌≡◌, ◌<◌, ◌≤◌, [], IfOk, IfSome, None, ℕ};
 ghost use Rattle.om_relabel.specs.declared.links.TheConstants.{MOST_ELEMENTS};
+ghost use Rattle.pipe_model.specs.Language.SyntaxTree.{tree_of};
 ghost use Rattle.pipe_model.specs.Runs.ControlRun.{ControlRun};
 ghost use Rattle.frame_book.specs.BookStates.{events_of, state_of};
 ghost use Rattle.book_tests.specs.HeldTokens.{AreHeld, AreHeldBut, IsGiven, token_of};
-ghost use Rattle.book_tests.specs.ScriptPrograms.{IsSmall};
+ghost use Rattle.book_tests.specs.ScriptPrograms.{IsSmall, tree_of_source};
 
 use crate::plan::Plan;
 use crate::program::{Source, program};
@@ -18,6 +19,7 @@ use pipe_model::list::{ListOf, Numbers};
 use pipe_model::memory::NoMemory;
 use pipe_model::stage::StageEnd;
 use pipe_model::ticket::BookLog;
+use pipe_model::tree::Program;
 use std::alloc::Global;
 
 /// A call of the book; `u32` is an iteration.
@@ -87,17 +89,32 @@ fn orders(alloc: Global, capacity: u32) -> Result<TwoOrders<OmList>, NoMemory>
     Ok(TwoOrders::new(down, right))
 }
 
-// A book of a program, which has given no token.
+// A book of the program of a source, which has given no token.
+fn book_of(
+    alloc: Global,
+    program: &Program,
+    source: Source,
+    throttle: u32,
+) -> Result<Book<Plan, OmList>, NoMemory>
+    requires small { IsSmall source }
+    requires throttle { 0 < throttle }
+    requires program { tree_of program.now ≡ tree_of_source source }
+{
+    let plan = Plan::new(source.turns, source.waits(), source.stages);
+    let payloads = vec![in alloc; plan; throttle as usize]?;
+    let orders = orders(alloc, source.capacity())?;
+    let input = Numbers::new(alloc);
+    Book::new(alloc, program, &input, throttle, payloads, orders)
+}
+
 fn new_book(alloc: Global, source: Source, throttle: u32) -> Result<Book<Plan, OmList>, NoMemory>
     requires small { IsSmall source }
     requires throttle { 0 < throttle }
 {
-    let plan = Plan::new(source.turns, source.waits(), source.stages);
     let program = program(alloc, source)?;
-    let input = Numbers::new(alloc);
-    let payloads = vec![in alloc; plan; throttle as usize]?;
-    let orders = orders(alloc, source.capacity())?;
-    Book::new(alloc, &program, &input, throttle, payloads, orders)
+    let book = book_of(alloc, &program, source, throttle);
+    drop(program);
+    book
 }
 
 // Room for the tokens of some iterations; none is held.

@@ -83,6 +83,8 @@ fn test(alloc: Global, turns: u32) -> Result<Expr, NoMemory>
 pub fn program(alloc: Global, source: Source) -> Result<Program, NoMemory>
     ensures { IfOk result (λ p. tree_of p ≡ tree_of_source source) }
 {
+    let test = test(alloc, source.turns)?;
+    let body = body(alloc, source.three)?;
     Ok(Program {
         limits: Limits {
             iterations: source.iterations as i64,
@@ -94,8 +96,8 @@ pub fn program(alloc: Global, source: Source) -> Result<Program, NoMemory>
         init: Block {
             statements: Vec::new(alloc),
         },
-        test: test(alloc, source.turns)?,
-        body: body(alloc, source.three)?,
+        test,
+        body,
         last: Block {
             statements: Vec::new(alloc),
         },

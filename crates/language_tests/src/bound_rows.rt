@@ -1,6 +1,6 @@
 //! The greatest bracket depth, the longest expression and the most locals, and one more of each.
 
-use crate::faults_found::{LIMITS, has_fault, is_accepted};
+use crate::faults_found::{LIMITS, has_fault, is_accepted, texts_are_accepted, texts_have_fault};
 use crate::first_rows::{expect_no_pair, expect_none};
 use pipe_model::memory::NoMemory;
 use std::alloc::Global;
@@ -100,7 +100,7 @@ const TOO_LONG: [Parts; 8] = [
     ],
 ];
 
-const LONGEST: [Parts; 12] = [
+static LONGEST: [Parts; 12] = [
     &[
         ("pipe_while ", 1),
         ("(", 64),
@@ -156,7 +156,7 @@ fn first_other_row(alloc: Global, kind: &str, rows: &[Parts]) -> Option<usize> {
 }
 
 // Sources, by the kind of their fault.
-const FAULTY: [(&str, &[Parts]); 4] = [
+static FAULTY: [(&str, &[Parts]); 4] = [
     ("TooDeep", &TOO_DEEP),
     ("TooLong", &TOO_LONG),
     ("Unexpected", &UNFINISHED),
@@ -174,7 +174,7 @@ fn first_other(alloc: Global, kinds: &[(&str, &[Parts])]) -> Option<(usize, usiz
 }
 
 // Whether the parts are a program that breaks no rule.
-fn are_accepted(alloc: Global, parts: Parts) -> bool {
+fn parts_are_accepted(alloc: Global, parts: Parts) -> bool {
     match joined(alloc, parts) {
         Ok(source) => is_accepted(alloc, source.as_str()),
         Err(NoMemory) => false,
@@ -183,7 +183,7 @@ fn are_accepted(alloc: Global, parts: Parts) -> bool {
 
 fn first_refused(alloc: Global, rows: &[Parts]) -> Option<usize> {
     for (index, parts) in rows.iter().enumerate() {
-        if !are_accepted(alloc, *parts) {
+        if !parts_are_accepted(alloc, *parts) {
             return Some(index);
         }
     }
@@ -204,32 +204,46 @@ fn brackets_and_expressions_are_bounded(rt: HostRuntime) {
     expect_none(&rt, "LONGEST", first_refused_of_longest(rt.alloc()));
 }
 
-// n `let` statements, of different names.
-fn locals(alloc: Global, n: u32) -> Result<String, NoMemory> {
+// n definitions of different names, each after this word.
+fn definitions(alloc: Global, word: &str, n: u32) -> Result<String, NoMemory> {
     let mut text = String::new(alloc);
     for k in 0..n {
-        write!(text, "let a{k} = 1; ")?;
+        write!(text, "{word} a{k} = 1; ")?;
     }
     Ok(text)
 }
 
 // Whether each part of a program may have these `let` statements.
 fn are_in_each_part(alloc: Global, locals: &str) -> bool {
-    let source = format!(in alloc;
-        "{LIMITS}init {{ {locals}}} pipe_while (0) {{ {locals}}} final {{ {locals}}}"
-    );
-    match source {
-        Ok(source) => is_accepted(alloc, source.as_str()),
-        Err(_) => false,
-    }
+    texts_are_accepted(
+        alloc,
+        &[
+            LIMITS,
+            "init { ",
+            locals,
+            "} pipe_while (0) { ",
+            locals,
+            "} final { ",
+            locals,
+            "}",
+        ],
+    )
 }
 
 // Whether a program with these `let` statements and a further one has this fault there.
 fn one_more_has_fault(alloc: Global, locals: &str, kind: &str, name: &str) -> bool {
-    match format!(in alloc; "{LIMITS}pipe_while (0) {{ {locals}let @{name} = 1; }}") {
-        Ok(source) => has_fault(alloc, kind, source.as_str()),
-        Err(_) => false,
-    }
+    texts_have_fault(
+        alloc,
+        kind,
+        &[
+            LIMITS,
+            "pipe_while (0) { ",
+            locals,
+            "let @",
+            name,
+            " = 1; }",
+        ],
+    )
 }
 
 // Whether each part may have these `let` statements, and a further one is one too many, or has a name
@@ -242,7 +256,7 @@ fn are_most(alloc: Global, locals: &str) -> bool {
 
 // The same for 64 of them.
 fn are_64_most(alloc: Global) -> bool {
-    match locals(alloc, 64) {
+    match definitions(alloc, "let", 64) {
         Ok(locals) => are_most(alloc, locals.as_str()),
         Err(NoMemory) => false,
     }
@@ -254,26 +268,30 @@ fn locals_are_bounded(rt: HostRuntime) {
     assert!(rt; are_64_most(rt.alloc()));
 }
 
-// A program of 20,000 cells, one declaration each, and of a further declaration.
-fn many_cells(alloc: Global, last: &str) -> Result<String, NoMemory> {
-    let mut source = String::from_str(alloc, LIMITS)?;
-    for k in 0..20_000 {
-        write!(source, "cell a{k} = 1; ")?;
-    }
-    write!(source, "{last} pipe_while (1) {{ }}")?;
-    Ok(source)
+// 20,000 cells, one declaration each.
+fn many_cells(alloc: Global) -> Result<String, NoMemory> {
+    definitions(alloc, "cell", 20_000)
 }
 
+// Whether a program may have these cells and a further declaration.
 fn many_are_accepted(alloc: Global, last: &str) -> bool {
-    match many_cells(alloc, last) {
-        Ok(source) => is_accepted(alloc, source.as_str()),
+    match many_cells(alloc) {
+        Ok(cells) => texts_are_accepted(
+            alloc,
+            &[LIMITS, cells.as_str(), last, " pipe_while (1) { }"],
+        ),
         Err(NoMemory) => false,
     }
 }
 
+// Whether the further declaration is one too many.
 fn are_too_many(alloc: Global, last: &str) -> bool {
-    match many_cells(alloc, last) {
-        Ok(source) => has_fault(alloc, "TooManyCells", source.as_str()),
+    match many_cells(alloc) {
+        Ok(cells) => texts_have_fault(
+            alloc,
+            "TooManyCells",
+            &[LIMITS, cells.as_str(), last, " pipe_while (1) { }"],
+        ),
         Err(NoMemory) => false,
     }
 }

@@ -2,6 +2,7 @@
 
 use crate::faults_found::LIMITS;
 use crate::first_rows::{expect_no_pair, expect_none};
+use crate::texts::concat;
 use pipe_format::program::format;
 use pipe_lexer::scan::tokens;
 use pipe_model::memory::NoMemory;
@@ -155,34 +156,37 @@ fn is_canonical(alloc: Global, source: &str, text: &str) -> bool {
     has_text(alloc, source, text) && has_text(alloc, text, text)
 }
 
-// A source and a text with their limits.
-fn with_limits(alloc: Global, source: &str, text: &str) -> Result<(String, String), NoMemory> {
-    let source = format!(in alloc; "{LIMITS}{source}")?;
-    let text = format!(in alloc; "{FIRST_LINE}{text}")?;
-    Ok((source, text))
+// Two texts, each made of several.
+fn concat_both(
+    alloc: Global,
+    first: &[&str],
+    second: &[&str],
+) -> Result<(String, String), NoMemory> {
+    let first = concat(alloc, first)?;
+    let second = concat(alloc, second)?;
+    Ok((first, second))
 }
 
-// The same, where these follow the limits.
-fn is_program(alloc: Global, source: &str, text: &str) -> bool {
-    match with_limits(alloc, source, text) {
+// The same for a source and a text that are made of several.
+fn are_canonical(alloc: Global, source: &[&str], text: &[&str]) -> bool {
+    match concat_both(alloc, source, text) {
         Ok((source, text)) => is_canonical(alloc, source.as_str(), text.as_str()),
         Err(NoMemory) => false,
     }
 }
 
-// A loop with an expression, and the text of one.
-fn with_loops(alloc: Global, expression: &str, text: &str) -> Result<(String, String), NoMemory> {
-    let source = format!(in alloc; "pipe_while(0){{emit {expression};}}")?;
-    let text = format!(in alloc; "pipe_while (0) {{\n  emit {text};\n}}\n")?;
-    Ok((source, text))
+// The same, where these follow the limits.
+fn is_program(alloc: Global, source: &str, text: &str) -> bool {
+    are_canonical(alloc, &[LIMITS, source], &[FIRST_LINE, text])
 }
 
 // The same for an expression and its text.
 fn is_expression(alloc: Global, expression: &str, text: &str) -> bool {
-    match with_loops(alloc, expression, text) {
-        Ok((source, text)) => is_program(alloc, source.as_str(), text.as_str()),
-        Err(NoMemory) => false,
-    }
+    are_canonical(
+        alloc,
+        &[LIMITS, "pipe_while(0){emit ", expression, ";}"],
+        &[FIRST_LINE, "pipe_while (0) {\n  emit ", text, ";\n}\n"],
+    )
 }
 
 // The first row that is no program of its text.
@@ -229,40 +233,32 @@ fn keeps_brackets(alloc: Global, with: &str, without: &str, needs: bool) -> bool
     is_expression(alloc, with, if needs { with } else { without })
 }
 
-// `a other b` between two texts, with brackets and without.
-fn bracketed(
-    alloc: Global,
-    before: &str,
-    other: &str,
-    after: &str,
-) -> Result<(String, String), NoMemory> {
-    let with = format!(in alloc; "{before}(a {other} b){after}")?;
-    let without = format!(in alloc; "{before}a {other} b{after}")?;
-    Ok((with, without))
-}
-
-// Whether the canonical text of that keeps the brackets exactly if it needs them.
-fn has_brackets(alloc: Global, before: &str, other: &str, after: &str, needs: bool) -> bool {
-    match bracketed(alloc, before, other, after) {
-        Ok((with, without)) => { keeps_brackets(alloc, with.as_str(), without.as_str(), needs) }
+// The same for an expression that is made of several texts.
+fn has_brackets(alloc: Global, with: &[&str], without: &[&str], needs: bool) -> bool {
+    match concat_both(alloc, with, without) {
+        Ok((with, without)) => keeps_brackets(alloc, with.as_str(), without.as_str(), needs),
         Err(NoMemory) => false,
     }
 }
 
-// On the left of an operator, `a other b` has brackets if its level is lower.
+// On the left of an operator, another one with its operands has brackets if its level is lower.
 fn has_left_brackets(alloc: Global, outer: (&str, u32), inner: (&str, u32)) -> bool {
-    match format!(in alloc; " {} c", outer.0) {
-        Ok(after) => has_brackets(alloc, "", inner.0, after.as_str(), inner.1 < outer.1),
-        Err(_) => false,
-    }
+    has_brackets(
+        alloc,
+        &["(a ", inner.0, " b) ", outer.0, " c"],
+        &["a ", inner.0, " b ", outer.0, " c"],
+        inner.1 < outer.1,
+    )
 }
 
 // On the right it has them if its level is lower or the same.
 fn has_right_brackets(alloc: Global, outer: (&str, u32), inner: (&str, u32)) -> bool {
-    match format!(in alloc; "c {} ", outer.0) {
-        Ok(before) => has_brackets(alloc, before.as_str(), inner.0, "", inner.1 <= outer.1),
-        Err(_) => false,
-    }
+    has_brackets(
+        alloc,
+        &["c ", outer.0, " (a ", inner.0, " b)"],
+        &["c ", outer.0, " a ", inner.0, " b"],
+        inner.1 <= outer.1,
+    )
 }
 
 // The first operator that has other brackets as an operand of `outer`.

@@ -2,6 +2,7 @@
 
 ghost use Rattle.pipe_model.specs.Language.Tokens.{IsLexed};
 
+use crate::texts::concat;
 use pipe_check::fault::CheckFault;
 use pipe_check::program::check;
 use pipe_lexer::fault::LexFault;
@@ -11,6 +12,7 @@ use pipe_model::memory::NoMemory;
 use pipe_model::token::Tokens;
 use pipe_parser::parse::{ParseFault, Parsed, parse};
 use std::alloc::Global;
+use std::fmt::Debug;
 
 /// Limits in their ranges, 49 bytes.
 pub const LIMITS: &str = "limits iterations 1, stages 1, steps 1, emits 1; ";
@@ -83,20 +85,20 @@ pub fn is_accepted(alloc: Global, source: &str) -> bool {
     first_fault(alloc, source).is_none()
 }
 
-// The fault as `Debug` prints it.
-fn printed(alloc: Global, fault: SourceFault) -> Result<String, NoMemory> {
-    Ok(match fault {
-        SourceFault::Lexical(fault) => format!(in alloc; "{fault:?}")?,
-        SourceFault::Syntactic(fault) => format!(in alloc; "{fault:?}")?,
-        SourceFault::Broken(fault) => format!(in alloc; "{fault:?}")?,
-    })
+// Whether `Debug` prints a fault of a crate like this.
+fn prints<F: Debug>(alloc: Global, fault: &F, expected: &str) -> bool {
+    match format!(in alloc; "{fault:?}") {
+        Ok(found) => found.as_str() == expected,
+        Err(_) => false,
+    }
 }
 
 // Whether a fault is printed like this.
 fn is_printed(alloc: Global, fault: SourceFault, expected: &str) -> bool {
-    match printed(alloc, fault) {
-        Ok(found) => found.as_str() == expected,
-        Err(NoMemory) => false,
+    match fault {
+        SourceFault::Lexical(fault) => prints(alloc, &fault, expected),
+        SourceFault::Syntactic(fault) => prints(alloc, &fault, expected),
+        SourceFault::Broken(fault) => prints(alloc, &fault, expected),
     }
 }
 
@@ -132,9 +134,25 @@ pub fn has_fault(alloc: Global, kind: &str, source: &str) -> bool {
     let Some((before, after)) = source.split_once('@') else {
         return false;
     };
-    match format!(in alloc; "{before}{after}") {
+    match concat(alloc, &[before, after]) {
         Ok(source) => has_fault_at(alloc, kind, source.as_bytes(), before.len()),
-        Err(_) => false,
+        Err(NoMemory) => false,
+    }
+}
+
+/// Returns whether the texts are such a source, one after the other.
+pub fn texts_have_fault(alloc: Global, kind: &str, texts: &[&str]) -> bool {
+    match concat(alloc, texts) {
+        Ok(source) => has_fault(alloc, kind, source.as_str()),
+        Err(NoMemory) => false,
+    }
+}
+
+/// Returns whether the texts, one after the other, are a program that breaks no rule.
+pub fn texts_are_accepted(alloc: Global, texts: &[&str]) -> bool {
+    match concat(alloc, texts) {
+        Ok(source) => is_accepted(alloc, source.as_str()),
+        Err(NoMemory) => false,
     }
 }
 
@@ -148,17 +166,14 @@ pub struct Faulty {
 }
 
 // Whether the source of a row has the fault.
-fn row_has_fault(alloc: Global, sources: &Faulty, row: &str) -> bool {
-    match format!(in alloc; "{}{row}{}", sources.before, sources.after) {
-        Ok(source) => has_fault(alloc, sources.kind, source.as_str()),
-        Err(_) => false,
-    }
+fn row_has_fault(alloc: Global, kind: &str, before: &str, row: &str, after: &str) -> bool {
+    texts_have_fault(alloc, kind, &[before, row, after])
 }
 
 // The first row whose source does not have the fault.
 fn first_other_row(alloc: Global, sources: &Faulty) -> Option<usize> {
     for (index, row) in sources.rows.iter().enumerate() {
-        if !row_has_fault(alloc, sources, row) {
+        if !row_has_fault(alloc, sources.kind, sources.before, row, sources.after) {
             return Some(index);
         }
     }

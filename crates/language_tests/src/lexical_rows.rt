@@ -1,6 +1,6 @@
 //! Sources with their tokens or their first lexical fault.
 
-use crate::faults_found::{Faulty, LIMITS, first_other, has_fault};
+use crate::faults_found::{Faulty, LIMITS, first_other, texts_have_fault};
 use crate::first_rows::{expect_no_pair, expect_none};
 use pipe_lexer::fault::LexFault;
 use pipe_lexer::scan::tokens;
@@ -136,10 +136,11 @@ fn are_words(alloc: Global, source: &str) -> bool {
 
 // Whether no local may have this name.
 fn is_no_name(alloc: Global, word: &str) -> bool {
-    match format!(in alloc; "{LIMITS}pipe_while (0) {{ let @{word} = 1; }}") {
-        Ok(source) => has_fault(alloc, "Unexpected", source.as_str()),
-        Err(_) => false,
-    }
+    texts_have_fault(
+        alloc,
+        "Unexpected",
+        &[LIMITS, "pipe_while (0) { let @", word, " = 1; }"],
+    )
 }
 
 // The first of some words, with blanks between them, that may be a name.
@@ -159,7 +160,7 @@ fn reserved_words_are_no_names(rt: HostRuntime) {
     expect_none(&rt, "WORDS", first_name(rt.alloc(), WORDS));
 }
 
-const LEXICAL: [Faulty; 3] = [
+static LEXICAL: [Faulty; 3] = [
     Faulty {
         kind: "BadByte",
         before: "",

@@ -24,3 +24,5 @@ mod stopped_instances;
 mod stopping_memory;
 #[cfg(test)]
 mod syntax_rows;
+#[cfg(test)]
+mod texts;

@@ -56,7 +56,7 @@ const NEEDS_INDEX: [&str; 2] = [
     "cell a[2] = 0; pipe_while (0) { @a = 1; }",
 ];
 
-const BROKEN: [Faulty; 7] = [
+static BROKEN: [Faulty; 7] = [
     Faulty {
         kind: "Unknown",
         before: LIMITS,

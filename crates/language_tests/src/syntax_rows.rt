@@ -1,7 +1,9 @@
 //! Sources with their first fault of the syntax, and sources that are programs.
 
 use crate::faults_found::SourceFault::Syntactic;
-use crate::faults_found::{Faulty, LIMITS, first_fault, first_other, has_fault, is_accepted};
+use crate::faults_found::{
+    Faulty, LIMITS, first_fault, first_other, has_fault, is_accepted, texts_are_accepted,
+};
 use crate::first_rows::{expect_no_pair, expect_none};
 use pipe_parser::parse::ParseFault;
 use std::alloc::Global;
@@ -107,7 +109,7 @@ const ACCEPTED: [&str; 20] = [
     "init { let x = 1; } pipe_while (0) { let x = 2; } final { let x = 3; }",
 ];
 
-const UNEXPECTED: [Faulty; 4] = [
+static UNEXPECTED: [Faulty; 4] = [
     Faulty {
         kind: "Unexpected",
         before: "",
@@ -145,10 +147,7 @@ fn syntax_faults_have_their_offsets(rt: HostRuntime) {
 
 // Whether the limits and the row are a program that breaks no rule.
 fn row_is_accepted(alloc: Global, row: &str) -> bool {
-    match format!(in alloc; "{LIMITS}{row}") {
-        Ok(source) => is_accepted(alloc, source.as_str()),
-        Err(_) => false,
-    }
+    texts_are_accepted(alloc, &[LIMITS, row])
 }
 
 fn first_refused(alloc: Global, rows: &[&str]) -> Option<usize> {

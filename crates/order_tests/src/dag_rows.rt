@@ -172,14 +172,22 @@ fn first_other_of(alloc: Global, columns: &Columns) -> Option<usize> {
         return Some(PRECEDES.len());
     }
     match Dag::of(alloc, columns) {
-        Ok(dag) => first_other(&dag, columns.as_slice()),
+        Ok(dag) => {
+            let other = first_other(&dag, columns.as_slice());
+            drop(dag);
+            other
+        }
         Err(NoMemory) => Some(PRECEDES.len()),
     }
 }
 
 fn first_other_drawn(alloc: Global) -> Option<usize> {
     match columns(alloc, &DRAWN) {
-        Ok(columns) => first_other_of(alloc, &columns),
+        Ok(columns) => {
+            let other = first_other_of(alloc, &columns);
+            drop(columns);
+            other
+        }
         Err(NoMemory) => Some(PRECEDES.len()),
     }
 }
@@ -287,7 +295,11 @@ fn columns_have_races(alloc: Global, columns: &Columns, accesses: &NodeAccesses)
         return false;
     }
     match Dag::of(alloc, columns) {
-        Ok(dag) => has_races(alloc, &dag, accesses),
+        Ok(dag) => {
+            let found = has_races(alloc, &dag, accesses);
+            drop(dag);
+            found
+        }
         Err(NoMemory) => false,
     }
 }

@@ -37,7 +37,11 @@ fn are_in_order(list: &OmList, elements: &[u32]) -> bool {
 
 fn is_list_of(alloc: Global, log: &[u32], elements: &[u32]) -> bool {
     match list_of(alloc, log) {
-        Ok(list) => list.len() == 9 && are_in_order(&list, elements),
+        Ok(list) => {
+            let found = list.len() == 9 && are_in_order(&list, elements);
+            drop(list);
+            found
+        }
         Err(NoMemory) => false,
     }
 }
@@ -107,7 +111,11 @@ fn first_not_halved(list: &OmList) -> Option<u32>
 // The same of 62 insertions; 62 if memory runs out.
 fn first_other_of_62(alloc: Global) -> Option<u32> {
     match inserted_after_first(alloc, 62) {
-        Ok(list) => first_not_halved(&list),
+        Ok(list) => {
+            let other = first_not_halved(&list);
+            drop(list);
+            other
+        }
         Err(NoMemory) => Some(62),
     }
 }
@@ -124,7 +132,11 @@ const NEW_LABELS: [(u32, u64); 6] = [(0, 0), (63, 1), (62, 2), (61, 4), (60, 6),
 
 fn new_labels_are_given(alloc: Global) -> bool {
     match inserted_after_first(alloc, 63) {
-        Ok(list) => has_labels(&list, &NEW_LABELS),
+        Ok(list) => {
+            let found = has_labels(&list, &NEW_LABELS);
+            drop(list);
+            found
+        }
         Err(NoMemory) => false,
     }
 }
@@ -148,7 +160,11 @@ fn is_reversed(list: &OmList) -> bool
 
 fn most_are_reversed(alloc: Global) -> bool {
     match inserted_after_first(alloc, LAST) {
-        Ok(list) => is_reversed(&list),
+        Ok(list) => {
+            let found = is_reversed(&list);
+            drop(list);
+            found
+        }
         Err(NoMemory) => false,
     }
 }

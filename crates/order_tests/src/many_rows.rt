@@ -104,7 +104,11 @@ fn first_fall(list: &OmList, pattern: Pattern) -> Option<u32> {
 
 fn first_fall_of(alloc: Global, pattern: Pattern) -> Option<u32> {
     match list_with(alloc, pattern) {
-        Ok(list) => first_fall(&list, pattern),
+        Ok(list) => {
+            let fall = first_fall(&list, pattern);
+            drop(list);
+            fall
+        }
         Err(NoMemory) => Some(MANY),
     }
 }

@@ -27,7 +27,7 @@ use std::alloc::Global;
 const SMALL: [Stages; 2] = [(&[(W, 1)], End), (&[(W, 1)], End)];
 
 // The dags: for each iteration its stages after stage 0, and its end.
-const DAGS: [&[Stages]; 9] = [
+static DAGS: [&[Stages]; 9] = [
     &SMALL,
     // The edges into stages 6 and 7 are redundant.
     &[
@@ -138,7 +138,9 @@ fn lists_agree_with(alloc: Global, log: &RunLog, dag: &Dag) -> Result<bool, NoMe
     requires dag { dag.now ≡ node_columns log.now.columns }
 {
     let replayed = replay(alloc, log)?;
-    Ok(lists_agree(dag, &replayed))
+    let agree = lists_agree(dag, &replayed);
+    drop(replayed);
+    Ok(agree)
 }
 
 // Whether the lists of a run and its dag agree about each pair of instances.
@@ -147,7 +149,9 @@ fn lists_are_dag(alloc: Global, log: &RunLog) -> Result<bool, NoMemory>
     requires bounded { length (log_starts log.now.events) ≤ MOST_STARTS }
 {
     let dag = Dag::of(alloc, &log.columns)?;
-    lists_agree_with(alloc, log, &dag)
+    let agree = lists_agree_with(alloc, log, &dag);
+    drop(dag);
+    agree
 }
 
 // The number of events of a whole run: each instance starts and ends.
@@ -175,7 +179,11 @@ fn agrees(alloc: Global, dag: &[Stages], turns: Turns) -> bool
     requires { length dag.now ≤ 16 }
 {
     match played(alloc, dag, turns) {
-        Ok(log) => is_whole(alloc, dag, &log),
+        Ok(log) => {
+            let found = is_whole(alloc, dag, &log);
+            drop(log);
+            found
+        }
         Err(NoMemory) => false,
     }
 }
@@ -248,7 +256,11 @@ fn has_elements(alloc: Global, log: &RunLog) -> bool
     requires bounded { length (log_starts log.now.events) ≤ MOST_STARTS }
 {
     match replay(alloc, log) {
-        Ok(replayed) => are_elements(&replayed, &ELEMENTS),
+        Ok(replayed) => {
+            let found = are_elements(&replayed, &ELEMENTS);
+            drop(replayed);
+            found
+        }
         Err(NoMemory) => false,
     }
 }
@@ -256,7 +268,11 @@ fn has_elements(alloc: Global, log: &RunLog) -> bool
 // The instances start head by head.
 fn small_has_elements(alloc: Global) -> bool {
     match played(alloc, &SMALL, Turns::Rightmost) {
-        Ok(log) => event_count(&log) <= 1_000 && has_elements(alloc, &log),
+        Ok(log) => {
+            let found = event_count(&log) <= 1_000 && has_elements(alloc, &log);
+            drop(log);
+            found
+        }
         Err(NoMemory) => false,
     }
 }

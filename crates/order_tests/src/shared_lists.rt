@@ -78,7 +78,10 @@ mod tests {
     fn asked_and_settled<R: Wait>(rt: &R, alloc: Global) -> Result<(bool, (bool, bool)), NoMemory> {
         let (mut orders, mut passes) = shared_orders(alloc, 8)?;
         let before = is_before_itself(rt, &mut passes);
-        Ok((before, settled(&mut orders, &passes)))
+        let settled = settled(&mut orders, &passes);
+        drop(passes);
+        drop(orders);
+        Ok((before, settled))
     }
 
     // Both lists are asked, and then deferred and settled.
@@ -97,12 +100,16 @@ mod tests {
         orders.start_first();
         orders.confirm(&mut late);
         early.meet(&mut late);
+        drop(late);
         Ok(())
     }
 
     fn met(alloc: Global) -> Result<(), NoMemory> {
         let (mut orders, mut early) = shared_orders(alloc, 8)?;
-        meet(&mut orders, &mut early)
+        let met = meet(&mut orders, &mut early);
+        drop(early);
+        drop(orders);
+        met
     }
 
     #[test]

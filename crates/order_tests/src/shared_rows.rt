@@ -139,7 +139,12 @@ mod tests {
 
     fn halves_and_moves(alloc: Global) -> bool {
         match opened(alloc, 62) {
-            Ok((mut writer, _pass)) => are_halved(&writer) && moves_labels(&mut writer),
+            Ok((mut writer, pass)) => {
+                drop(pass);
+                let found = are_halved(&writer) && moves_labels(&mut writer);
+                drop(writer);
+                found
+            }
             Err(NoMemory) => false,
         }
     }
@@ -174,8 +179,11 @@ mod tests {
             rt, writer, pass, among, inserts, asked.0, asked.1,
         );
         writer.confirm(&mut pass);
+        drop(writer);
         let is_first = pass.precedes(rt, first.0, first.1);
-        Ok((always, is_first, pass.precedes(rt, second.0, second.1)))
+        let is_second = pass.precedes(rt, second.0, second.1);
+        drop(pass);
+        Ok((always, is_first, is_second))
     }
 
     #[test]
@@ -216,7 +224,9 @@ mod tests {
             1,
         );
         writer.confirm(&mut pass);
+        drop(writer);
         let ordered = pass.precedes(rt, LAST, 1) && other.precedes(rt, 50_000, 1);
+        drop(pass);
         (first, second, ordered)
     }
 
@@ -226,7 +236,9 @@ mod tests {
     ) -> Result<(bool, bool, bool), NoMemory> {
         let (writer, mut pass) = opened(alloc, 1)?;
         let mut other = pass.split()?;
-        Ok(met_in_between(rt, writer, pass, &mut other))
+        let found = met_in_between(rt, writer, pass, &mut other);
+        drop(other);
+        Ok(found)
     }
 
     #[test]
@@ -319,7 +331,12 @@ mod tests {
         requires { length plain.now.log ≡ 400 }
     {
         match labelled_late(alloc) {
-            Ok((writer, mut pass)) => first_other(rt, &writer, &mut pass, plain),
+            Ok((writer, mut pass)) => {
+                let other = first_other(rt, &writer, &mut pass, plain);
+                drop(pass);
+                drop(writer);
+                other
+            }
             Err(NoMemory) => Some(401),
         }
     }
@@ -327,7 +344,11 @@ mod tests {
     // The same of the lists with 400 insertions; 401 if memory runs out.
     fn first_other_of_400<R: Wait>(rt: &R, alloc: Global) -> Option<u32> {
         match plain_list(alloc) {
-            Ok(plain) => first_other_late(rt, alloc, &plain),
+            Ok(plain) => {
+                let other = first_other_late(rt, alloc, &plain);
+                drop(plain);
+                other
+            }
             Err(NoMemory) => Some(401),
         }
     }
@@ -355,13 +376,17 @@ mod tests {
         writer.confirm(&mut other);
         pass.meet(&mut other);
         let before = pass.is_settled();
+        drop(other);
         writer.settle();
         Ok((before, pass.is_settled() && pass.precedes(rt, 200, 1)))
     }
 
     fn met_late<R: Wait>(rt: &R, alloc: Global) -> Result<(bool, bool), NoMemory> {
         let (mut writer, mut pass) = start(alloc, 401)?;
-        meets_late(rt, &mut writer, &mut pass)
+        let found = meets_late(rt, &mut writer, &mut pass);
+        drop(pass);
+        drop(writer);
+        found
     }
 
     #[test]

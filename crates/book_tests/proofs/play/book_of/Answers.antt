@@ -7,18 +7,18 @@ use Rattle.book_tests.specs.declared.plan.Plan.{Plan}
 use Rattle.book_tests.specs.PlanStates.{IsPlanOf, plan_tie}
 use Rattle.book_tests.proofs.PlanSteps.{plan_of_source}
 use Rattle.book_tests.proofs.ScriptBehaviours.{sources_are_planned}
-use Rattle.book_tests.proofs.play.new_book.Goals as goal
+use Rattle.book_tests.proofs.play.book_of.Goals as goal
 
 pub new-requires-clause-planned : goal.new-requires-clause-planned
-new-requires-clause-planned c = sources_are_planned c.args.source c.requires.small (tree_of c.in_ok-program.program)
-    c.in_ok-program.ensures c.new-input.result
+new-requires-clause-planned c = sources_are_planned c.args.source c.requires.small (tree_of c.args.program.now)
+    c.requires.program c.new-input.result
 
 pub new-requires-clause-whole : goal.new-requires-clause-whole
 new-requires-clause-whole c =
     let plan = c.new-plan.result in
-    let tree = tree_of c.in_ok-program.program in
+    let tree = tree_of c.args.program.now in
     let same = c.new-plan.ensures in
-    let whole = plan_of_source c.args.source c.requires.small tree c.in_ok-program.ensures plan
+    let whole = plan_of_source c.args.source c.requires.small tree c.requires.program plan
     (same.0, same.1 ∙ c.waits.ensures, same.2) in
     let orders = c.in_ok-orders.orders in
     let belongs = subst (λ d. AreSeenLists None d orders.right.identity) (sym c.in_ok-orders.ensures.identity) tt in
