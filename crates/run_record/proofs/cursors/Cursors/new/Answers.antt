@@ -1,5 +1,5 @@
-use Rattle.std.proofs.Common.{◌≡◌, ◌∙◌, ◌++◌, ◌∷◌, [], ℕ, zero, suc, List, Option, None, ap, get_or, length, map, refl, replicate, slice_index}
-use Rattle.std.proofs.Common.{subst, sym, take}
+use Rattle.std.proofs.Common.{◌≡◌, ◌∙◌, ◌++◌, ◌∷◌, [], ℕ, zero, suc, List, Option, None, ap, get_or, length, map, refl, replicate}
+use Rattle.std.proofs.Common.{slice_index, subst, sym, take}
 use Rattle.std.proofs.lemmas.List.{length-map, length-replicate, map-append, take_all, take_more}
 use Rattle.pipe_model.specs.declared.ticket.ShardEntry.{ShardEntry}
 use Rattle.run_record.specs.LogCursors.{IsFirst, shard_ticket, ticket_at}
