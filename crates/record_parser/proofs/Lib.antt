@@ -13,5 +13,6 @@ pub mod ReadBack
 pub mod ReadLines
 pub mod SignedDecimals
 pub mod SourceNames
+pub mod SplitBytes
 pub mod Tests
 pub mod TextLines

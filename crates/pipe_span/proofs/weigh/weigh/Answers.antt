@@ -54,3 +54,22 @@ returns c =
       steps =
           can.each;
     }
+
+pub run_loop-requires : goal.run_loop-requires
+run_loop-requires c =
+    let init = c.in_ok-init.ensures in
+    record {
+      code = c.requires.code;
+      made = init.made;
+      serves = init.serves;
+      state = init.state [] c.in_ok-cells.ensures.state;
+    }
+
+pub run_alone-requires-clause-code : goal.run_alone-requires-clause-code
+run_alone-requires-clause-code c = c.requires.code
+
+pub run_alone-requires-clause-made : goal.run_alone-requires-clause-made
+run_alone-requires-clause-made c = c.in_ok-machine.ensures.made
+
+pub run_alone-requires-clause-serves : goal.run_alone-requires-clause-serves
+run_alone-requires-clause-serves c = c.in_ok-cells.ensures.serves
