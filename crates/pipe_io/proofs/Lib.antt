@@ -6,3 +6,4 @@ pub mod ReadingLaws
 pub mod OneReading
 pub mod OneFault
 pub mod EachInput
+pub mod PartReads

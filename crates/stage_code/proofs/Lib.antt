@@ -1,4 +1,5 @@
 pub mod Patches
+pub mod PassedCode
 pub mod Heights
 pub mod Slots
 pub mod CellRanges

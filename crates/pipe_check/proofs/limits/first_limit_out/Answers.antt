@@ -43,3 +43,25 @@ returns c =
     limit_by c.args.limits.now true true false true false (simp to_z-of_z at c.if-not-is_between.ensures)
     (simp to_z-of_z at c.if-not-is_between-2.ensures)
     (sym bounded) (simp to_z-of_z at c.if-not-is_between-3.ensures) (sym not_many)
+
+pub returns-then-not-is_between : goal.returns-then-not-is_between
+returns-then-not-is_between c =
+    let iterations : SFits w64 c.args.limits.now.iterations = search rules in
+    limit_by c.args.limits.now false _ _ _ _ (simp to_z-of_z at c.if-not-is_between.ensures) refl refl refl refl
+
+pub returns-then-not-is_between-2 : goal.returns-then-not-is_between-2
+returns-then-not-is_between-2 c =
+    let iterations : SFits w64 c.args.limits.now.iterations = search rules in
+    let stages : SFits w64 c.args.limits.now.stages = search rules in
+    limit_by c.args.limits.now true false _ _ _ (simp to_z-of_z at c.if-not-is_between.ensures)
+    (simp to_z-of_z at c.if-not-is_between-2.ensures) refl refl refl
+
+pub returns-then-limits-gt-MOST_INSTANCES : goal.returns-then-limits-gt-MOST_INSTANCES
+returns-then-limits-gt-MOST_INSTANCES c =
+    let iterations : SFits w64 c.args.limits.now.iterations = search rules in
+    let stages : SFits w64 c.args.limits.now.stages = search rules in
+    let instances : SFits w64 (c.args.limits.now.iterations *ℤ c.args.limits.now.stages) = search rules in
+    let many : int_lt (pos 262144) (c.args.limits.now.iterations *ℤ c.args.limits.now.stages) ≡ true =
+    simp to_z-of_z at c.if-limits-gt-MOST_INSTANCES.true in
+    limit_by c.args.limits.now true true true _ _ (simp to_z-of_z at c.if-not-is_between.ensures)
+    (simp to_z-of_z at c.if-not-is_between-2.ensures) (sym many) refl refl
