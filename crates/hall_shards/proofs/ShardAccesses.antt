@@ -81,10 +81,3 @@ pub are_of : (p : SeenLists) (d r : List ℕ) → p.down ≡ d → p.right ≡ r
 are_of p [] r a b = tt
 are_of p (d ∷ ds) [] a b = tt
 are_of p (d ∷ ds) (r ∷ rs) a b = (a, b)
-
--- of two equal triples of identities, the second and the third parts are equal
-pub same_identities : (a b c d e f : List ℕ) → ◌≡◌ {A = List (List ℕ)} (a ∷ (b ∷ (c ∷ []))) (d ∷ (e ∷ (f ∷ []))) → (b ≡ e) × (c ≡ f)
-same_identities a b c d e f h = (cc, cc)
-
-pub same_name : (a d : ℕ) (b c e f : List ℕ) → ◌≡◌ {A = List (List ℕ)} ((a ∷ []) ∷ (b ∷ (c ∷ []))) ((d ∷ []) ∷ (e ∷ (f ∷ []))) → a ≡ d
-same_name a d b c e f h = cc

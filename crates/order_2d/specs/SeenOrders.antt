@@ -26,3 +26,7 @@ pub record HasSeen (p q : SeenLists) : Type 0 where
 -- what a question does not change: the borrow of the passes, by its number, and which lists they are of
 abbrev pub question_identity : ℕ → SeenLists → List (List ℕ)
 question_identity borrow p = (borrow ∷ []) ∷ (p.down ∷ (p.right ∷ []))
+
+-- the same of lists that nobody else changes: their borrow, and their logs
+abbrev pub lists_identity : ℕ → OrderPair → List (List ℕ)
+lists_identity borrow o = (borrow ∷ []) ∷ (o.down.log ∷ (o.right.log ∷ []))

@@ -3,6 +3,7 @@
 //! Two-Dimensional Dags", PPoPP 2018).
 #![tactic(auto)]
 
+pub mod late_list;
 pub mod list_writer;
 mod numbers;
 pub mod plain_orders;

@@ -12,13 +12,13 @@ ghost use Rattle.pipe_model.specs.Orders.TwoOrders.{down_first_log, right_first_
 ghost use Rattle.pipe_model.specs.Races.Columns.{IsNodeOf, node_columns};
 ghost use Rattle.pipe_model.specs.declared.node.NodeId.{NodeId as PlainNodeId};
 
+use crate::late_list::LateList;
 use crate::numbers::column_numbers;
 use crate::rows::{StartedColumn, above, left_marks, marks_of};
 use crate::starts::{MOST_STARTS, starts_of_log};
 use crate::two_orders::TwoOrders;
 use left_parent::parents::left_index;
 use left_parent::started::{StartedNode, joined_index};
-use om_list::om_list::OmList;
 use pipe_model::column::Column;
 use pipe_model::event::RunLog;
 use pipe_model::list::{ListOf, Numbers};
@@ -31,7 +31,7 @@ use std::alloc::Global;
 #[derive(Drop)]
 pub struct Replayed {
     /// The two lists.
-    pub orders: TwoOrders<OmList>,
+    pub orders: TwoOrders<LateList>,
     /// The instances, in the order in which they started.
     pub nodes: NodeIds,
     /// The marks of each instance, in the same order.
@@ -41,7 +41,7 @@ pub struct Replayed {
 }
 
 // Starts an instance with these parents; with none it is the first.
-fn start_with(orders: &mut TwoOrders<OmList>, up: Option<Marks>, left: Option<Marks>) -> Marks
+fn start_with(orders: &mut TwoOrders<LateList>, up: Option<Marks>, left: Option<Marks>) -> Marks
     requires inserted { AreInserted (length orders.old.down.log) up left }
     requires room { HasRoom orders.old }
     ensures marks { result ≡ marks_after (length orders.old.down.log) (down_taken up left) (right_taken up left) }
@@ -55,7 +55,7 @@ fn start_with(orders: &mut TwoOrders<OmList>, up: Option<Marks>, left: Option<Ma
 
 // Starts instance `m` of `starts`; the rows have those before it.
 fn start_next(
-    orders: &mut TwoOrders<OmList>,
+    orders: &mut TwoOrders<LateList>,
     columns: &[Column],
     numbers: &[Numbers],
     rows: &[StartedColumn],
@@ -111,7 +111,7 @@ fn start_all(
     columns: &[Column],
     numbers: &[Numbers],
     starts: &[NodeId],
-    orders: &mut TwoOrders<OmList>,
+    orders: &mut TwoOrders<LateList>,
 ) -> Result<(Vec<Marks>, Vec<StartedColumn>), NoMemory>
     requires run { CanReplay (node_columns columns.now) starts.now numbers.now }
     requires lists { HasLists (node_columns columns.now) starts.now 0 orders.old }
@@ -130,14 +130,14 @@ fn start_all(
 }
 
 // Two orders with room for `count` instances.
-fn empty_orders(alloc: Global, count: usize) -> Result<TwoOrders<OmList>, NoMemory>
+fn empty_orders(alloc: Global, count: usize) -> Result<TwoOrders<LateList>, NoMemory>
     requires { count ≤ MOST_STARTS }
     ensures down { IfOk result (λ o. (o.down.log ≡ []) × (2 * count < o.down.capacity)) }
     ensures right { IfOk result (λ o. (o.right.log ≡ []) × (2 * count < o.right.capacity)) }
 {
     let capacity = 2 * count as u32 + 1;
-    let down = OmList::new(alloc, capacity)?;
-    let right = OmList::new(alloc, capacity)?;
+    let down = LateList::new(alloc, capacity)?;
+    let right = LateList::new(alloc, capacity)?;
     Ok(TwoOrders::new(down, right))
 }
 

@@ -10,7 +10,7 @@ ghost use Rattle.pipe_model.specs.Races.Columns.{IsNodeOf, node_columns};
 
 use crate::plays::{Stages, Turns, played};
 use dag_build::dag::Dag;
-use om_list::om_list::OmList;
+use order_2d::late_list::LateList;
 use order_2d::replay::{Replayed, replay};
 use order_2d::two_orders::TwoOrders;
 use pipe_model::column::ColumnEnd::{Closed, End, Trapped};
@@ -19,7 +19,6 @@ use pipe_model::marks::Marks;
 use pipe_model::memory::NoMemory;
 use pipe_model::node::Kind::{Continue as C, Wait as W};
 use pipe_model::node::NodeId;
-use pipe_model::orders::Orders;
 use pipe_model::trap::Trap;
 use std::alloc::Global;
 
@@ -82,26 +81,31 @@ static DAGS: [&[Stages]; 9] = [
     ],
 ];
 
-fn are_before(orders: &TwoOrders<OmList>, a: &Marks, b: &Marks) -> bool
-    requires a_in { AreIn (list_of_log orders.now.down.log) (list_of_log orders.now.right.log) a.now }
-    requires b_in { AreIn (list_of_log orders.now.down.log) (list_of_log orders.now.right.log) b.now }
+fn are_before(orders: &mut TwoOrders<LateList>, a: &Marks, b: &Marks) -> bool
+    requires a_in { AreIn (list_of_log orders.old.down.log) (list_of_log orders.old.right.log) a.now }
+    requires b_in { AreIn (list_of_log orders.old.down.log) (list_of_log orders.old.right.log) b.now }
+    ensures unchanged { orders.new ≡ orders.old }
 {
-    let mut down = orders.view();
-    let mut right = orders.view();
-    down.down_before(a, b) && right.right_before(a, b)
+    orders.is_down_before(a.down_first, b.down_first)
+        && orders.is_right_before(a.right_first, b.right_first)
 }
 
 // Whether instance `m` is before each of the instances in both lists exactly if it precedes it.
-fn precedes_as_in_lists(dag: &Dag, replayed: &Replayed, m: usize) -> bool
-    requires index { m < length replayed.now.nodes }
-    requires marks { length replayed.now.marks.items ≡ length replayed.now.nodes }
-    requires instances { All (IsNodeOf dag.now) replayed.now.nodes }
-    requires placed { All (AreIn (list_of_log replayed.now.orders.down.log) (list_of_log replayed.now.orders.right.log))
-        replayed.now.marks.items }
+fn precedes_as_in_lists(
+    dag: &Dag,
+    orders: &mut TwoOrders<LateList>,
+    nodes: &[NodeId],
+    marks: &[Marks],
+    m: usize,
+) -> bool
+    requires index { m < length nodes.now }
+    requires marks { length marks.now ≡ length nodes.now }
+    requires instances { All (IsNodeOf dag.now) nodes.now }
+    requires placed { All (AreIn (list_of_log orders.old.down.log) (list_of_log orders.old.right.log)) marks.now }
+    ensures unchanged { orders.new ≡ orders.old }
 {
-    let nodes = replayed.nodes.as_slice();
     for n in 0..nodes.len() {
-        let before = are_before(&replayed.orders, &replayed.marks[m], &replayed.marks[n]);
+        let before = are_before(orders, &marks[m], &marks[n]);
         if before != dag.precedes(nodes[m], nodes[n]) {
             return false;
         }
@@ -117,14 +121,18 @@ fn event_count(log: &RunLog) -> usize
 }
 
 // Whether the lists and the dag agree about each pair of instances.
-fn lists_agree(dag: &Dag, replayed: &Replayed) -> bool
-    requires marks { length replayed.now.marks.items ≡ length replayed.now.nodes }
-    requires instances { All (IsNodeOf dag.now) replayed.now.nodes }
-    requires placed { All (AreIn (list_of_log replayed.now.orders.down.log) (list_of_log replayed.now.orders.right.log))
-        replayed.now.marks.items }
+fn lists_agree(
+    dag: &Dag,
+    orders: &mut TwoOrders<LateList>,
+    nodes: &[NodeId],
+    marks: &[Marks],
+) -> bool
+    requires marks { length marks.now ≡ length nodes.now }
+    requires instances { All (IsNodeOf dag.now) nodes.now }
+    requires placed { All (AreIn (list_of_log orders.old.down.log) (list_of_log orders.old.right.log)) marks.now }
 {
-    for m in 0..replayed.nodes.len() {
-        if !precedes_as_in_lists(dag, replayed, m) {
+    for m in 0..nodes.len() {
+        if !precedes_as_in_lists(dag, orders, nodes, marks, m) {
             return false;
         }
     }
@@ -138,9 +146,14 @@ fn lists_agree_with(alloc: Global, log: &RunLog, dag: &Dag) -> Result<bool, NoMe
     requires dag { dag.now ≡ node_columns log.now.columns }
 {
     let replayed = replay(alloc, log)?;
-    let agree = lists_agree(dag, &replayed);
-    drop(replayed);
-    Ok(agree)
+    let Replayed {
+        mut orders,
+        nodes,
+        marks,
+        rows,
+    } = replayed;
+    drop(rows);
+    Ok(lists_agree(dag, &mut orders, nodes.as_slice(), marks.as_slice()))
 }
 
 // Whether the lists of a run and its dag agree about each pair of instances.

@@ -1,10 +1,11 @@
 -- What a replay gives of a run: its lists, and the marks of its instances.
 use Rattle.std.proofs.Common.{◌≡◌, ◌∙◌, ◌↔◌, ◌<◌, ◌==◌, ◌&&◌, ℕ, suc, Bool, true, false, All, List, [], ◌∷◌, get_or, if◌then◌else◌, refl}
-use Rattle.std.proofs.Common.{length, ap, sym, subst, arith}
+use Rattle.std.proofs.Common.{length, ap, ap₂, sym, subst, arith}
 use Rattle.std.proofs.lemmas.Bool.Decides.{nat_tests}
 use Rattle.std.proofs.lemmas.List.{get_or-map, length-map}
 use Rattle.order_2d.specs.declared.replay.Replayed.{Replayed}
 use Rattle.order_2d.specs.LogStarts.{IsOwnLog, log_columns, log_starts}
+use Rattle.order_2d.specs.OrderPairs.{OrderLogs}
 use Rattle.order_2d.specs.ReplayedOrders.{marks_of_starts}
 use Rattle.order_2d.specs.StartedNodes.{HasStarted}
 use Rattle.pipe_model.specs.declared.event.RunLog.{RunLog}
@@ -18,7 +19,7 @@ use Rattle.order_2d.proofs.OwnLogs.{own_starts}
 use Rattle.pipe_model.specs.Orders.Starts.{AreStarts, IsStarted, start_at, start_number}
 use Rattle.pipe_model.specs.Orders.TwoOrders.{down_first_log, right_first_log}
 use Rattle.pipe_model.specs.Races.Columns.{IsNodeOf, at, node_columns}
-use Rattle.race_detection.specs.NotedRuns.{IsReplayOf}
+use Rattle.race_detection.specs.NotedRuns.{AreListsOf, IsReplayOf}
 
 -- the start with the number of an instance is that instance
 start_by : (y : NodeId) (ys : List NodeId) (x : NodeId) (b : Bool) → ((y.iteration == x.iteration) && (y.index == x.index)) ≡ b
@@ -56,24 +57,34 @@ placed_instance columns starts marks down right same all x started =
     subst (λ (y : NodeId). AreIn down right (instance_marks columns starts y.iteration y.index)) found
     (subst (AreIn down right) (marks_at_start columns starts starts m d started) here)
 
-pub is_replay : (log : RunLog) (r : Replayed) → IsOwnLog log → r.nodes ≡ log_starts log.events
-    → r.orders.down.log ≡ down_first_log (log_starts log.events)
-    → r.orders.right.log ≡ right_first_log (log_columns log.events) (log_starts log.events)
-    → r.marks.items ≡ marks_of_starts (log_columns log.events) (log_starts log.events) (log_starts log.events)
-    → HasStarted (log_columns log.events) (log_starts log.events) (length (log_starts log.events)) r.rows.items
-    → All (AreIn (list_of_log r.orders.down.log) (list_of_log r.orders.right.log)) r.marks.items
-    → ((x : NodeId) → IsStarted r.nodes x ↔ IsNodeOf (log_columns log.events) x)
-    → IsReplayOf (node_columns log.columns) r
-is_replay log r own nodes down right marks rows placed instances =
-    let columns = log_columns log.events in
-    let made : IsReplayOf columns r = record {
-      down = down ∙ ap down_first_log (sym nodes);
-      right = right ∙ ap (right_first_log columns) (sym nodes);
-      started = λ x inside. (instances x).1 inside;
-      columns_ok = (own_starts log.events own.control).columns;
-      starts_ok = subst (AreStarts columns) (sym nodes) (own_starts log.events own.control).ordered;
-      rows = subst (λ ss. HasStarted columns ss (length ss) r.rows.items) (sym nodes) rows;
-      placed = λ x inside. placed_instance columns r.nodes r.marks.items _ _
-          (subst (λ ss. r.marks.items ≡ marks_of_starts columns ss ss) (sym nodes) marks) placed x ((instances x).1 inside);
-    } in
-    subst (λ cs. IsReplayOf cs r) (sym own.columns) made
+module _ (log : RunLog) (r : Replayed) (own : IsOwnLog log) (nodes : r.nodes ≡ log_starts log.events)
+    (down : r.orders.down.log ≡ down_first_log (log_starts log.events))
+    (right : r.orders.right.log ≡ right_first_log (log_columns log.events) (log_starts log.events)) where
+  own_lists : AreListsOf (log_columns log.events) r.nodes r.orders
+  own_lists = record {
+    down = down ∙ ap down_first_log (sym nodes);
+    right = right ∙ ap (right_first_log (log_columns log.events)) (sym nodes);
+  }
+
+  pub are_lists : AreListsOf (node_columns log.columns) r.nodes r.orders
+  are_lists = subst (λ cs. AreListsOf cs r.nodes r.orders) (sym own.columns) own_lists
+
+  pub is_replay : r.marks.items ≡ marks_of_starts (log_columns log.events) (log_starts log.events) (log_starts log.events)
+      → HasStarted (log_columns log.events) (log_starts log.events) (length (log_starts log.events)) r.rows.items
+      → All (AreIn (list_of_log r.orders.down.log) (list_of_log r.orders.right.log)) r.marks.items
+      → ((x : NodeId) → IsStarted r.nodes x ↔ IsNodeOf (log_columns log.events) x)
+      → IsReplayOf (node_columns log.columns) r.nodes r.rows.items
+  is_replay marks rows placed instances =
+      let columns = log_columns log.events in
+      let made : IsReplayOf columns r.nodes r.rows.items = record {
+        started = λ x inside. (instances x).1 inside;
+        columns_ok = (own_starts log.events own.control).columns;
+        starts_ok = subst (AreStarts columns) (sym nodes) (own_starts log.events own.control).ordered;
+        by_columns = subst (λ ss. HasStarted columns ss (length ss) r.rows.items) (sym nodes) rows;
+        placed = λ x inside. subst (λ (o : OrderLogs). AreIn (list_of_log o.down) (list_of_log o.right)
+            (instance_marks columns r.nodes x.iteration x.index))
+            (ap₂ (λ d e. record { down = d; right = e }) own_lists.down own_lists.right)
+            (placed_instance columns r.nodes r.marks.items _ _
+            (subst (λ ss. r.marks.items ≡ marks_of_starts columns ss ss) (sym nodes) marks) placed x ((instances x).1 inside));
+      } in
+      subst (λ cs. IsReplayOf cs r.nodes r.rows.items) (sym own.columns) made

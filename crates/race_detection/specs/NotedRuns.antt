@@ -4,7 +4,8 @@ use Rattle.access_history.specs.declared.history.Found.{Found}
 use Rattle.access_history.specs.declared.history.History.{History}
 use Rattle.access_history.specs.declared.history.MarkedNode.{MarkedNode}
 use Rattle.access_history.specs.KeptInstances.{AllKept, IsHistoryAfter, nothing_kept}
-use Rattle.order_2d.specs.declared.replay.Replayed.{Replayed}
+use Rattle.left_parent.specs.declared.started.StartedNode.{StartedNode}
+use Rattle.order_2d.specs.OrderPairs.{OrderPair}
 use Rattle.order_2d.specs.StartedNodes.{HasStarted}
 use Rattle.pipe_model.specs.declared.access.CellId.{CellId}
 use Rattle.pipe_model.specs.declared.access.NodeAccess.{NodeAccess}
@@ -19,16 +20,20 @@ use Rattle.pipe_model.specs.Races.CellRaces.{NotedAccess, accesses_to}
 use Rattle.pipe_model.specs.Races.Columns.{AreColumns, IsNodeOf}
 use Rattle.race_report.specs.RaceReports.{IsFoundIn}
 
--- the lists and the marks belong to a run with these columns
-pub record IsReplayOf (columns : List (List Node)) (r : Replayed) : Type 0 where
-  pub down : r.orders.down.log ≡ down_first_log r.nodes
-  pub right : r.orders.right.log ≡ right_first_log columns r.nodes
-  pub started : (x : NodeId) → IsNodeOf columns x → IsStarted r.nodes x
+-- the instances of a run with these columns, in the order in which they started, and the rows of those of each column
+pub record IsReplayOf (columns : List (List Node)) (starts : List NodeId) (rows : List (List StartedNode)) : Type 0 where
+  pub started : (x : NodeId) → IsNodeOf columns x → IsStarted starts x
   pub columns_ok : AreColumns columns
-  pub starts_ok : AreStarts columns r.nodes
-  pub rows : HasStarted columns r.nodes (length r.nodes) r.rows.items
+  pub starts_ok : AreStarts columns starts
+  pub by_columns : HasStarted columns starts (length starts) rows
   pub placed : (x : NodeId) → IsNodeOf columns x
-      → AreIn (list_of_log r.orders.down.log) (list_of_log r.orders.right.log) (instance_marks columns r.nodes x.iteration x.index)
+      → AreIn (list_of_log (down_first_log starts)) (list_of_log (right_first_log columns starts))
+      (instance_marks columns starts x.iteration x.index)
+
+-- the lists are those of these starts
+pub record AreListsOf (columns : List (List Node)) (starts : List NodeId) (o : OrderPair) : Type 0 where
+  pub down : o.down.log ≡ down_first_log starts
+  pub right : o.right.log ≡ right_first_log columns starts
 
 -- an instance of the columns, with its own marks
 pub record IsMarked (columns : List (List Node)) (starts : List NodeId) (w : MarkedNode) : Type 0 where

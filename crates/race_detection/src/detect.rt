@@ -7,12 +7,14 @@ ghost use Rattle.pipe_model.specs.Races.Columns.{IsNodeOf, node_columns};
 ghost use Rattle.pipe_model.specs.declared.access.NodeAccess.{NodeAccess as PlainAccess};
 ghost use Rattle.race_detection.specs.FoundReports.{found_reports};
 ghost use Rattle.race_detection.specs.LogAccesses.{access_by, log_accesses};
-ghost use Rattle.race_detection.specs.NotedRuns.{HaveNoted, IsReplayOf, found_below, nothing_noted};
+ghost use Rattle.race_detection.specs.NotedRuns.{AreListsOf, HaveNoted, IsReplayOf, found_below, nothing_noted};
 
 use crate::logged_accesses::{cell_bound, count_start, last_instance};
 use crate::started_run::{StartedRun, note};
 use access_history::history::{Found, History};
-use order_2d::replay::replay;
+use order_2d::late_list::LateList;
+use order_2d::replay::{Replayed, replay};
+use order_2d::two_orders::TwoOrders;
 use pipe_model::access::{CellId, NodeAccess};
 use pipe_model::event::{Event, RunLog};
 use pipe_model::memory::NoMemory;
@@ -32,34 +34,49 @@ fn empty_histories(alloc: Global, cells: usize) -> Result<Vec<History>, NoMemory
 }
 
 // Notes an access in the history of its cell.
-fn note_access(run: &StartedRun<'_>, access: NodeAccess, histories: &mut Vec<History>)
-    requires run { IsReplayOf (node_columns run.now.columns.now) run.now.replayed }
+fn note_access(
+    run: &StartedRun<'_>,
+    orders: &mut TwoOrders<LateList>,
+    access: NodeAccess,
+    histories: &mut Vec<History>,
+)
+    requires run { IsReplayOf (node_columns run.now.columns.now) run.now.nodes run.now.rows.items }
+    requires lists { AreListsOf (node_columns run.now.columns.now) run.now.nodes orders.old }
     requires inside { IsNodeOf (node_columns run.now.columns.now) access.node }
     requires cell { access.access.cell.0 < length histories.old.items }
-    requires noted { (before : List PlainAccess) × HaveNoted (node_columns run.now.columns.now) run.now.replayed.nodes before
+    requires noted { (before : List PlainAccess) × HaveNoted (node_columns run.now.columns.now) run.now.nodes before
         histories.old.items }
-    ensures noted { (before : List PlainAccess) → HaveNoted (node_columns run.now.columns.now) run.now.replayed.nodes before
+    ensures noted { (before : List PlainAccess) → HaveNoted (node_columns run.now.columns.now) run.now.nodes before
         histories.old.items
-        → HaveNoted (node_columns run.now.columns.now) run.now.replayed.nodes (before ++ access ∷ []) histories.new.items }
+        → HaveNoted (node_columns run.now.columns.now) run.now.nodes (before ++ access ∷ []) histories.new.items }
     ensures count { length histories.new.items ≡ length histories.old.items }
+    ensures lists { AreListsOf (node_columns run.now.columns.now) run.now.nodes orders.new }
 {
     let history = &mut histories[access.access.cell.0 as usize];
-    note(run, history, access);
+    note(run, orders, history, access);
 }
 
 // Notes the access of an event, if it is one; `counts` has the number of instances that each
 // iteration has started before it.
-fn note_event(run: &StartedRun<'_>, event: &Event, counts: &[u32], histories: &mut Vec<History>)
-    requires run { IsReplayOf (node_columns run.now.columns.now) run.now.replayed }
+fn note_event(
+    run: &StartedRun<'_>,
+    orders: &mut TwoOrders<LateList>,
+    event: &Event,
+    counts: &[u32],
+    histories: &mut Vec<History>,
+)
+    requires run { IsReplayOf (node_columns run.now.columns.now) run.now.nodes run.now.rows.items }
+    requires lists { AreListsOf (node_columns run.now.columns.now) run.now.nodes orders.old }
     requires inside { All (λ (a : PlainAccess). IsNodeOf (node_columns run.now.columns.now) a.node) (access_by counts.now event.now) }
     requires cells { All (λ (a : PlainAccess). a.access.cell.0 < length histories.old.items) (access_by counts.now event.now) }
-    requires noted { (before : List PlainAccess) × HaveNoted (node_columns run.now.columns.now) run.now.replayed.nodes before
+    requires noted { (before : List PlainAccess) × HaveNoted (node_columns run.now.columns.now) run.now.nodes before
         histories.old.items }
-    ensures noted { (before : List PlainAccess) → HaveNoted (node_columns run.now.columns.now) run.now.replayed.nodes before
+    ensures noted { (before : List PlainAccess) → HaveNoted (node_columns run.now.columns.now) run.now.nodes before
         histories.old.items
-        → HaveNoted (node_columns run.now.columns.now) run.now.replayed.nodes (before ++ access_by counts.now event.now)
+        → HaveNoted (node_columns run.now.columns.now) run.now.nodes (before ++ access_by counts.now event.now)
         histories.new.items }
     ensures count { length histories.new.items ≡ length histories.old.items }
+    ensures lists { AreListsOf (node_columns run.now.columns.now) run.now.nodes orders.new }
 {
     match event {
         Event::Access(iteration, access) => {
@@ -67,7 +84,7 @@ fn note_event(run: &StartedRun<'_>, event: &Event, counts: &[u32], histories: &m
                 node: last_instance(*iteration, counts),
                 access: *access,
             };
-            note_access(run, made, histories);
+            note_access(run, orders, made, histories);
         }
         Event::Begin(_)
         | Event::Advance(_, _, _)
@@ -82,22 +99,24 @@ fn note_event(run: &StartedRun<'_>, event: &Event, counts: &[u32], histories: &m
 fn note_all(
     alloc: Global,
     run: &StartedRun<'_>,
+    orders: &mut TwoOrders<LateList>,
     events: &[Event],
     histories: &mut Vec<History>,
 ) -> Result<(), NoMemory>
-    requires run { IsReplayOf (node_columns run.now.columns.now) run.now.replayed }
+    requires run { IsReplayOf (node_columns run.now.columns.now) run.now.nodes run.now.rows.items }
+    requires lists { AreListsOf (node_columns run.now.columns.now) run.now.nodes orders.old }
     requires control { IsControlLog events.now }
     requires bounded { length (log_starts events.now) ≤ MOST_STARTS }
     requires inside { All (λ (a : PlainAccess). IsNodeOf (node_columns run.now.columns.now) a.node) (log_accesses events.now) }
     requires cells { All (λ (a : PlainAccess). a.access.cell.0 < length histories.old.items) (log_accesses events.now) }
-    requires empty { HaveNoted (node_columns run.now.columns.now) run.now.replayed.nodes [] histories.old.items }
-    ensures noted { OnOk result (HaveNoted (node_columns run.now.columns.now) run.now.replayed.nodes (log_accesses events.now)
+    requires empty { HaveNoted (node_columns run.now.columns.now) run.now.nodes [] histories.old.items }
+    ensures noted { OnOk result (HaveNoted (node_columns run.now.columns.now) run.now.nodes (log_accesses events.now)
         histories.new.items) }
     ensures count { OnOk result (length histories.new.items ≡ length histories.old.items) }
 {
     let mut counts = Vec::with_capacity(alloc, run.columns.len())?;
     for event in events {
-        note_event(run, event, &counts, histories);
+        note_event(run, orders, event, &counts, histories);
         count_start(event, &mut counts)?;
     }
     Ok(())
@@ -129,13 +148,22 @@ pub fn detect(alloc: Global, run_log: &RunLog) -> Result<Reports, NoMemory>
     ensures { IfOk result (λ reports. reports ≡ found_reports (log_columns run_log.now.events)
         (log_starts run_log.now.events) (log_accesses run_log.now.events)) }
 {
+    let replayed = replay(alloc, run_log)?;
+    let Replayed {
+        mut orders,
+        nodes,
+        marks,
+        rows,
+    } = replayed;
+    drop(marks);
     let run = StartedRun {
         columns: &run_log.columns,
-        replayed: replay(alloc, run_log)?,
+        nodes,
+        rows,
     };
     let events = run_log.events.as_slice();
     let mut histories = empty_histories(alloc, cell_bound(events))?;
-    note_all(alloc, &run, events, &mut histories)?;
+    note_all(alloc, &run, &mut orders, events, &mut histories)?;
     let found = found_races(alloc, histories.as_slice())?;
     gather(alloc, found.as_slice(), run.columns)
 }

@@ -1,6 +1,6 @@
 use Rattle.std.proofs.Common.{ap, sym, ◌∙◌}
 use Rattle.pipe_frame.specs.Ties.{SeenLists}
-use Rattle.hall_shards.proofs.ShardAccesses.{same_identities, same_name}
+use Rattle.order_2d.proofs.QuestionIdentities.{same_identities, same_name}
 use Rattle.hall_shards.proofs.shard.note_at.Goals as goal
 
 pub returns-clause-identities : goal.returns-clause-identities

@@ -67,7 +67,8 @@ loop-event-preserved c =
     let made = made_next events s.event-index c.deref.result.now c.requires.control c.loop-event-test.true
     (c.deref.ensures.value ∙ s.invariant.counts) in
     record {
-      noted = subst (λ l. HaveNoted (node_columns c.args.run.now.columns.now) c.args.run.now.replayed.nodes l
+      lists = c.note_event.ensures.lists;
+      noted = subst (λ l. HaveNoted (node_columns c.args.run.now.columns.now) c.args.run.now.nodes l
           c.note_event.new.histories.items) (sym made.more)
           (c.note_event.ensures.noted (log_accesses (take s.event-index events)) s.invariant.noted);
       count = c.note_event.ensures.count ∙ s.invariant.count;
