@@ -54,7 +54,7 @@ pub enum Seen {
     Finished,
     Done,
     Count(u64),
-    /// The token is not out, or its instance ends otherwise.
+    /// The token is not out, or its instance ends otherwise, or memory ran out.
     Refused,
 }
 
@@ -212,7 +212,9 @@ impl Play {
         requires { AreHeld self.old.book self.old.tokens.items }
         ensures { AreHeld self.new.book self.new.tokens.items }
     {
-        let begun = self.book.begin();
+        let Ok(begun) = self.book.begin() else {
+            return Seen::Refused;
+        };
         self.ticket = last_ticket(&self.book);
         match begun {
             Begun::Started(token) => self.hold(token),

@@ -1,4 +1,5 @@
 pub mod BookLogs
+pub mod BegunIterations
 pub mod Iterations
 pub mod StartedInstances
 pub mod Actions

@@ -1,7 +1,7 @@
 //! The book, and its calls.
 
 ghost use Rattle.std.specs.Prelude.{◌≡◌, ◌≢◌, ◌↔◌, ◌+◌, ◌-◌, ◌*◌, ◌<◌, ◌≤◌, ◌^◌, [], ◌∷◌, ◌++◌, true, false, IsTrue, None, cond, ◌||◌};
-ghost use Rattle.std.specs.Prelude.{length, All, IfOk, IfSome, ℕ};
+ghost use Rattle.std.specs.Prelude.{length, All, IfErr, IfOk, IfSome, ℕ};
 ghost use Rattle.pipe_model.specs.Runs.Allowed.{IsRunning, MayBegin, MayEnter};
 ghost use Rattle.pipe_model.specs.Runs.Run.{IsFinished};
 ghost use Rattle.pipe_model.specs.Pipelines.Behaviour.{Performs, Staged, Ended, closes_at_once};
@@ -30,6 +30,7 @@ ghost use Rattle.schedule_laws.specs.StartCounts.{most_instances};
 ghost use Rattle.frame_book.specs.CallEffects.{identities_of_orders, after_stop, after_begin, with_named, with_finished, with_held};
 ghost use Rattle.frame_book.specs.CallEffects.{with_entered, after_enter, after_advance, folded_after, after_name_next, after_rescue};
 ghost use Rattle.frame_book.specs.CallEffects.{with_resumed, after_leave_ready, IsReady, kept_folded};
+ghost use Rattle.frame_rows.specs.IterationRows.{empty_row};
 ghost use Rattle.frame_rows.specs.NamedStages.{stage_end};
 ghost use Rattle.frame_book.specs.GivenTokens.{IsGivenBeside, IsGivenBy, IsOutOf, IsPayloadOf};
 
@@ -42,6 +43,7 @@ use frame_rows::course::{Course, course_after};
 use frame_rows::folding::{count_of, fold_left, lets_enter, needs_left};
 use frame_rows::row::Iteration;
 use frame_rows::rows::{drop_ended, first_to_go_on, last_has_ended_first, may_enter};
+use frame_rows::spare::SpareRows;
 use om_shared::writer::OmWriter;
 use order_2d::list_writer::ListWriter;
 use order_2d::two_orders::TwoOrders;
@@ -72,19 +74,23 @@ use throttle::pool::Pool;
 /// is that of the event that the call made; one that was left ready comes back with all its fields.
 #[derive(Drop)]
 pub struct Book<M: Payload<L>, L: ListWriter + Drop> {
-    program: Program,
-    input: Numbers,
-    throttle: u32,
+    // What each call changes comes first, close together: with several threads each of its cache lines
+    // comes from the thread that called before.
+    ledger: Tickets,
     rows: Vec<Iteration<M>>,
-    spare: Vec<Iteration<M>>,
+    reads: u64,
+    closed: bool,
+    stopped: bool,
+    orders: TwoOrders<L>,
     // In order. Some may have ended; `rescue` drops those.
     alive: Vec<u32>,
     pool: Pool<M>,
-    orders: TwoOrders<L>,
-    ledger: Tickets,
-    closed: bool,
-    stopped: bool,
-    reads: u64,
+    // The rows of the iterations that have not begun.
+    spare: SpareRows,
+    throttle: u32,
+    program: Program,
+    input: Numbers,
+    alloc: Global,
 }
 
 impl<M: Payload<L>, L: ListWriter + Drop> Model for Book<M, L> {
@@ -101,11 +107,12 @@ impl<M: Payload<L>, L: ListWriter + Drop> Model for Book<M, L> {
     ghost use Rattle.frame_book.specs.BookTables.{tables_of};
     ghost use Rattle.frame_book.specs.Invariant.{IsBook};
     ghost use Rattle.frame_rows.specs.AliveLists.{HasAliveList};
+    ghost use Rattle.frame_rows.specs.SpareRows.{spare_rows};
     ghost use Rattle.std.specs.Prelude.{vec_capacity};
 
     ghost view = { λ b. book_state (tables_of b) };
 
-    ghost invariant = { λ b. IsBook M.whole M.ready_at M.tie (tables_of b) × HasAliveList b.rows.items b.spare.items b.alive.items
+    ghost invariant = { λ b. IsBook M.whole M.ready_at M.tie (tables_of b) × HasAliveList b.rows.items (spare_rows b.spare) b.alive.items
         (vec_capacity b.alive) };
 }
 
@@ -163,6 +170,7 @@ impl<M: Payload<L>, L: ListWriter + Drop> Book<M, L> {
     {
         match rooms_for(alloc, program.limits) {
             Ok(rooms) => Ok(Book {
+                alloc,
                 program,
                 input,
                 throttle,
@@ -262,39 +270,62 @@ impl<M: Payload<L>, L: ListWriter + Drop> Book<M, L> {
         }
     }
 
+    /// Returns for how many instances a row that `begin_with` takes should have room.
+    pub fn row_room(&self) -> usize {
+        self.spare.room()
+    }
+
+    /// Begins the next iteration as `begin_with` does, with a row that it makes.
+    pub fn begin(&mut self) -> Result<Begun<M>, NoMemory>
+        ensures returned { IfOk result (λ begun. BeginReturns self.old.limit (state_of self.old) begun) }
+        ensures book { IfOk result (λ begun. self.new ≡ after_begin self.old begun) }
+        ensures token { IfOk result (λ begun. IfStarted begun (IsGivenBy M.ready_at M.tie self.new)) }
+        ensures now { IfOk result (λ begun. IfStarted begun (λ t. t.now ≡ last_ticket self.new.log)) }
+        ensures folded { IfOk result (λ begun. IfStarted begun (λ t. t.folded ≡ None)) }
+        ensures unchanged { IfErr result (λ _. self.new ≡ self.old) }
+    {
+        let row = Iteration::new(self.alloc, self.row_room())?;
+        self.begin_with(row)
+    }
+
     /// Begins the next iteration: the event `Begin` and the token of its instance 0. Otherwise returns
     /// the first that holds: the run was stopped; the loop is closed; instance 0 of the last iteration
-    /// has not ended; as many iterations are alive as the throttling limit allows.
-    pub fn begin(&mut self) -> Begun<M>
-        ensures returned { BeginReturns self.old.limit (state_of self.old) result }
-        ensures book { self.new ≡ after_begin self.old result }
-        ensures token { IfStarted result (IsGivenBy M.ready_at M.tie self.new) }
-        ensures now { IfStarted result (λ t. t.now ≡ last_ticket self.new.log) }
-        ensures folded { IfStarted result (λ t. t.folded ≡ None) }
+    /// has not ended; as many iterations are alive as the throttling limit allows. The empty row
+    /// becomes that of the iteration; if it has too little room, one is allocated. Returns an error only
+    /// if memory runs out; then nothing has changed.
+    pub fn begin_with(&mut self, row: Iteration<M>) -> Result<Begun<M>, NoMemory>
+        requires { row ≡ empty_row row.room }
+        ensures returned { IfOk result (λ begun. BeginReturns self.old.limit (state_of self.old) begun) }
+        ensures book { IfOk result (λ begun. self.new ≡ after_begin self.old begun) }
+        ensures token { IfOk result (λ begun. IfStarted begun (IsGivenBy M.ready_at M.tie self.new)) }
+        ensures now { IfOk result (λ begun. IfStarted begun (λ t. t.now ≡ last_ticket self.new.log)) }
+        ensures folded { IfOk result (λ begun. IfStarted begun (λ t. t.folded ≡ None)) }
+        ensures unchanged { IfErr result (λ _. self.new ≡ self.old) }
     {
         if self.stopped {
-            return Begun::Stopped;
+            return Ok(Begun::Stopped);
         }
         if self.closed {
-            return Begun::Closed;
+            return Ok(Begun::Closed);
         }
         if !last_has_ended_first(self.rows.as_slice()) {
-            return Begun::NotYet;
+            return Ok(Begun::NotYet);
         }
         let Some(mut payload) = self.pool.take() else {
-            return Begun::Throttled;
+            return Ok(Begun::Throttled);
+        };
+        let Ok(mut row) = self.spare.take(self.alloc, row) else {
+            self.pool.give(payload);
+            return Err(NoMemory);
         };
         let iteration = self.rows.len() as u32;
         payload.begin(iteration);
         let marks = start_head(self.rows.as_slice(), &mut self.orders, &mut payload);
         let now = self.ledger.stamp(0, Event::Begin(iteration));
-        let Some(mut row) = self.spare.pop() else {
-            unreachable!()
-        };
         row.enter(0, marks);
         self.rows.push_reserved(row);
         self.alive.push_reserved(iteration);
-        Begun::Started(FrameToken {
+        Ok(Begun::Started(FrameToken {
             iteration,
             index: 0,
             now,
@@ -302,7 +333,7 @@ impl<M: Payload<L>, L: ListWriter + Drop> Book<M, L> {
             folded: Folded::new(),
             marks,
             payload,
-        })
+        }))
     }
 
     // The event `Advance` of the token's instance; keeps the token.

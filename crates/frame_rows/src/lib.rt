@@ -6,3 +6,4 @@ pub mod course;
 pub mod folding;
 pub mod row;
 pub mod rows;
+pub mod spare;

@@ -17,12 +17,13 @@ use std::marker::Model;
 /// The row of an iteration, with room for a number of instances.
 #[derive(Drop)]
 pub struct Iteration<M> {
+    // The right neighbour reads these two.
+    status: Status,
     numbers: Vec<i64>,
     marks: Vec<Marks>,
     traces: Vec<Trace>,
-    status: Status,
-    token: Option<FrameToken<M>>,
     room: usize,
+    token: Option<FrameToken<M>>,
 }
 
 impl<M> Model for Iteration<M> {
@@ -56,6 +57,21 @@ impl<M> Iteration<M> {
             token: None,
             room,
         })
+    }
+
+    /// Returns for how many instances there is room.
+    pub fn room(&self) -> usize
+        ensures { result ≡ self.now.room }
+    {
+        self.room
+    }
+
+    /// Leaves room for only this many instances.
+    pub fn limit(&mut self, room: usize)
+        requires { room ≤ self.old.room }
+        ensures { self.new ≡ record self.old { room = room } }
+    {
+        self.room = room;
     }
 
     /// Adds an instance, which runs.

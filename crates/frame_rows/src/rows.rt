@@ -12,25 +12,6 @@ use crate::row::Iteration;
 use pipe_model::node::Kind;
 use pipe_model::stage::Counter;
 use pipe_model::status::Status;
-use std::alloc::{AllocError, Global};
-
-/// Returns rows of iterations that have not begun: one with room for one instance, and above it
-/// `iterations` with room for `stages`. Returns an error only if memory runs out.
-pub fn new_rows<M: Drop>(
-    alloc: Global,
-    iterations: usize,
-    stages: usize,
-) -> Result<Vec<Iteration<M>>, AllocError>
-    requires { iterations < 2 ^ 63 }
-    ensures { IfOk result (λ rows. rows.items ≡ empty_row 1 ∷ replicate iterations (empty_row stages)) }
-{
-    let mut rows = Vec::with_capacity(alloc, iterations + 1)?;
-    rows.push_reserved(Iteration::new(alloc, 1)?);
-    for _ in 0..iterations {
-        rows.push_reserved(Iteration::new(alloc, stages)?);
-    }
-    Ok(rows)
-}
 
 /// Returns the stage counter of the left neighbour, if there is one.
 pub fn left_counter<M>(rows: &[Iteration<M>], iteration: u32) -> Option<Counter>

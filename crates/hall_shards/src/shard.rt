@@ -35,12 +35,13 @@ const LAST_TICKET: u64 = 4611686018427387904;
 /// its parts, and the order lists as far as its passes have seen them.
 #[derive(Drop)]
 pub struct Shard {
-    pub(crate) number: u32,
-    pub(crate) cells: Cells,
-    pub(crate) histories: Vec<History>,
-    pub(crate) log: Vec<ShardEntry>,
+    // What each access changes comes first, close together.
     pub(crate) last: u64,
+    pub(crate) log: Vec<ShardEntry>,
+    pub(crate) histories: Vec<History>,
     pub(crate) passes: TwoPasses,
+    pub(crate) cells: Cells,
+    pub(crate) number: u32,
 }
 
 impl Model for Shard {

@@ -31,14 +31,19 @@ use hall_shards::shard::Shard;
 use heap_value::kept::Kept;
 use om_shared::writer::OmWriter;
 use pipe_frame::token::FrameToken;
+use std::alloc::Global;
 use std::sync::Wait;
 use std::thread;
 
-/// The book and the shards of a run, each behind a lock.
+/// The book and the shards of a run, each protected by a lock of its own.
 #[derive(Drop)]
 pub struct Locks<M: Carrier> {
     /// The table of the locks and of the slots.
     pub table: HallTable<M>,
+    /// What allocates the rows of iterations, before the book is taken.
+    pub alloc: Global,
+    /// For how many instances such a row has room.
+    pub row_room: usize,
     pub ghost sized: { (table.shared.table_id.words ≡ width) × (table.shared.table_id.slots ≡ width) },
 }
 

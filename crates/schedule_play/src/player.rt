@@ -132,7 +132,8 @@ impl<B: PlayedCode> Player<B> {
         ensures keeps { IfOk result (λ u. KeepsProgram self.old self.new) }
     {
         self.running.reserve(1)?;
-        let Begun::Started(token) = self.book.begin() else {
+        let begun = self.book.begin()?;
+        let Begun::Started(token) = begun else {
             unreachable!()
         };
         let iteration = token.iteration;

@@ -1,6 +1,6 @@
 -- Rows that no iteration has used yet.
 use Rattle.std.proofs.Common.{◌≡◌, ℕ, suc, pos, ◌+◌, ◌<◌, ◌≤◌, List, [], ◌∷◌, ◌++◌, length, length-append, map, get_or, refl, ap, ap₂, sym}
-use Rattle.std.proofs.Common.{◌∙◌, arith, subst, true, Some, None, reverse, append_assoc, All}
+use Rattle.std.proofs.Common.{◌∙◌, arith, subst, true, Some, None, reverse, append_assoc, All, zero, replicate}
 use Rattle.std.proofs.lemmas.List.{length-map, length-reverse, map-append, reverse-append, get_or-append-add}
 use Rattle.std.proofs.Math.Seq.{get_or-append_seam}
 use Rattle.std.proofs.lemmas.List.Elements.{All-pop}
@@ -16,7 +16,8 @@ use Rattle.pipe_model.specs.Runs.State.{Frame, frame_at, end_of_status}
 use Rattle.run_laws.proofs.RunStates.Frames.{frame_at_exists}
 use Rattle.frame_book.specs.Rooms.{IsSized, IsPlanned, IsFresh, room_in, rooms_of}
 use Rattle.frame_book.specs.Invariant.{MatchesFrame, pending_nodes}
-use Rattle.frame_rows.specs.IterationRows.{IterationRow}
+use Rattle.frame_rows.specs.IterationRows.{IterationRow, empty_row}
+use Rattle.frame_rows.specs.SpareRows.{spare_rows}
 use Rattle.frame_rows.specs.Totals.{total}
 use Rattle.frame_rows.proofs.Totals.{total_append, few_of_total}
 
@@ -62,6 +63,15 @@ last_goes_not f d xs l p t some c =
     by Running e a b c z = omega (arith, a, b, c)
     by (Pending k m) e a b c z = omega (arith, a, b, some)
     by (Completed x) e a b c z = let w = c (z x (sym e)) in omega (arith, a, b, w)
+
+-- the rows with the same room
+pub rows_alike : {M : Type 0} → (n s : ℕ) → spare_rows {M = M} (replicate n s) ≡ replicate n (empty_row s)
+rows_alike zero s = refl
+rows_alike (suc n) s = ap (λ l. empty_row s ∷ l) (rows_alike n s)
+
+-- the row that is made is the last
+pub row_made : {M : Type 0} → (old new : List ℕ) (n : ℕ) → old ≡ new ++ n ∷ [] → spare_rows {M = M} old ≡ spare_rows new ++ empty_row n ∷ []
+row_made old new n e = ap spare_rows e ∙ map-append empty_row new (n ∷ [])
 
 -- the rooms with a spare row taken into use
 module _ {M : Type 0} (rows spare : List (IterationRow M)) (row y : IterationRow M) (same : y.room ≡ row.room) where

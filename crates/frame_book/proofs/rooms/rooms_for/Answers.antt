@@ -4,7 +4,6 @@ use mir.Val.{SFits}
 use Rattle.std.proofs.Math.Facts.{Fits-nat_abs}
 use Rattle.std.proofs.lemmas.Int.{to_z-of_z}
 use Rattle.pipe_model.specs.Language.Programs.{natural}
-use Rattle.frame_rows.specs.IterationRows.{empty_row}
 use Rattle.frame_book.proofs.Keeping.New.{abs_is, non_neg_is, fits_small}
 use Rattle.frame_book.proofs.rooms.rooms_for.Given.{Over}
 use Rattle.frame_book.proofs.rooms.rooms_for.Goals.{After-new}
@@ -91,7 +90,7 @@ returns-clause-alive g c =
 pub returns-clause-spare : goal.returns-clause-spare
 returns-clause-spare g c =
     let k = (goal.at.returns-clause-spare g c).After-new in
-    c.in_ok-spare.ensures ∙ ap₂ (λ k z. empty_row 1 ∷ replicate k (empty_row z)) (iterations_are g k) (stages_are g k)
+    c.new-2.ensures ∙ ap₂ (λ k z. 1 ∷ replicate k z) (iterations_are g k) (stages_are g k)
 
 pub returns-clause-ledger : goal.returns-clause-ledger
 returns-clause-ledger g c =

@@ -17,6 +17,7 @@ use Rattle.frame_book.proofs.Keeping.Stop.{log_room, last_below}
 use Rattle.frame_book.proofs.Keeping.Performed.{performed}
 use Rattle.frame_book.proofs.Keeping.LeaveReady.{out_fits, out_within, out_row_read}
 use Rattle.frame_book.proofs.Iterations.OutRows.{alive_out}
+use Rattle.frame_rows.specs.SpareRows.{spare_rows}
 use Rattle.frame_book.proofs.book.Book.finish.Goals as goal
 
 pub stamp-requires-clause-room : goal.stamp-requires-clause-room
@@ -127,4 +128,4 @@ returns g c =
 pub overflow_cast-iteration : goal.overflow_cast-iteration
 overflow_cast-iteration g c =
     let out = subst (λ v. IsOutOf v (fields_of c.args.token)) (sym c.self.view_is) c.requires.out in
-    out_fits _ c.self.inside.rows.items c.self.inside.spare.items _ _ _ c.args.token.iteration c.self.invariant.0.sized out.out
+    out_fits _ c.self.inside.rows.items (spare_rows c.self.inside.spare) _ _ _ c.args.token.iteration c.self.invariant.0.sized out.out

@@ -3,6 +3,7 @@ use Rattle.std.proofs.lemmas.List.{length-replicate}
 use Rattle.std.specs.Prelude.{vec_capacity}
 use Rattle.pipe_model.specs.Language.Programs.{natural}
 use Rattle.frame_rows.specs.IterationRows.{empty_row}
+use Rattle.frame_book.proofs.Iterations.SpareRows.{rows_alike}
 use Rattle.frame_book.proofs.Keeping.New.{new_keeps}
 use Rattle.frame_rows.proofs.AliveRows.{alive_none}
 use Rattle.frame_book.proofs.book.Book.opened.Goals as goal
@@ -18,6 +19,7 @@ invariant_of-result g c =
       c.in-Ok.ensures.rows.0,
       c.in-Ok.ensures.alive.0,
       c.in-Ok.ensures.spare,
+      rows_alike {M = g.row.M.Denot} (natural i) (natural s),
       c.in-Ok.ensures.ledger,
       c.new.ensures,
     ) (

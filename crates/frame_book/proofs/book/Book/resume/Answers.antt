@@ -16,6 +16,7 @@ use Rattle.frame_book.proofs.Keeping.Resume.{set_itself, can_run, can_enter, can
 use Rattle.frame_book.proofs.Keeping.Resume.{kept, resume_keeps, resume_view, resume_given, resume_beside, resume_folded}
 use Rattle.frame_rows.proofs.ChangedRows.{map_at}
 use Rattle.frame_rows.proofs.AliveRows.{alive_set}
+use Rattle.frame_rows.specs.SpareRows.{spare_rows}
 use Rattle.frame_book.proofs.book.Book.resume.Goals as goal
 
 pub index_mut-row-requires : goal.index_mut-row-requires
@@ -121,6 +122,6 @@ invariant_of-self-in-Pending g c =
     let same = sym (set_itself c.self.inside.rows.items i c.index_mut-row.result.now x.at_row) in (
       subst (λ rs. IsBook g.M.Stands.whole g.M.Stands.ready_at g.M.Stands.tie (record (tables_of c.self.inside) { rows = rs })) same
           c.self.invariant.0,
-      subst (λ rs. HasAliveList rs c.self.inside.spare.items c.self.inside.alive.items (vec_capacity c.self.inside.alive)) same
+      subst (λ rs. HasAliveList rs (spare_rows c.self.inside.spare) c.self.inside.alive.items (vec_capacity c.self.inside.alive)) same
           c.self.invariant.1,
     )

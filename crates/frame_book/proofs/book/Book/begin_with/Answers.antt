@@ -1,9 +1,9 @@
 use Rattle.std.proofs.Common.{◌≡◌, ◌<◌, ◌≤◌, ◌+◌, ◌^◌, ◌↔◌, [], ◌∷◌, ◌++◌, arith, length, refl, ap, ap₂, sym}
-use Rattle.std.proofs.Common.{subst, ◌∙◌, true, false, not, None, ℕ}
+use Rattle.std.proofs.Common.{subst, ◌∙◌, true, false, not, None, ℕ, pos, inl, inr}
 use Rattle.std.proofs.Math.Facts.{Fits-bits}
-use Rattle.std.proofs.lemmas.Bool.{true≢false}
+use Rattle.std.proofs.lemmas.Bool.{cases_eq, true≢false}
 use Rattle.std.proofs.lemmas.Grind.{common_steps}
-use Rattle.std.proofs.lemmas.List.{length_push}
+use Rattle.std.proofs.lemmas.List.{length_push, length-map}
 use Rattle.std.specs.Prelude.{vec_capacity, vec_len}
 use Rattle.std.proofs.Common.{Vec}
 use Rattle.order_2d.specs.OrderPairs.{with_start, down_taken, right_taken}
@@ -16,7 +16,9 @@ use Rattle.frame_book.specs.BookStates.{last_ticket, BookState, Out, state_of, w
 use Rattle.frame_book.specs.GivenTokens.{IsGivenBy}
 use Rattle.frame_book.specs.BookTables.{tables_of}
 use Rattle.frame_rows.specs.RowsOfFrames.{AreRows}
-use Rattle.frame_rows.specs.IterationRows.{head_marks}
+use Rattle.frame_rows.specs.IterationRows.{IterationRow, head_marks, empty_row, with_instance}
+use Rattle.frame_rows.specs.SpareRows.{spare_rows}
+use Rattle.frame_book.proofs.Iterations.SpareRows.{row_made}
 use Rattle.frame_book.specs.CallEffects.{seen_whole}
 use Rattle.frame_book.specs.Invariant.{IsBook}
 use Rattle.frame_book.specs.Tables.{Tables, book_state}
@@ -26,9 +28,9 @@ use Rattle.frame_book.proofs.Keeping.Stop.{log_room, last_below}
 use Rattle.frame_rows.proofs.AliveRows.{alive_push}
 use Rattle.frame_book.specs.TicketLog.{Ledger}
 use Rattle.frame_book.proofs.BookLogs.LogEntries.{last_ticket_with}
-use Rattle.frame_book.proofs.book.Book.begin.Given.{Over}
-use Rattle.frame_book.proofs.book.Book.begin.Goals.{After-last_has_ended_first, After-len-iteration}
-use Rattle.frame_book.proofs.book.Book.begin.Goals as goal
+use Rattle.frame_book.proofs.book.Book.begin_with.Given.{Over}
+use Rattle.frame_book.proofs.book.Book.begin_with.Goals.{After-last_has_ended_first, After-len-iteration, In-Some}
+use Rattle.frame_book.proofs.book.Book.begin_with.Goals as goal
 
 len_is : {X Z : Type 0} → (v : Vec X Z) (n : ℕ) → n ≡ vec_len v → n ≡ length v.items
 len_is v n e = grind (arith, common_steps)
@@ -48,15 +50,31 @@ module _ (g : Over) (c : After-last_has_ended_first g) where
   unclosed q = true≢false (sym (c.self.invariant.0.closed.1 q) ∙ c.if-self-2.false)
 
 -- the payload
-module _ (g : Over) (c : After-len-iteration g) where
+module _ (g : Over) (c : In-Some g) where
+  has_ended : (c.last_has_ended_first.result ≡ true) ↔ LastEndedFirstInstance (state_of (book_state (tables_of c.self.inside))).frames
+  has_ended =
+      let s = state_of (book_state (tables_of c.self.inside)) in
+      c.last_has_ended_first.ensures (not s.stopped) s.frames
+      (subst (AreRows (not s.stopped) s.frames) (sym c.as_slice.ensures.value) c.self.invariant.0.rows.each)
+
   begins : Begins (tables_of c.self.inside) c.take.new.self.home c.in-Some.payload
   begins = record {
     going = c.if-self.false;
     unclosed = c.if-self-2.false;
-    ended = (both g (goal.at.overflow_cast-iteration g c).After-last_has_ended_first).0 c.if-not-last_has_ended_first.false;
+    ended = has_ended.0 c.if-not-last_has_ended_first.false;
     taken = c.in-Some.ensures.some;
   }
 
+  -- a row is left
+  some_left : 0 < length c.self.inside.spare
+  some_left =
+      let e = length-map c.self.inside.spare (empty_row {M = g.row.M.Denot}) in
+      elim (cases_eq (length c.self.inside.spare) 0) [
+        | inl none ↦ absurd (spare_some c.self.invariant.0 begins (e ∙ none))
+        | inr some ↦ omega (arith, some)
+      ]
+
+module _ (g : Over) (c : After-len-iteration g) where
   number_is : c.len-iteration.result ≡ length c.self.inside.rows.items
   number_is = len_is c.self.inside.rows c.len-iteration.result c.len-iteration.ensures
 
@@ -84,28 +102,28 @@ returns-in_default-clause-returned g c =
 
 pub overflow_cast-iteration : goal.overflow_cast-iteration
 overflow_cast-iteration g c =
-    let l = few c.self.invariant.0 (begins g c) in
+    let l = few c.self.invariant.0 (begins g (goal.at.overflow_cast-iteration g c).In-Some) in
     let e = number_is g c in
     Fits-bits 31 tt (subst (λ n. n < 2 ^ 31) (sym e) l)
 
 pub start_head-marks-requires-clause-there : goal.start_head-marks-requires-clause-there
 start_head-marks-requires-clause-there g c =
     rw c.as_slice-2.ensures.value
-    (there c.self.invariant.0 (begins g (goal.at.start_head-marks-requires-clause-there g c).After-len-iteration))
+    (there c.self.invariant.0 (begins g (goal.at.start_head-marks-requires-clause-there g c).In-Some))
 
 pub start_head-marks-requires-clause-inserted : goal.start_head-marks-requires-clause-inserted
 start_head-marks-requires-clause-inserted g c =
     rw c.as_slice-2.ensures.value
-    (placed c.self.invariant.0 (begins g (goal.at.start_head-marks-requires-clause-inserted g c).After-len-iteration))
+    (placed c.self.invariant.0 (begins g (goal.at.start_head-marks-requires-clause-inserted g c).In-Some))
 
 pub start_head-marks-requires-clause-room : goal.start_head-marks-requires-clause-room
 start_head-marks-requires-clause-room g c =
-    room c.self.invariant.0 (begins g (goal.at.start_head-marks-requires-clause-room g c).After-len-iteration)
+    room c.self.invariant.0 (begins g (goal.at.start_head-marks-requires-clause-room g c).In-Some)
 
 pub start_head-marks-requires-clause-belongs : goal.start_head-marks-requires-clause-belongs
 start_head-marks-requires-clause-belongs g c =
     rw c.begin.ensures.tie
-    (was_home c.self.invariant.0 (begins g (goal.at.start_head-marks-requires-clause-belongs g c).After-len-iteration)).belongs
+    (was_home c.self.invariant.0 (begins g (goal.at.start_head-marks-requires-clause-belongs g c).In-Some)).belongs
 
 pub stamp-now-requires-clause-room : goal.stamp-now-requires-clause-room
 stamp-now-requires-clause-room g c = log_room g.M.Stands.whole g.M.Stands.ready_at g.M.Stands.tie
@@ -115,67 +133,69 @@ pub stamp-now-requires-clause-last : goal.stamp-now-requires-clause-last
 stamp-now-requires-clause-last g c = last_below g.M.Stands.whole g.M.Stands.ready_at g.M.Stands.tie
     (tables_of c.self.inside) c.self.invariant.0 c.if-self.false
 
-pub unreachable-requires : goal.unreachable-requires
-unreachable-requires g c =
-    let z = c.in_default-pop.ensures.cases.0 in
-    let q : length c.self.inside.spare.items ≡ 0 = grind (arith, common_steps) in
-    spare_some c.self.invariant.0 (begins g (goal.at.unreachable-requires g c).After-len-iteration) q
+pub take-requires-2-clause-left : goal.take-requires-2-clause-left
+take-requires-2-clause-left g c = some_left g (goal.at.take-requires-2-clause-left g c).In-Some
 
 pub enter-requires-clause-numbers : goal.enter-requires-clause-numbers
 enter-requires-clause-numbers g c =
-    (row_room c.self.invariant.0 (begins g (goal.at.enter-requires-clause-numbers g c).After-len-iteration) c.pop.new.self.items
-    c.in-Some-pop.row c.in-Some-pop.ensures.items).0
+    subst (λ (r : IterationRow _). length r.numbers < r.room) (sym c.in-Ok.ensures.row.2)
+    (row_room c.self.invariant.0 (begins g (goal.at.enter-requires-clause-numbers g c).In-Some) (spare_rows c.take-2.new.self)
+    (empty_row c.in-Ok.ensures.row.0) (row_made c.self.inside.spare c.take-2.new.self c.in-Ok.ensures.row.0 c.in-Ok.ensures.row.1)).0
 
 pub enter-requires-clause-marks : goal.enter-requires-clause-marks
 enter-requires-clause-marks g c =
-    (row_room c.self.invariant.0 (begins g (goal.at.enter-requires-clause-marks g c).After-len-iteration) c.pop.new.self.items
-    c.in-Some-pop.row c.in-Some-pop.ensures.items).1
+    subst (λ (r : IterationRow _). length r.marks < r.room) (sym c.in-Ok.ensures.row.2)
+    (row_room c.self.invariant.0 (begins g (goal.at.enter-requires-clause-marks g c).In-Some) (spare_rows c.take-2.new.self)
+    (empty_row c.in-Ok.ensures.row.0) (row_made c.self.inside.spare c.take-2.new.self c.in-Ok.ensures.row.0 c.in-Ok.ensures.row.1)).1
 
 pub push_reserved-requires : goal.push_reserved-requires
 push_reserved-requires g c =
     let z = c.self.invariant.0.reserve in
-    let w : length c.self.inside.spare.items ≡ length c.pop.new.self.items + 1 = ap length c.in-Some-pop.ensures.items
-    ∙ length_push c.pop.new.self.items c.in-Some-pop.row in
+    let w : length (spare_rows {M = g.row.M.Denot} c.self.inside.spare) ≡ length (spare_rows {M = g.row.M.Denot} c.take-2.new.self) + 1 = ap length (row_made c.self.inside.spare c.take-2.new.self c.in-Ok.ensures.row.0 c.in-Ok.ensures.row.1)
+    ∙ length_push (spare_rows {M = g.row.M.Denot} c.take-2.new.self) (empty_row c.in-Ok.ensures.row.0) in
     let l : length c.self.inside.rows.items < vec_capacity c.self.inside.rows = omega (arith, z, w) in
     grind (arith, common_steps)
 
 pub push_reserved-requires-2 : goal.push_reserved-requires-2
 push_reserved-requires-2 g c =
     let z = c.self.invariant.1.room in
-    let w : length c.self.inside.spare.items ≡ length c.pop.new.self.items + 1 = ap length c.in-Some-pop.ensures.items
-    ∙ length_push c.pop.new.self.items c.in-Some-pop.row in
+    let w : length (spare_rows {M = g.row.M.Denot} c.self.inside.spare) ≡ length (spare_rows {M = g.row.M.Denot} c.take-2.new.self) + 1 = ap length (row_made c.self.inside.spare c.take-2.new.self c.in-Ok.ensures.row.0 c.in-Ok.ensures.row.1)
+    ∙ length_push (spare_rows {M = g.row.M.Denot} c.take-2.new.self) (empty_row c.in-Ok.ensures.row.0) in
     let l : length c.self.inside.alive.items < vec_capacity c.self.inside.alive = omega (arith, z, w) in
     grind (arith, common_steps)
 
 pub invariant_of-self-2 : goal.invariant_of-self-2
 invariant_of-self-2 g c =
     let k = (goal.at.invariant_of-self-2 g c).After-len-iteration in
+    let h = (goal.at.invariant_of-self-2 g c).In-Some in
     let listed = subst (λ spare. HasAliveList c.self.inside.rows.items spare c.self.inside.alive.items (vec_capacity c.self.inside.alive))
-    c.in-Some-pop.ensures.items c.self.invariant.1 in (
+    (row_made c.self.inside.spare c.take-2.new.self c.in-Ok.ensures.row.0 c.in-Ok.ensures.row.1) c.self.invariant.1 in (
       subst (IsBook g.M.Stands.whole g.M.Stands.ready_at g.M.Stands.tie)
-          (sym (begun c.self.invariant.0 (begins g k) c.pop.new.self.items c.in-Some-pop.row c.in-Some-pop.ensures.items
-          c.push_reserved.ensures.items c.push_reserved.ensures.capacity c.enter.ensures c.as_slice-2.ensures.value
+          (sym (begun c.self.invariant.0 (begins g h) (spare_rows c.take-2.new.self) (empty_row c.in-Ok.ensures.row.0) (row_made c.self.inside.spare c.take-2.new.self c.in-Ok.ensures.row.0 c.in-Ok.ensures.row.1)
+          c.push_reserved.ensures.items c.push_reserved.ensures.capacity (c.enter.ensures ∙ ap (with_instance (pos 0) c.start_head-marks.result) c.in-Ok.ensures.row.2) c.as_slice-2.ensures.value
           c.start_head-marks.ensures.marks c.start_head-marks.ensures.lists c.stamp-now.ensures.log (number_is g k) c.take.ensures.size))
-          (begin_keeps c.self.invariant.0 (begins g k) c.pop.new.self.items c.in-Some-pop.row c.in-Some-pop.ensures.items),
+          (begin_keeps c.self.invariant.0 (begins g h) (spare_rows c.take-2.new.self) (empty_row c.in-Ok.ensures.row.0) (row_made c.self.inside.spare c.take-2.new.self c.in-Ok.ensures.row.0 c.in-Ok.ensures.row.1)),
       rw (c.push_reserved.ensures.items, c.push_reserved-2.ensures.items, c.push_reserved-2.ensures.capacity, number_is g k)
-          (alive_push c.self.inside.rows.items c.pop.new.self.items c.in-Some-pop.row _ _ _ listed),
+          (alive_push c.self.inside.rows.items (spare_rows c.take-2.new.self) (empty_row c.in-Ok.ensures.row.0) _ _ _ listed),
     )
 
 pub returns-clause-returned : goal.returns-clause-returned
 returns-clause-returned g c =
     let k = (goal.at.returns-clause-returned g c).After-len-iteration in
+    let h = (goal.at.returns-clause-returned g c).In-Some in
     let t = (goal.at.returns-clause-returned g c).After-last_has_ended_first in
     subst (λ (v : BookState). ((state_of v).stopped ≡ false) × (IsClosed (state_of v).frames → ⊥)
     × MayBegin v.limit (state_of v) c.len-iteration.result × ◌≡◌ {A = ℕ} 0 0) c.self.view_is
-    (going g t, unclosed g t, rw (number_is g k) (may c.self.invariant.0 (begins g k)), refl)
+    (going g t, unclosed g t, rw (number_is g k) (may c.self.invariant.0 (begins g h)), refl)
 
 pub returns-clause-book : goal.returns-clause-book
 returns-clause-book g c =
     let k = (goal.at.returns-clause-book g c).After-len-iteration in
-    ap book_state (begun c.self.invariant.0 (begins g k) c.pop.new.self.items c.in-Some-pop.row c.in-Some-pop.ensures.items
-    c.push_reserved.ensures.items c.push_reserved.ensures.capacity c.enter.ensures c.as_slice-2.ensures.value
+    let h = (goal.at.returns-clause-book g c).In-Some in
+    ap book_state (begun c.self.invariant.0 (begins g h) (spare_rows c.take-2.new.self) (empty_row c.in-Ok.ensures.row.0) (row_made c.self.inside.spare c.take-2.new.self c.in-Ok.ensures.row.0 c.in-Ok.ensures.row.1)
+    c.push_reserved.ensures.items c.push_reserved.ensures.capacity (c.enter.ensures ∙ ap (with_instance (pos 0) c.start_head-marks.result) c.in-Ok.ensures.row.2) c.as_slice-2.ensures.value
     c.start_head-marks.ensures.marks c.start_head-marks.ensures.lists c.stamp-now.ensures.log (number_is g k) c.take.ensures.size)
-    ∙ (begin_view c.self.invariant.0 (begins g k) c.pop.new.self.items c.in-Some-pop.row c.in-Some-pop.ensures.items
+    ∙ (begin_view c.self.invariant.0 (begins g h) (spare_rows c.take-2.new.self) (empty_row c.in-Ok.ensures.row.0) (row_made c.self.inside.spare c.take-2.new.self c.in-Ok.ensures.row.0 c.in-Ok.ensures.row.1)
     ∙ ap₂ (λ (v : BookState) i. record v {
       log = with_events v.log 0 (Begin i ∷ []);
       traces = v.traces ++ [] ∷ [];
@@ -185,6 +205,7 @@ returns-clause-book g c =
 pub returns-clause-token : goal.returns-clause-token
 returns-clause-token g c =
     let k = (goal.at.returns-clause-token g c).After-len-iteration in
+    let h = (goal.at.returns-clause-token g c).In-Some in
     let orders_are = c.start_head-marks.ensures.lists ∙ ap (λ rs. with_start c.self.inside.orders (down_taken None (head_marks rs))
     (right_taken None (head_marks rs))) c.as_slice-2.ensures.value in
     subst (λ (b : Tables _). IsGivenBy g.M.Stands.ready_at g.M.Stands.tie (book_state b) (record {
@@ -195,8 +216,8 @@ returns-clause-token g c =
       folded = c.new.result;
       marks = c.start_head-marks.result;
       payload = c.start_head-marks.new.payload;
-    })) (sym (begun c.self.invariant.0 (begins g k) c.pop.new.self.items c.in-Some-pop.row c.in-Some-pop.ensures.items
-    c.push_reserved.ensures.items c.push_reserved.ensures.capacity c.enter.ensures c.as_slice-2.ensures.value
+    })) (sym (begun c.self.invariant.0 (begins g h) (spare_rows c.take-2.new.self) (empty_row c.in-Ok.ensures.row.0) (row_made c.self.inside.spare c.take-2.new.self c.in-Ok.ensures.row.0 c.in-Ok.ensures.row.1)
+    c.push_reserved.ensures.items c.push_reserved.ensures.capacity (c.enter.ensures ∙ ap (with_instance (pos 0) c.start_head-marks.result) c.in-Ok.ensures.row.2) c.as_slice-2.ensures.value
     c.start_head-marks.ensures.marks c.start_head-marks.ensures.lists c.stamp-now.ensures.log (number_is g k) c.take.ensures.size))
     (rw (
       number_is g k,
@@ -205,11 +226,11 @@ returns-clause-token g c =
       c.stamp-now.ensures.ticket,
       c.new.ensures,
     )
-    (begin_given c.self.invariant.0 (begins g k) c.pop.new.self.items c.in-Some-pop.row c.in-Some-pop.ensures.items
+    (begin_given c.self.invariant.0 (begins g h) (spare_rows c.take-2.new.self) (empty_row c.in-Ok.ensures.row.0) (row_made c.self.inside.spare c.take-2.new.self c.in-Ok.ensures.row.0 c.in-Ok.ensures.row.1)
     c.start_head-marks.new.payload
     (c.start_head-marks.ensures.ready (tree_of c.self.inside.program) c.self.inside.input (length c.self.inside.rows.items) []
     (subst (λ k. g.M.Stands.ready_at (tree_of c.self.inside.program) c.self.inside.input c.begin.new.self k []) (number_is g k)
-    (c.begin.ensures.ready (tree_of c.self.inside.program) c.self.inside.input (was_home c.self.invariant.0 (begins g k)).whole)))
+    (c.begin.ensures.ready (tree_of c.self.inside.program) c.self.inside.input (was_home c.self.invariant.0 (begins g h)).whole)))
     (c.start_head-marks.ensures.tie
     ∙ ap₂ (λ x o. record { lists = seen_whole x.lists o; seat = x.seat }) c.begin.ensures.tie orders_are)))
 
@@ -230,3 +251,9 @@ pub returns-then-self-2-clause-returned : goal.returns-then-self-2-clause-return
 returns-then-self-2-clause-returned g c =
     subst (λ (v : BookState). ((state_of v).stopped ≡ false) × IsClosed (state_of v).frames) c.self.view_is
     (sym c.self.invariant.0.stopped ∙ c.if-self.false, c.self.invariant.0.closed.0 c.if-self-2.true)
+
+pub invariant_of-self-in_default-take : goal.invariant_of-self-in_default-take
+invariant_of-self-in_default-take g c =
+    let pool : c.give.new.self ≡ c.self.inside.pool = c.give.ensures
+    ∙ ap₂ (λ h z. record { home = h; size = z }) (sym c.in-Some.ensures.some) c.take.ensures.size in
+    rw (pool, c.in_default-take.ensures.unchanged) c.self.invariant
