@@ -15,7 +15,7 @@ use std::process::Abort;
 use std::sync::Wait;
 use std::thread::Threads;
 
-// The words of calls. With one worker, `run` makes the serial run.
+// The words of calls.
 pub const RUN: &[&str] = &["run", "a.pipe", "a.in", "--workers", "1"];
 
 pub const RUN_BY_FOUR: &[&str] = &["run", "a.pipe", "a.in", "--workers", "4", "--throttle", "8"];

@@ -2,7 +2,6 @@
 
 use crate::faults_found::LIMITS;
 use crate::first_rows::{expect_no_pair, expect_none};
-use crate::texts::concat;
 use pipe_format::program::format;
 use pipe_lexer::scan::tokens;
 use pipe_model::memory::NoMemory;
@@ -162,8 +161,8 @@ fn concat_both(
     first: &[&str],
     second: &[&str],
 ) -> Result<(String, String), NoMemory> {
-    let first = concat(alloc, first)?;
-    let second = concat(alloc, second)?;
+    let first = first.concat(alloc)?;
+    let second = second.concat(alloc)?;
     Ok((first, second))
 }
 

@@ -2,13 +2,11 @@
 
 ghost use Rattle.pipe_model.specs.Language.Tokens.{IsLexed};
 
-use crate::texts::concat;
 use pipe_check::fault::CheckFault;
 use pipe_check::program::check;
 use pipe_lexer::fault::LexFault;
 use pipe_lexer::scan::tokens;
 use pipe_model::list::Numbers;
-use pipe_model::memory::NoMemory;
 use pipe_model::token::Tokens;
 use pipe_parser::parse::{ParseFault, Parsed, parse};
 use std::alloc::Global;
@@ -134,25 +132,25 @@ pub fn has_fault(alloc: Global, kind: &str, source: &str) -> bool {
     let Some((before, after)) = source.split_once('@') else {
         return false;
     };
-    match concat(alloc, &[before, after]) {
+    match [before, after].concat(alloc) {
         Ok(source) => has_fault_at(alloc, kind, source.as_bytes(), before.len()),
-        Err(NoMemory) => false,
+        Err(_) => false,
     }
 }
 
 /// Returns whether the texts are such a source, one after the other.
 pub fn texts_have_fault(alloc: Global, kind: &str, texts: &[&str]) -> bool {
-    match concat(alloc, texts) {
+    match texts.concat(alloc) {
         Ok(source) => has_fault(alloc, kind, source.as_str()),
-        Err(NoMemory) => false,
+        Err(_) => false,
     }
 }
 
 /// Returns whether the texts, one after the other, are a program that breaks no rule.
 pub fn texts_are_accepted(alloc: Global, texts: &[&str]) -> bool {
-    match concat(alloc, texts) {
+    match texts.concat(alloc) {
         Ok(source) => is_accepted(alloc, source.as_str()),
-        Err(NoMemory) => false,
+        Err(_) => false,
     }
 }
 

@@ -24,5 +24,3 @@ mod stopped_instances;
 mod stopping_memory;
 #[cfg(test)]
 mod syntax_rows;
-#[cfg(test)]
-mod texts;
