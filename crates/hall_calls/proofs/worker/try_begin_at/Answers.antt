@@ -13,7 +13,8 @@ use Rattle.frame_book.specs.BookStates.{BookState, HasRisingTickets, events_of, 
 use Rattle.hall_table.specs.SeatViews.{constants_of}
 use Rattle.frame_book.proofs.BegunIterations.{HasBegun, has_begun}
 use Rattle.hall_calls.proofs.BookCalls.{begin_call, events_stamped}
-use Rattle.hall_calls.proofs.TakenBooks.{hall_is, knows_after, lent_of, name_is, none_started, nothing_begun, runs_after, sees, stays_idle, unchanged}
+use Rattle.hall_calls.proofs.TakenBooks.{hall_is, knows_after, lent_of, name_is, none_started}
+use Rattle.hall_calls.proofs.TakenBooks.{nothing_begun, runs_after, sees, stays_idle, unchanged}
 use Rattle.pipe_frame.specs.TokenCounts.{Exchanges}
 use Rattle.hall_calls.proofs.TokenMoves.{none_begun, none_moves, token_given}
 use Rattle.hall_calls.proofs.worker.try_begin_at.Given.{Over}
@@ -60,7 +61,8 @@ returns-in-Started-clause-idle g c =
     stays_idle g.row.M.Denot c.args.seat.now.me c.take_book-book.new.seat.me c.get_mut-lent.result.now None
     (lent_of g.row.M.Denot c.args.seat.now.me c.take_book-book.new.seat.me c.take_book-book.result c.get_mut-lent.result.now None
     c.get_mut-lent.ensures.value c.take_book-book.ensures.taken) c.return_token.new.seat.me c.begin_with.new.self
-    _ c.return_token.ensures.given (ap constants_of (began g (goal.at.returns-in-Started-clause-idle g c).In-Started).book) c.entries-2.ensures.control
+    _ c.return_token.ensures.given (ap constants_of (began g (goal.at.returns-in-Started-clause-idle g c).In-Started).book)
+    c.entries-2.ensures.control
 
 pub returns-in_default-begun : goal.returns-in_default-begun
 returns-in_default-begun g c =
@@ -75,8 +77,10 @@ returns-in_default-begun g c =
     let q = nothing_begun b x r c.in_default-begun.not-Started c.in-Ok.ensures.book in
     record {
       own = c.return_book-in_default-begun.ensures.own.0 ∙ c.take_book-book.ensures.own;
-      idle = stays_idle g.row.M.Denot m n b None h z x _ c.return_book-in_default-begun.ensures.given q.constants c.entries-2.ensures.control;
-      sees = sees g.row.M.Denot m n b None h z x _ c.return_book-in_default-begun.ensures.given (begin_events r) (λ s. BeginReturns _ s r) q.adds
+      idle = stays_idle g.row.M.Denot m n b None h z x _ c.return_book-in_default-begun.ensures.given q.constants
+          c.entries-2.ensures.control;
+      sees = sees g.row.M.Denot m n b None h z x _ c.return_book-in_default-begun.ensures.given (begin_events r) (λ s. BeginReturns _ s
+          r) q.adds
           (subst (λ (k : HallName). BeginReturns k.limit (state_of b) r) (sym (name_is c.args.seat.now.table_id m n b None h))
           c.in-Ok.ensures.returned);
       tokens = subst (λ k. Exchanges k 0 m.0.it.tokens z.0.it.tokens) (sym (none_begun r c.in_default-begun.not-Started))
@@ -100,7 +104,8 @@ pub return_token-requires-clause-constants : goal.return_token-requires-clause-c
 return_token-requires-clause-constants g c =
     knows_after c.args.seat.now.me c.take_book-book.new.seat.me c.get_mut-lent.result.now None
     (lent_of g.row.M.Denot c.args.seat.now.me c.take_book-book.new.seat.me c.take_book-book.result c.get_mut-lent.result.now None
-    c.get_mut-lent.ensures.value c.take_book-book.ensures.taken) c.begin_with.new.self (ap constants_of (began g (goal.at.return_token-requires-clause-constants g c).In-Started).book)
+    c.get_mut-lent.ensures.value c.take_book-book.ensures.taken) c.begin_with.new.self (ap constants_of (began g
+    (goal.at.return_token-requires-clause-constants g c).In-Started).book)
 
 pub returns-in-Started-clause-own : goal.returns-in-Started-clause-own
 returns-in-Started-clause-own g c = c.return_token.ensures.own ∙ c.take_book-book.ensures.own

@@ -151,7 +151,8 @@ enter-requires-clause-marks g c =
 pub push_reserved-requires : goal.push_reserved-requires
 push_reserved-requires g c =
     let z = c.self.invariant.0.reserve in
-    let w : length (spare_rows {M = g.row.M.Denot} c.self.inside.spare) ≡ length (spare_rows {M = g.row.M.Denot} c.take-2.new.self) + 1 = ap length (row_made c.self.inside.spare c.take-2.new.self c.in-Ok.ensures.row.0 c.in-Ok.ensures.row.1)
+    let w : length (spare_rows {M = g.row.M.Denot} c.self.inside.spare) ≡ length (spare_rows {M = g.row.M.Denot} c.take-2.new.self) + 1 =
+    ap length (row_made c.self.inside.spare c.take-2.new.self c.in-Ok.ensures.row.0 c.in-Ok.ensures.row.1)
     ∙ length_push (spare_rows {M = g.row.M.Denot} c.take-2.new.self) (empty_row c.in-Ok.ensures.row.0) in
     let l : length c.self.inside.rows.items < vec_capacity c.self.inside.rows = omega (arith, z, w) in
     grind (arith, common_steps)
@@ -159,7 +160,8 @@ push_reserved-requires g c =
 pub push_reserved-requires-2 : goal.push_reserved-requires-2
 push_reserved-requires-2 g c =
     let z = c.self.invariant.1.room in
-    let w : length (spare_rows {M = g.row.M.Denot} c.self.inside.spare) ≡ length (spare_rows {M = g.row.M.Denot} c.take-2.new.self) + 1 = ap length (row_made c.self.inside.spare c.take-2.new.self c.in-Ok.ensures.row.0 c.in-Ok.ensures.row.1)
+    let w : length (spare_rows {M = g.row.M.Denot} c.self.inside.spare) ≡ length (spare_rows {M = g.row.M.Denot} c.take-2.new.self) + 1 =
+    ap length (row_made c.self.inside.spare c.take-2.new.self c.in-Ok.ensures.row.0 c.in-Ok.ensures.row.1)
     ∙ length_push (spare_rows {M = g.row.M.Denot} c.take-2.new.self) (empty_row c.in-Ok.ensures.row.0) in
     let l : length c.self.inside.alive.items < vec_capacity c.self.inside.alive = omega (arith, z, w) in
     grind (arith, common_steps)
@@ -171,10 +173,13 @@ invariant_of-self-2 g c =
     let listed = subst (λ spare. HasAliveList c.self.inside.rows.items spare c.self.inside.alive.items (vec_capacity c.self.inside.alive))
     (row_made c.self.inside.spare c.take-2.new.self c.in-Ok.ensures.row.0 c.in-Ok.ensures.row.1) c.self.invariant.1 in (
       subst (IsBook g.M.Stands.whole g.M.Stands.ready_at g.M.Stands.tie)
-          (sym (begun c.self.invariant.0 (begins g h) (spare_rows c.take-2.new.self) (empty_row c.in-Ok.ensures.row.0) (row_made c.self.inside.spare c.take-2.new.self c.in-Ok.ensures.row.0 c.in-Ok.ensures.row.1)
-          c.push_reserved.ensures.items c.push_reserved.ensures.capacity (c.enter.ensures ∙ ap (with_instance (pos 0) c.start_head-marks.result) c.in-Ok.ensures.row.2) c.as_slice-2.ensures.value
+          (sym (begun c.self.invariant.0 (begins g h) (spare_rows c.take-2.new.self) (empty_row c.in-Ok.ensures.row.0) (row_made
+          c.self.inside.spare c.take-2.new.self c.in-Ok.ensures.row.0 c.in-Ok.ensures.row.1)
+          c.push_reserved.ensures.items c.push_reserved.ensures.capacity (c.enter.ensures ∙ ap (with_instance (pos 0)
+          c.start_head-marks.result) c.in-Ok.ensures.row.2) c.as_slice-2.ensures.value
           c.start_head-marks.ensures.marks c.start_head-marks.ensures.lists c.stamp-now.ensures.log (number_is g k) c.take.ensures.size))
-          (begin_keeps c.self.invariant.0 (begins g h) (spare_rows c.take-2.new.self) (empty_row c.in-Ok.ensures.row.0) (row_made c.self.inside.spare c.take-2.new.self c.in-Ok.ensures.row.0 c.in-Ok.ensures.row.1)),
+          (begin_keeps c.self.invariant.0 (begins g h) (spare_rows c.take-2.new.self) (empty_row c.in-Ok.ensures.row.0) (row_made
+          c.self.inside.spare c.take-2.new.self c.in-Ok.ensures.row.0 c.in-Ok.ensures.row.1)),
       rw (c.push_reserved.ensures.items, c.push_reserved-2.ensures.items, c.push_reserved-2.ensures.capacity, number_is g k)
           (alive_push c.self.inside.rows.items (spare_rows c.take-2.new.self) (empty_row c.in-Ok.ensures.row.0) _ _ _ listed),
     )
@@ -192,10 +197,13 @@ pub returns-clause-book : goal.returns-clause-book
 returns-clause-book g c =
     let k = (goal.at.returns-clause-book g c).After-len-iteration in
     let h = (goal.at.returns-clause-book g c).In-Some in
-    ap book_state (begun c.self.invariant.0 (begins g h) (spare_rows c.take-2.new.self) (empty_row c.in-Ok.ensures.row.0) (row_made c.self.inside.spare c.take-2.new.self c.in-Ok.ensures.row.0 c.in-Ok.ensures.row.1)
-    c.push_reserved.ensures.items c.push_reserved.ensures.capacity (c.enter.ensures ∙ ap (with_instance (pos 0) c.start_head-marks.result) c.in-Ok.ensures.row.2) c.as_slice-2.ensures.value
+    ap book_state (begun c.self.invariant.0 (begins g h) (spare_rows c.take-2.new.self) (empty_row c.in-Ok.ensures.row.0) (row_made
+    c.self.inside.spare c.take-2.new.self c.in-Ok.ensures.row.0 c.in-Ok.ensures.row.1)
+    c.push_reserved.ensures.items c.push_reserved.ensures.capacity (c.enter.ensures ∙ ap (with_instance (pos 0)
+    c.start_head-marks.result) c.in-Ok.ensures.row.2) c.as_slice-2.ensures.value
     c.start_head-marks.ensures.marks c.start_head-marks.ensures.lists c.stamp-now.ensures.log (number_is g k) c.take.ensures.size)
-    ∙ (begin_view c.self.invariant.0 (begins g h) (spare_rows c.take-2.new.self) (empty_row c.in-Ok.ensures.row.0) (row_made c.self.inside.spare c.take-2.new.self c.in-Ok.ensures.row.0 c.in-Ok.ensures.row.1)
+    ∙ (begin_view c.self.invariant.0 (begins g h) (spare_rows c.take-2.new.self) (empty_row c.in-Ok.ensures.row.0) (row_made
+    c.self.inside.spare c.take-2.new.self c.in-Ok.ensures.row.0 c.in-Ok.ensures.row.1)
     ∙ ap₂ (λ (v : BookState) i. record v {
       log = with_events v.log 0 (Begin i ∷ []);
       traces = v.traces ++ [] ∷ [];
@@ -216,8 +224,10 @@ returns-clause-token g c =
       folded = c.new.result;
       marks = c.start_head-marks.result;
       payload = c.start_head-marks.new.payload;
-    })) (sym (begun c.self.invariant.0 (begins g h) (spare_rows c.take-2.new.self) (empty_row c.in-Ok.ensures.row.0) (row_made c.self.inside.spare c.take-2.new.self c.in-Ok.ensures.row.0 c.in-Ok.ensures.row.1)
-    c.push_reserved.ensures.items c.push_reserved.ensures.capacity (c.enter.ensures ∙ ap (with_instance (pos 0) c.start_head-marks.result) c.in-Ok.ensures.row.2) c.as_slice-2.ensures.value
+    })) (sym (begun c.self.invariant.0 (begins g h) (spare_rows c.take-2.new.self) (empty_row c.in-Ok.ensures.row.0) (row_made
+    c.self.inside.spare c.take-2.new.self c.in-Ok.ensures.row.0 c.in-Ok.ensures.row.1)
+    c.push_reserved.ensures.items c.push_reserved.ensures.capacity (c.enter.ensures ∙ ap (with_instance (pos 0)
+    c.start_head-marks.result) c.in-Ok.ensures.row.2) c.as_slice-2.ensures.value
     c.start_head-marks.ensures.marks c.start_head-marks.ensures.lists c.stamp-now.ensures.log (number_is g k) c.take.ensures.size))
     (rw (
       number_is g k,
@@ -226,7 +236,8 @@ returns-clause-token g c =
       c.stamp-now.ensures.ticket,
       c.new.ensures,
     )
-    (begin_given c.self.invariant.0 (begins g h) (spare_rows c.take-2.new.self) (empty_row c.in-Ok.ensures.row.0) (row_made c.self.inside.spare c.take-2.new.self c.in-Ok.ensures.row.0 c.in-Ok.ensures.row.1)
+    (begin_given c.self.invariant.0 (begins g h) (spare_rows c.take-2.new.self) (empty_row c.in-Ok.ensures.row.0) (row_made
+    c.self.inside.spare c.take-2.new.self c.in-Ok.ensures.row.0 c.in-Ok.ensures.row.1)
     c.start_head-marks.new.payload
     (c.start_head-marks.ensures.ready (tree_of c.self.inside.program) c.self.inside.input (length c.self.inside.rows.items) []
     (subst (λ k. g.M.Stands.ready_at (tree_of c.self.inside.program) c.self.inside.input c.begin.new.self k []) (number_is g k)

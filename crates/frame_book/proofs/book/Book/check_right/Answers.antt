@@ -25,7 +25,8 @@ returns-then-iteration-len-clause-returned g c = inr (λ m.
 
 pub overflow_add-iteration-2 : goal.overflow_add-iteration-2
 overflow_add-iteration-2 g c =
-    let a = few_rows (pipeline_of (tree_of c.self.inside.program) c.self.inside.input) c.self.inside.rows.items (spare_rows c.self.inside.spare) _
+    let a = few_rows (pipeline_of (tree_of c.self.inside.program) c.self.inside.input) c.self.inside.rows.items (spare_rows
+    c.self.inside.spare) _
     _ _ c.self.invariant.0.sized in
     let z = c.self.invariant.0.sized.bounded in
     let l : length c.self.inside.rows.items < 2 ^ 31 = omega (arith, a, z) in
