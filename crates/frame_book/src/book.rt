@@ -67,7 +67,7 @@ use throttle::pool::Pool;
 /// The scheduler's state in a run of a program. Contracts see the program, the input and the
 /// throttling limit, the identities of the order lists, the log of its events, for each iteration the
 /// traces of the instances that have ended and where its token is, and how often a left counter was
-/// read. Only `new` allocates.
+/// read. Only `new` and `begin` allocate, and `begin_with` if its row has too little room.
 ///
 /// The ticket of an event is one more than the greater of the book's last ticket and the token's.
 /// A token that a call returns is that of a running instance, at whose start its payload is. Its ticket
