@@ -54,7 +54,7 @@ pub enum Seen {
     Finished,
     Done,
     Count(u64),
-    /// The token is not out, or its instance ends otherwise, or memory ran out.
+    /// The token is not out, or its instance ends otherwise.
     Refused,
 }
 
@@ -212,9 +212,7 @@ impl Play {
         requires { AreHeld self.old.book self.old.tokens.items }
         ensures { AreHeld self.new.book self.new.tokens.items }
     {
-        let Ok(begun) = self.book.begin() else {
-            return Seen::Refused;
-        };
+        let begun = self.book.begin();
         self.ticket = last_ticket(&self.book);
         match begun {
             Begun::Started(token) => self.hold(token),

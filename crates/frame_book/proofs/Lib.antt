@@ -1,5 +1,4 @@
 pub mod BookLogs
-pub mod BegunIterations
 pub mod Iterations
 pub mod StartedInstances
 pub mod Actions

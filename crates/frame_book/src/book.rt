@@ -1,7 +1,7 @@
 //! The book, and its calls.
 
 ghost use Rattle.std.specs.Prelude.{◌≡◌, ◌≢◌, ◌↔◌, ◌+◌, ◌-◌, ◌*◌, ◌<◌, ◌≤◌, ◌^◌, [], ◌∷◌, ◌++◌, true, false, IsTrue, None, cond, ◌||◌};
-ghost use Rattle.std.specs.Prelude.{length, All, IfErr, IfOk, IfSome, ℕ};
+ghost use Rattle.std.specs.Prelude.{length, All, IfOk, IfSome, ℕ};
 ghost use Rattle.pipe_model.specs.Runs.Allowed.{IsRunning, MayBegin, MayEnter};
 ghost use Rattle.pipe_model.specs.Runs.Run.{IsFinished};
 ghost use Rattle.pipe_model.specs.Pipelines.Behaviour.{Performs, Staged, Ended, closes_at_once};
@@ -30,7 +30,6 @@ ghost use Rattle.schedule_laws.specs.StartCounts.{most_instances};
 ghost use Rattle.frame_book.specs.CallEffects.{identities_of_orders, after_stop, after_begin, with_named, with_finished, with_held};
 ghost use Rattle.frame_book.specs.CallEffects.{with_entered, after_enter, after_advance, folded_after, after_name_next, after_rescue};
 ghost use Rattle.frame_book.specs.CallEffects.{with_resumed, after_leave_ready, IsReady, kept_folded};
-ghost use Rattle.frame_rows.specs.IterationRows.{empty_row};
 ghost use Rattle.frame_rows.specs.NamedStages.{stage_end};
 ghost use Rattle.frame_book.specs.GivenTokens.{IsGivenBeside, IsGivenBy, IsOutOf, IsPayloadOf};
 
@@ -41,9 +40,9 @@ use crate::start::{left_place, start_below, start_head};
 use dep_fold::folded::Folded;
 use frame_rows::course::{Course, course_after};
 use frame_rows::folding::{count_of, fold_left, lets_enter, needs_left};
+use frame_rows::places::Places;
 use frame_rows::row::Iteration;
 use frame_rows::rows::{drop_ended, first_to_go_on, last_has_ended_first, may_enter};
-use frame_rows::spare::SpareRows;
 use om_shared::writer::OmWriter;
 use order_2d::list_writer::ListWriter;
 use order_2d::two_orders::TwoOrders;
@@ -67,7 +66,7 @@ use throttle::pool::Pool;
 /// The scheduler's state in a run of a program. Contracts see the program, the input and the
 /// throttling limit, the identities of the order lists, the log of its events, for each iteration the
 /// traces of the instances that have ended and where its token is, and how often a left counter was
-/// read. Only `new` and `begin` allocate, and `begin_with` if its row has too little room.
+/// read. Only `new` allocates.
 ///
 /// The ticket of an event is one more than the greater of the book's last ticket and the token's.
 /// A token that a call returns is that of a running instance, at whose start its payload is. Its ticket
@@ -82,15 +81,13 @@ pub struct Book<M: Payload<L>, L: ListWriter + Drop> {
     closed: bool,
     stopped: bool,
     orders: TwoOrders<L>,
+    places: Places,
     // In order. Some may have ended; `rescue` drops those.
     alive: Vec<u32>,
     pool: Pool<M>,
-    // The rows of the iterations that have not begun.
-    spare: SpareRows,
     throttle: u32,
     program: Program,
     input: Numbers,
-    alloc: Global,
 }
 
 impl<M: Payload<L>, L: ListWriter + Drop> Model for Book<M, L> {
@@ -107,13 +104,13 @@ impl<M: Payload<L>, L: ListWriter + Drop> Model for Book<M, L> {
     ghost use Rattle.frame_book.specs.BookTables.{tables_of};
     ghost use Rattle.frame_book.specs.Invariant.{IsBook};
     ghost use Rattle.frame_rows.specs.AliveLists.{HasAliveList};
-    ghost use Rattle.frame_rows.specs.SpareRows.{spare_rows};
+    ghost use Rattle.frame_rows.specs.Places.{HoldsRows, spare_rows};
     ghost use Rattle.std.specs.Prelude.{vec_capacity};
 
     ghost view = { λ b. book_state (tables_of b) };
 
-    ghost invariant = { λ b. IsBook M.whole M.ready_at M.tie (tables_of b) × HasAliveList b.rows.items (spare_rows b.spare) b.alive.items
-        (vec_capacity b.alive) };
+    ghost invariant = { λ b. IsBook M.whole M.ready_at M.tie (tables_of b) × HasAliveList b.rows.items (spare_rows b.places.spare)
+        b.alive.items (vec_capacity b.alive) × HoldsRows b.rows.items b.places };
 }
 
 impl<M: Payload<L>, L: ListWriter + Drop> Book<M, L> {
@@ -170,12 +167,11 @@ impl<M: Payload<L>, L: ListWriter + Drop> Book<M, L> {
     {
         match rooms_for(alloc, program.limits) {
             Ok(rooms) => Ok(Book {
-                alloc,
                 program,
                 input,
                 throttle,
                 rows: rooms.rows,
-                spare: rooms.spare,
+                places: rooms.places,
                 alive: rooms.alive,
                 pool: Pool::new(payloads),
                 orders,
@@ -243,7 +239,7 @@ impl<M: Payload<L>, L: ListWriter + Drop> Book<M, L> {
             program,
             input,
             rows,
-            spare,
+            places,
             alive,
             pool,
             orders,
@@ -253,7 +249,7 @@ impl<M: Payload<L>, L: ListWriter + Drop> Book<M, L> {
         drop(program);
         drop(input);
         drop(rows);
-        drop(spare);
+        drop(places);
         drop(alive);
         drop(pool);
         drop(orders);
@@ -270,62 +266,43 @@ impl<M: Payload<L>, L: ListWriter + Drop> Book<M, L> {
         }
     }
 
-    /// Returns for how many instances a row that `begin_with` takes should have room.
-    pub fn row_room(&self) -> usize {
-        self.spare.room()
-    }
-
-    /// Begins the next iteration as `begin_with` does, with a row that it makes.
-    pub fn begin(&mut self) -> Result<Begun<M>, NoMemory>
-        ensures returned { IfOk result (λ begun. BeginReturns self.old.limit (state_of self.old) begun) }
-        ensures book { IfOk result (λ begun. self.new ≡ after_begin self.old begun) }
-        ensures token { IfOk result (λ begun. IfStarted begun (IsGivenBy M.ready_at M.tie self.new)) }
-        ensures now { IfOk result (λ begun. IfStarted begun (λ t. t.now ≡ last_ticket self.new.log)) }
-        ensures folded { IfOk result (λ begun. IfStarted begun (λ t. t.folded ≡ None)) }
-        ensures unchanged { IfErr result (λ _. self.new ≡ self.old) }
-    {
-        let row = Iteration::new(self.alloc, self.row_room())?;
-        self.begin_with(row)
-    }
-
     /// Begins the next iteration: the event `Begin` and the token of its instance 0. Otherwise returns
     /// the first that holds: the run was stopped; the loop is closed; instance 0 of the last iteration
-    /// has not ended; as many iterations are alive as the throttling limit allows. The empty row
-    /// becomes that of the iteration; if it has too little room, one is allocated. Returns an error only
-    /// if memory runs out; then nothing has changed.
-    pub fn begin_with(&mut self, row: Iteration<M>) -> Result<Begun<M>, NoMemory>
-        requires { row ≡ empty_row row.room }
-        ensures returned { IfOk result (λ begun. BeginReturns self.old.limit (state_of self.old) begun) }
-        ensures book { IfOk result (λ begun. self.new ≡ after_begin self.old begun) }
-        ensures token { IfOk result (λ begun. IfStarted begun (IsGivenBy M.ready_at M.tie self.new)) }
-        ensures now { IfOk result (λ begun. IfStarted begun (λ t. t.now ≡ last_ticket self.new.log)) }
-        ensures folded { IfOk result (λ begun. IfStarted begun (λ t. t.folded ≡ None)) }
-        ensures unchanged { IfErr result (λ _. self.new ≡ self.old) }
+    /// has not ended; as many iterations are alive as the throttling limit allows.
+    pub fn begin(&mut self) -> Begun<M>
+        ensures returned { BeginReturns self.old.limit (state_of self.old) result }
+        ensures book { self.new ≡ after_begin self.old result }
+        ensures token { IfStarted result (IsGivenBy M.ready_at M.tie self.new) }
+        ensures now { IfStarted result (λ t. t.now ≡ last_ticket self.new.log) }
+        ensures folded { IfStarted result (λ t. t.folded ≡ None) }
     {
         if self.stopped {
-            return Ok(Begun::Stopped);
+            return Begun::Stopped;
         }
         if self.closed {
-            return Ok(Begun::Closed);
+            return Begun::Closed;
         }
         if !last_has_ended_first(self.rows.as_slice()) {
-            return Ok(Begun::NotYet);
+            return Begun::NotYet;
         }
         let Some(mut payload) = self.pool.take() else {
-            return Ok(Begun::Throttled);
-        };
-        let Ok(mut row) = self.spare.take(self.alloc, row) else {
-            self.pool.give(payload);
-            return Err(NoMemory);
+            return Begun::Throttled;
         };
         let iteration = self.rows.len() as u32;
         payload.begin(iteration);
-        let marks = start_head(self.rows.as_slice(), &mut self.orders, &mut payload);
+        let marks = start_head(
+            self.rows.as_slice(),
+            &self.places,
+            &mut self.orders,
+            &mut payload,
+        );
         let now = self.ledger.stamp(0, Event::Begin(iteration));
+        let mut row = Iteration::new(self.places.add_row());
+        self.places.put(iteration, 0, 0, marks);
         row.enter(0, marks);
         self.rows.push_reserved(row);
         self.alive.push_reserved(iteration);
-        Ok(Begun::Started(FrameToken {
+        Begun::Started(FrameToken {
             iteration,
             index: 0,
             now,
@@ -333,7 +310,7 @@ impl<M: Payload<L>, L: ListWriter + Drop> Book<M, L> {
             folded: Folded::new(),
             marks,
             payload,
-        }))
+        })
     }
 
     // The event `Advance` of the token's instance; keeps the token.
@@ -400,9 +377,17 @@ impl<M: Payload<L>, L: ListWriter + Drop> Book<M, L> {
         let Status::Pending(kind, number) = row.status() else {
             unreachable!()
         };
-        let left = left_place(self.rows.as_slice(), iteration, kind, number, token.joined);
+        let left = left_place(
+            self.rows.as_slice(),
+            &self.places,
+            iteration,
+            kind,
+            number,
+            token.joined,
+        );
         let marks = start_below(
             self.rows.as_slice(),
+            &self.places,
             &mut self.orders,
             &mut token.payload,
             iteration,
@@ -413,6 +398,8 @@ impl<M: Payload<L>, L: ListWriter + Drop> Book<M, L> {
         token.index += 1;
         token.joined = left.unwrap_or(token.joined);
         token.marks = marks;
+        self.places
+            .put(iteration, token.index as usize, number, marks);
         let row = &mut self.rows[iteration as usize];
         row.enter(number, marks);
         token

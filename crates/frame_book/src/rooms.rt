@@ -5,8 +5,8 @@ ghost use Rattle.order_2d.specs.declared.starts.TheConstants.{MOST_STARTS};
 ghost use Rattle.pipe_model.specs.Language.Programs.{natural};
 
 use crate::ledger::Tickets;
+use frame_rows::places::Places;
 use frame_rows::row::Iteration;
-use frame_rows::spare::SpareRows;
 use pipe_model::tree::Limits;
 use std::alloc::{AllocError, Global};
 
@@ -15,8 +15,8 @@ use std::alloc::{AllocError, Global};
 pub struct Rooms<M> {
     /// Room for the rows of the iterations that have begun.
     pub rows: Vec<Iteration<M>>,
-    /// The rows of those that have not, which take no memory yet.
-    pub spare: SpareRows,
+    /// Room for the places of all instances.
+    pub places: Places,
     /// Room for the numbers of those that are alive.
     pub alive: Vec<u32>,
     /// A log with room for all events.
@@ -30,7 +30,12 @@ pub fn rooms_for<M: Drop>(alloc: Global, limits: Limits) -> Result<Rooms<M>, All
     requires stages { pos 0 ≤ℤ limits.stages }
     requires bounded { natural limits.iterations * natural limits.stages + 1 ≤ MOST_STARTS }
     ensures rows { IfOk result (λ r. (r.rows.items ≡ []) × (vec_capacity r.rows ≡ natural limits.iterations + 1)) }
-    ensures spare { IfOk result (λ r. r.spare ≡ 1 ∷ replicate (natural limits.iterations) (natural limits.stages)) }
+    ensures places { IfOk result (λ r. r.places ≡ record {
+      numbers = [];
+      marks = [];
+      stages = natural limits.stages;
+      spare = 1 ∷ replicate (natural limits.iterations) (natural limits.stages);
+    }) }
     ensures alive { IfOk result (λ r. (r.alive.items ≡ []) × (vec_capacity r.alive ≡ natural limits.iterations + 1)) }
     ensures ledger { IfOk result (λ r. r.ledger ≡ record {
       log = [];
@@ -43,9 +48,10 @@ pub fn rooms_for<M: Drop>(alloc: Global, limits: Limits) -> Result<Rooms<M>, All
     let ledger = Tickets::new(alloc, 2 * instances + 1)?;
     let alive = Vec::with_capacity(alloc, iterations + 1)?;
     let rows = Vec::with_capacity(alloc, iterations + 1)?;
+    let places = Places::new(alloc, iterations, stages)?;
     Ok(Rooms {
         rows,
-        spare: SpareRows::new(iterations, stages),
+        places,
         alive,
         ledger,
     })

@@ -39,14 +39,14 @@ going_alive {M} going fs rs i h (inr x) = by (frame_at fs i) refl x
 
 -- ---- rows that change
 
-other_row : {M : Type 0} → (rs : List (IterationRow M)) (i j : ℕ) (y : IterationRow M) → j ≢ i → row_at (set rs i y) j ≡ row_at rs j
+pub other_row : {M : Type 0} → (rs : List (IterationRow M)) (i j : ℕ) (y : IterationRow M) → j ≢ i → row_at (set rs i y) j ≡ row_at rs j
 other_row [] i j y n = refl
 other_row (r ∷ rs) zero zero y n = absurd (n refl)
 other_row (r ∷ rs) zero (suc j) y n = refl
 other_row (r ∷ rs) (suc i) zero y n = refl
 other_row (r ∷ rs) (suc i) (suc j) y n = other_row rs i j y (λ e. n (ap suc e))
 
-earlier_row : {M : Type 0} → (rs : List (IterationRow M)) (y : IterationRow M) (i : ℕ) → i < length rs
+pub earlier_row : {M : Type 0} → (rs : List (IterationRow M)) (y : IterationRow M) (i : ℕ) → i < length rs
     → row_at (rs ++ y ∷ []) i ≡ row_at rs i
 earlier_row [] y i l = absurd (omega (arith, l))
 earlier_row (r ∷ rs) y zero l = refl

@@ -1,4 +1,5 @@
 pub mod Totals
+pub mod PlacedRows
 pub mod FrameRows
 pub mod ChangedRows
 pub mod AliveRows

@@ -4,4 +4,4 @@ pub mod Courses
 pub mod IterationRows
 pub mod RowsOfFrames
 pub mod AliveLists
-pub mod SpareRows
+pub mod Places

@@ -4,6 +4,7 @@
 
 pub mod course;
 pub mod folding;
+pub mod past;
+pub mod places;
 pub mod row;
 pub mod rows;
-pub mod spare;

@@ -1,96 +1,94 @@
 //! The row of an iteration: its instances, its status, and its token if the book keeps it.
 
-ghost use Rattle.std.specs.Prelude.{◌≡◌, ◌+◌, ◌-◌, ◌<◌, ◌≤◌, ◌^◌, [], ◌∷◌, ◌++◌, length, IfOk, Some, None, ◌↔◌, IsTrue, IsSome};
+ghost use Rattle.std.specs.Prelude.{◌≡◌, ◌+◌, ◌-◌, ◌<◌, ◌≤◌, ◌^◌, [], ◌∷◌, ◌++◌, length, Some, None, ◌↔◌, IsTrue, IsSome};
 ghost use Rattle.std.specs.Prelude.{slice_index_or, pos};
 ghost use Rattle.pipe_model.specs.Runs.State.{is_completed};
 ghost use Rattle.frame_rows.specs.IterationRows.{RowEndedFirst, empty_row, row_counter, suspended_row, with_instance, with_trace};
 
+use crate::past::Past;
 use pipe_frame::token::FrameToken;
 use pipe_model::marks::Marks;
 use pipe_model::node::Kind;
 use pipe_model::stage::Counter;
 use pipe_model::status::Status;
 use pipe_model::ticket::Trace;
-use std::alloc::{AllocError, Global};
 use std::marker::Model;
 
-/// The row of an iteration, with room for a number of instances.
+/// The row of an iteration, with room for a number of instances. The numbers and marks of its instances
+/// lie in `Places`; their traces are not kept, since nobody reads them again. Contracts see all three.
 #[derive(Drop)]
 pub struct Iteration<M> {
-    // The right neighbour reads these two.
     status: Status,
-    numbers: Vec<i64>,
-    marks: Vec<Marks>,
-    traces: Vec<Trace>,
+    // The number of the last instance, or 0.
+    last: i64,
+    // How many instances have started.
+    len: usize,
     room: usize,
+    numbers: Past<i64>,
+    marks: Past<Marks>,
+    traces: Past<Trace>,
     token: Option<FrameToken<M>>,
 }
 
 impl<M> Model for Iteration<M> {
-    ghost use Rattle.std.specs.Prelude.{◌≤◌, vec_capacity};
+    ghost use Rattle.std.specs.Prelude.{◌≡◌, ◌-◌, length, pos, slice_index_or};
     ghost use Rattle.frame_rows.specs.IterationRows.{IterationRow};
 
     ghost Value = { IterationRow M };
 
     ghost view = { λ i. record {
-      numbers = i.numbers.items;
-      marks = i.marks.items;
-      traces = i.traces.items;
+      numbers = i.numbers;
+      marks = i.marks;
+      traces = i.traces;
       status = i.status;
       token = i.token;
       room = i.room;
     } };
 
-    ghost invariant = { λ i. (i.room ≤ vec_capacity i.numbers) × (i.room ≤ vec_capacity i.marks) × (i.room ≤ vec_capacity i.traces) };
+    ghost invariant = { λ i. (i.len ≡ length i.numbers) × (i.last ≡ slice_index_or i.numbers (length i.numbers - 1) (pos 0)) };
 }
 
 impl<M> Iteration<M> {
-    /// Returns the row of an iteration that has not begun. Returns an error only if memory runs out.
-    pub fn new(alloc: Global, room: usize) -> Result<Iteration<M>, AllocError>
-        ensures { IfOk result (λ r. r ≡ empty_row room) }
+    /// Returns the row of an iteration that has not begun.
+    pub fn new(room: usize) -> Iteration<M>
+        ensures { result ≡ empty_row room }
     {
-        Ok(Iteration {
-            numbers: Vec::with_capacity(alloc, room)?,
-            marks: Vec::with_capacity(alloc, room)?,
-            traces: Vec::with_capacity(alloc, room)?,
+        Iteration {
             status: Status::Running,
-            token: None,
+            last: 0,
+            len: 0,
             room,
-        })
+            numbers: Past::new(),
+            marks: Past::new(),
+            traces: Past::new(),
+            token: None,
+        }
     }
 
-    /// Returns for how many instances there is room.
-    pub fn room(&self) -> usize
-        ensures { result ≡ self.now.room }
+    /// Returns how many instances have started.
+    pub fn len(&self) -> usize
+        ensures { result ≡ length self.now.numbers }
     {
-        self.room
-    }
-
-    /// Leaves room for only this many instances.
-    pub fn limit(&mut self, room: usize)
-        requires { room ≤ self.old.room }
-        ensures { self.new ≡ record self.old { room = room } }
-    {
-        self.room = room;
+        self.len
     }
 
     /// Adds an instance, which runs.
     pub fn enter(&mut self, number: i64, marks: Marks)
-        requires numbers { length self.old.numbers < self.old.room }
-        requires marks { length self.old.marks < self.old.room }
+        requires { length self.old.numbers < self.old.room }
         ensures { self.new ≡ with_instance number marks self.old }
     {
-        self.numbers.push_reserved(number);
-        self.marks.push_reserved(marks);
+        self.numbers.note(&number);
+        self.marks.note(&marks);
+        self.len += 1;
+        self.last = number;
         self.status = Status::Running;
     }
 
     /// Adds the trace of the running instance, and sets the status.
     pub fn end(&mut self, trace: Trace, status: Status)
-        requires { length self.old.traces < self.old.room }
         ensures { self.new ≡ with_trace trace status self.old }
     {
-        self.traces.push_reserved(trace);
+        self.traces.note(&trace);
         self.status = status;
     }
 
@@ -98,10 +96,9 @@ impl<M> Iteration<M> {
     pub fn suspend(&mut self, trace: Trace, kind: Kind, number: i64, token: FrameToken<M>)
     where
         M: Drop,
-        requires { length self.old.traces < self.old.room }
         ensures { self.new ≡ suspended_row trace kind number token self.old }
     {
-        self.traces.push_reserved(trace);
+        self.traces.note(&trace);
         self.status = Status::Pending(kind, number);
         self.token = Some(token);
     }
@@ -130,21 +127,6 @@ impl<M> Iteration<M> {
         self.status
     }
 
-    /// Returns the stage numbers of the instances.
-    pub fn numbers(&self) -> &[i64]
-        ensures { result.now ≡ self.now.numbers }
-    {
-        self.numbers.as_slice()
-    }
-
-    /// Returns the marks of an instance.
-    pub fn marks_at(&self, index: usize) -> Marks
-        requires { index < length self.now.marks }
-        ensures { (d : _) → result ≡ slice_index_or self.now.marks index d }
-    {
-        self.marks[index]
-    }
-
     /// Returns whether the token is kept.
     pub fn has_token(&self) -> bool
         ensures { IsTrue result ↔ IsSome self.now.token }
@@ -168,7 +150,7 @@ impl<M> Iteration<M> {
         ensures { result ≡ row_counter self.now.status self.now.numbers }
     {
         match self.status {
-            Status::Running => Counter::At(last_or_zero(self.numbers.as_slice())),
+            Status::Running => Counter::At(self.last),
             Status::Pending(_, number) => Counter::At(number),
             Status::Completed(_) => Counter::Ended,
         }
@@ -179,20 +161,9 @@ impl<M> Iteration<M> {
         ensures { IsTrue result ↔ RowEndedFirst self.now.status self.now.numbers }
     {
         match self.status {
-            Status::Running => self.numbers.len() > 1,
+            Status::Running => self.len > 1,
             Status::Pending(_, _) => true,
             Status::Completed(_) => true,
         }
-    }
-}
-
-// Returns the last number, or 0 if there is none.
-fn last_or_zero(numbers: &[i64]) -> i64
-    ensures { result ≡ slice_index_or numbers.now (length numbers.now - 1) (pos 0) }
-{
-    if numbers.is_empty() {
-        0
-    } else {
-        numbers[numbers.len() - 1]
     }
 }

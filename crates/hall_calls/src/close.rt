@@ -148,7 +148,7 @@ pub fn close<R: Wait, M: Carrier>(
     let HallOf { locks } = hall;
     let HallKey { mut seat } = key;
     let mut book = take_all(rt, &locks, &mut seat, &mut shards);
-    let Locks { table, .. } = locks;
+    let Locks { table } = locks;
     free_table(table, seat);
     learn_all(&mut shards, &mut book);
     raise_stop(&mut book, shards.as_slice());

@@ -164,10 +164,9 @@ fn first_slots<M: Carrier>(
     }
 }
 
-// Opens the table of a hall with these slots, whose workers make rows with this room.
+// Opens the table of a hall with these slots.
 fn open_table<M: Carrier>(
     alloc: Global,
-    row_room: usize,
     slots: Vec<Slot<M>>,
     about: &Opening<M>,
 ) -> Result<(HallOf<M>, HallKey<M>), NoMemory>
@@ -182,11 +181,7 @@ fn open_table<M: Carrier>(
     match Table::new(alloc, &FREE, slots, about) {
         Ok((table, seat)) => Ok((
             HallOf {
-                locks: Locks {
-                    table,
-                    alloc,
-                    row_room,
-                },
+                locks: Locks { table },
             },
             HallKey { seat },
         )),
@@ -221,11 +216,10 @@ pub fn hall_after<M: Carrier>(
         book: Snapshot::of(&book),
         before: Snapshot::of(before),
     };
-    let row_room = book.row_room();
     let slots = first_slots(alloc, book, checked, before, &mut passes);
     drop(passes);
     match slots {
-        Ok(slots) => open_table(alloc, row_room, slots, &opening),
+        Ok(slots) => open_table(alloc, slots, &opening),
         Err(refused) => Err(refused),
     }
 }

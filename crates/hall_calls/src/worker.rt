@@ -1,6 +1,6 @@
 //! The calls of the book, by the seats of workers.
 
-ghost use Rattle.std.specs.Prelude.{◌≡◌, ◌∷◌, ◌++◌, ◌+◌, [], ℕ, Option, None, Some, IfErr, IfOk, IfSome, true};
+ghost use Rattle.std.specs.Prelude.{◌≡◌, ◌∷◌, ◌++◌, ◌+◌, [], ℕ, Option, None, Some, IfSome, true};
 ghost use Rattle.atomic_table.specs.Table.{Me};
 ghost use Rattle.pipe_model.specs.Runs.RunLogs.{state_after};
 ghost use Rattle.pipe_model.specs.Language.Programs.{pipeline_of};
@@ -25,7 +25,6 @@ ghost use Rattle.hall_table.specs.declared.slot.Slot.{Slot as SlotOf};
 
 use atomic_table::Seat;
 use frame_book::book::Book;
-use frame_rows::row::Iteration;
 use hall_table::carrier::Carrier;
 use hall_table::locks::Locks;
 use hall_table::rule::SplitsWorker;
@@ -36,7 +35,6 @@ use heap_value::kept::Kept;
 use om_shared::writer::OmWriter;
 use pipe_frame::results::{Begun, Next, Rescue};
 use pipe_frame::token::FrameToken;
-use pipe_model::memory::NoMemory;
 use pipe_model::stage::StageEnd;
 use pipe_model::ticket::Trace;
 use std::sync::Wait;
@@ -108,43 +106,7 @@ fn return_token<M: Carrier>(
     hall.return_book_and_token(seat, book, token)
 }
 
-// Begins the next iteration, unless memory runs out.
-fn try_begin_at<R: Wait, M: Carrier>(
-    rt: &R,
-    hall: &Locks<M>,
-    seat: &mut Seat<Slot<M>, View>,
-) -> Result<Begun<M>, NoMemory>
-    requires own { seat.old.table_id ≡ hall.now.table.shared.table_id }
-    requires idle { IsIdle seat.old.me }
-    ensures own { seat.new.table_id ≡ seat.old.table_id }
-    ensures idle { StaysIdle seat.old.me seat.new.me }
-    ensures sees { IfOk result (λ begun. Sees seat.old.me.0.it.seen seat.new.me.0.it.seen (begin_events begun)
-        (λ s. BeginReturns (hall_of seat.old.table_id seat.old.me).limit s begun)) }
-    ensures tokens { IfOk result (λ begun. Exchanges (tokens_begun begun) 0 seat.old.me.0.it.tokens seat.new.me.0.it.tokens) }
-    ensures runs { IfOk result (λ begun. IfStarted begun (λ t. IsTokenOf seat.new.me.0.it.seen (fields_of t))) }
-    ensures token { IfOk result (λ begun. IfStarted begun (IsGivenToken M.ready_at M.tie (hall_of seat.old.table_id seat.old.me))) }
-    ensures later { IfErr result (λ _. BeginsWith seat.new.me.0.it.seen seat.old.me.0.it.seen) }
-    ensures unchanged { IfErr result (λ _. seat.new.me.0.it.tokens ≡ seat.old.me.0.it.tokens) }
-{
-    let row = Iteration::new(hall.alloc, hall.row_room)?;
-    let mut book = take_book(rt, hall, seat);
-    let lent = book.get_mut();
-    let Ok(begun) = lent.begin_with(row) else {
-        let _ = lent.entries();
-        hall.return_book(seat, book);
-        return Err(NoMemory);
-    };
-    let _ = lent.entries();
-    match begun {
-        Begun::Started(token) => Ok(Begun::Started(return_token(hall, seat, book, token))),
-        begun => {
-            hall.return_book(seat, book);
-            Ok(begun)
-        }
-    }
-}
-
-/// Begins the next iteration, for a worker with this seat. Stops the run if memory runs out.
+/// Begins the next iteration, for a worker with this seat.
 pub fn begin_at<R: Wait, M: Carrier>(
     rt: &R,
     hall: &Locks<M>,
@@ -160,11 +122,15 @@ pub fn begin_at<R: Wait, M: Carrier>(
     ensures runs { IfStarted result (λ t. IsTokenOf seat.new.me.0.it.seen (fields_of t)) }
     ensures token { IfStarted result (IsGivenToken M.ready_at M.tie (hall_of seat.old.table_id seat.old.me)) }
 {
-    match try_begin_at(rt, hall, seat) {
-        Ok(begun) => begun,
-        Err(NoMemory) => {
-            stop_at(rt, hall, seat);
-            Begun::Stopped
+    let mut book = take_book(rt, hall, seat);
+    let lent = book.get_mut();
+    let begun = lent.begin();
+    let _ = lent.entries();
+    match begun {
+        Begun::Started(token) => Begun::Started(return_token(hall, seat, book, token)),
+        begun => {
+            hall.return_book(seat, book);
+            begun
         }
     }
 }

@@ -31,7 +31,6 @@ use hall_shards::shard::Shard;
 use heap_value::kept::Kept;
 use om_shared::writer::OmWriter;
 use pipe_frame::token::FrameToken;
-use std::alloc::Global;
 use std::sync::Wait;
 use std::thread;
 
@@ -40,10 +39,6 @@ use std::thread;
 pub struct Locks<M: Carrier> {
     /// The table of the locks and of the slots.
     pub table: HallTable<M>,
-    /// What allocates the rows of iterations, before the book is taken.
-    pub alloc: Global,
-    /// For how many instances such a row has room.
-    pub row_room: usize,
     pub ghost sized: { (table.shared.table_id.words ≡ width) × (table.shared.table_id.slots ≡ width) },
 }
 

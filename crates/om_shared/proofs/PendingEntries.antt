@@ -2,10 +2,9 @@
 use Rattle.std.proofs.Common.{◌≡◌, ℕ, zero, suc, ◌+◌, ◌-◌, ◌*◌, ◌%◌, ◌<◌, ◌≤◌, List, [], ◌∷◌, ◌++◌, length, set, slice_index, take}
 use Rattle.std.proofs.Common.{refl, sym, ap, ◌∙◌, subst, arith, inl, inr, length-append, length-set, append_assoc, append-nil}
 use Rattle.std.proofs.lemmas.Bool.{cases_eq, cases_lt}
-use Rattle.std.proofs.lemmas.List.{get_or-append-add, get_or-set_other, get_or-set_same, get_or_past, length-take-le, length_push}
+use Rattle.std.proofs.lemmas.List.{get_or-append-add, get_or-set_other, get_or-set_same, get_or_past, length-take-le}
 use Rattle.std.proofs.lemmas.List.{take_more}
 use Rattle.pipe_model.specs.Orders.OrderList.{IsLog, insert_after, list_of_log}
-use Rattle.run_laws.proofs.ListOrders.InsertionLists.{entries_insert_elements}
 use Rattle.om_relabel.specs.declared.links.Links.{Links}
 use Rattle.om_relabel.specs.LabelledLinks.{AreLabelled, elements}
 use Rattle.om_list.specs.ChosenLabels.{HasChosenLabel}
@@ -15,7 +14,7 @@ use Rattle.om_shared.specs.declared.view.Stage.TheVariants.{Moving, Resting}
 use Rattle.om_shared.specs.Rule.{view}
 use Rattle.om_shared.specs.Seats.{AreLabelsOf, IsBetween, IsResting, IsStored, stage_of}
 use Rattle.om_shared.specs.SharedLists.{HasChosenLabels}
-use Rattle.om_shared.specs.Steps.{SeatState, at_stage, labelling, with_entry}
+use Rattle.om_shared.specs.Steps.{SeatState, at_stage, labelling, with_entries}
 use Rattle.om_shared.proofs.WriterSteps.{after_storing}
 
 -- ---- the seat of the writer
@@ -83,14 +82,14 @@ starts_pending capacity words sequence links pending m m' r none e =
       fits = (omega (arith, even), omega (arith, bounded));
     }
 
--- one entry more is pending
-pub one_more_pending : (capacity words sequence x : ℕ) (links : Links) (pending pending' : List ℕ) (m m' : SeatState)
-    → x ≤ length m.0.log → length m.0.log + 1 < capacity → pending' ≡ pending ++ x ∷ []
-    → m' ≡ (with_entry x m.0.role m.0, m.1)
+-- entries more are pending
+pub more_pending : (capacity words sequence : ℕ) (xs : List ℕ) (links : Links) (pending pending' : List ℕ) (m m' : SeatState)
+    → (IsLog 1 m.0.log → IsLog 1 (m.0.log ++ xs)) → length m.0.log + length xs < capacity → pending' ≡ pending ++ xs
+    → m' ≡ (with_entries xs m.0.role m.0, m.1)
     → IsBetween Moving capacity words sequence links pending m → IsBetween Moving capacity words sequence links pending' m'
-one_more_pending capacity words sequence x links pending pending' m m' there room more e b =
-    let log : m'.0.log ≡ m.0.log ++ x ∷ [] = ap (λ (n : SeatState). n.0.log) e in
-    let long = ap (length {A = ℕ}) log ∙ length_push m.0.log x in
+more_pending capacity words sequence xs links pending pending' m m' valid room more e b =
+    let log : m'.0.log ≡ m.0.log ++ xs = ap (λ (n : SeatState). n.0.log) e in
+    let long = ap (length {A = ℕ}) log ∙ length-append m.0.log xs in
     record {
       labels = b.labels;
       done = b.done;
@@ -101,10 +100,10 @@ one_more_pending capacity words sequence x links pending pending' m m' there roo
         empty = ap (λ (n : SeatState). n.1) e ∙ b.seat.empty;
       };
       agree = b.agree;
-      log = log ∙ (ap (λ (l : List ℕ). l ++ x ∷ []) b.log
-          ∙ (append_assoc b.done pending (x ∷ []) ∙ ap (λ (ps : List ℕ). b.done ++ ps) (sym more)));
+      log = log ∙ (ap (λ (l : List ℕ). l ++ xs) b.log
+          ∙ (append_assoc b.done pending xs ∙ ap (λ (ps : List ℕ). b.done ++ ps) (sym more)));
       kept = b.kept;
-      valid = subst (IsLog 1) (sym log) ((entries_insert_elements m.0.log x).names b.valid (omega (arith, there)));
+      valid = subst (IsLog 1) (sym log) (valid b.valid);
       below = omega (arith, room, long);
       fits = b.fits;
     }

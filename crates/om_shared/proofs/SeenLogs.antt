@@ -23,8 +23,8 @@ longer_order log rest x y ok lx ly =
     longer_logs_keep_the_order log rest x y ok (below.each x (omega (arith, lx))) (below.each y (omega (arith, ly)))
 
 -- a prefix stays one if the log gets longer
-pub prefix_pushed : (log seen : List ℕ) (x : ℕ) → StartsWith log seen → StartsWith (log ++ x ∷ []) seen
-prefix_pushed log seen x p = (p.0 ++ x ∷ [], ap (λ xs. xs ++ x ∷ []) p.1 ∙ append_assoc seen p.0 (x ∷ []))
+pub prefix_extended : (log seen more : List ℕ) → StartsWith log seen → StartsWith (log ++ more) seen
+prefix_extended log seen more p = (p.0 ++ more, ap (λ xs. xs ++ more) p.1 ∙ append_assoc seen p.0 more)
 
 -- of two prefixes of one list the shorter is a prefix of the longer
 shorter_prefix : (log a b : List ℕ) → StartsWith log a → StartsWith log b → length a ≤ length b → StartsWith b a

@@ -1,10 +1,10 @@
 -- The steps of the writer keep the rule.
 use Rattle.std.proofs.Common.{◌≡◌, ◌≢◌, ℕ, suc, ◌+◌, ◌-◌, ◌*◌, ◌%◌, ◌<◌, ◌≤◌, ◌^◌, List, [], ◌∷◌, ◌++◌, length, get_or, set, refl, sym, ap}
-use Rattle.std.proofs.Common.{◌∙◌, subst, arith, le_refl, length-set, length-append, eqb, eq-eqb, get_or-set_other}
+use Rattle.std.proofs.Common.{◌∙◌, subst, arith, le_refl, length-set, length-append, append_assoc, eqb, eq-eqb, get_or-set_other}
 use prog.Atomic.{either}
 use mathlib.Core.Option.{none, some, some-injective}
 use Rattle.atomic_table.specs.Table.{State, step, keeps, Allows}
-use Rattle.pipe_model.specs.Orders.OrderList.{list_of_log}
+use Rattle.pipe_model.specs.Orders.OrderList.{IsLog, list_of_log}
 use Rattle.run_laws.proofs.ListOrders.InsertionLists.{entries_insert_elements, list_has_below}
 use Rattle.om_relabel.proofs.RisingLabels.{rises_same}
 use Rattle.om_shared.specs.declared.view.View.{View}
@@ -14,9 +14,10 @@ use Rattle.om_shared.specs.declared.view.Stage.{Stage}
 use Rattle.om_shared.specs.declared.view.Stage.TheVariants.{Resting, Moving, Settled}
 use Rattle.om_shared.specs.SharedLists.{StartsWith}
 use Rattle.om_shared.specs.Rule.{AreCurrent, AreOfElements, Contents, FitsStage, IsOrdered, Knows, KnowsAs, RiseAlong, label_at, view}
-use Rattle.om_shared.specs.Steps.{SeatState, announced, at_stage, labelling, published, rested, stored, turned_to, with_entry}
+use Rattle.om_shared.specs.Steps.{SeatState, announced, announced_pair, at_stage, labelling, published, rested, stored}
+use Rattle.om_shared.specs.Steps.{turned_to, with_entries}
 use Rattle.om_shared.proofs.KnownSeats.{known, one_view, rewritten}
-use Rattle.om_shared.proofs.SeenLogs.{prefix_pushed}
+use Rattle.om_shared.proofs.SeenLogs.{prefix_extended}
 
 -- the writer may store a sequence number, and is then at a stage
 abbrev pub MayTurn : Stage → (capacity slots id : ℕ) → SeatState → ℕ → Type 0
@@ -33,10 +34,23 @@ abbrev pub MayPublish : (capacity slots id : ℕ) → SeatState → ℕ → ℕ 
 MayPublish capacity slots id m x c =
     Allows (IsOrdered capacity) slots id m 1 (λ n. either (eqb n c) (c + 1) n) (published (step slots 1 c (c + 1) (some x)) m)
 
+-- the writer may announce an insertion after x and one after its element, which have no labels yet, if there are c so far
+abbrev pub MayAnnouncePair : (capacity slots id : ℕ) → SeatState → ℕ → ℕ → Type 0
+MayAnnouncePair capacity slots id m x c =
+    Allows (IsOrdered capacity) slots id m 1 (λ n. either (eqb n c) (c + 2) n) (announced_pair (step slots 1 c (c + 2) (some x)) m)
+
 -- the writer may announce an insertion after x whose element has no label yet, if there are c so far
 abbrev pub MayAnnounce : (capacity slots id : ℕ) → SeatState → ℕ → ℕ → Type 0
 MayAnnounce capacity slots id m x c =
     Allows (IsOrdered capacity) slots id m 1 (λ n. either (eqb n c) (c + 1) n) (announced (step slots 1 c (c + 1) (some x)) m)
+
+-- a log with two more entries, of which the second is after the element of the first
+pub pair_is_log : (log : List ℕ) (x : ℕ) → x ≤ length log → IsLog 1 log → IsLog 1 (log ++ x ∷ (1 + length log) ∷ [])
+pair_is_log log x lx v =
+    let more : length (log ++ x ∷ []) ≡ length log + 1 = length-append log (x ∷ []) in
+    subst (IsLog 1) (append_assoc log (x ∷ []) ((1 + length log) ∷ []))
+    ((entries_insert_elements (log ++ x ∷ []) (1 + length log)).names
+    ((entries_insert_elements log x).names v (omega (arith, lx))) (omega (arith, more)))
 
 module _ (capacity : ℕ) where
   -- what the writer knows of a stage that the rule bounds
@@ -175,69 +189,75 @@ module _ (capacity : ℕ) where
   even_fits Moving sequence count even f = let a = f.0 in absurd (omega (arith, a, even))
   even_fits Settled sequence count even f = f.1
 
-  -- after this step the new element is in the log, and the writer's role is another
-  enters : (slots id : ℕ) (m : SeatState) (x c sequence : ℕ) (labels : List ℕ) (from to : Stage) (role : Role)
+  -- after this step the new entries are in the log, and the writer's role is another
+  enters : (slots id : ℕ) (m : SeatState) (x c n sequence : ℕ) (news : ℕ → List ℕ) (labels : List ℕ) (from to : Stage) (role : Role)
       → m.0.role ≡ Writing from sequence labels → role ≡ Writing to sequence labels
-      → c ≡ length m.0.log → x ≤ length m.0.log → length m.0.log + 1 < capacity
-      → (FitsStage from sequence (length m.0.log) → FitsStage to sequence (length m.0.log + 1))
-      → (sequence % 2 ≡ 0 → RiseAlong labels (m.0.log ++ x ∷ []))
-      → Allows (IsOrdered capacity) slots id m 1 (λ n. either (eqb n c) (c + 1) n)
-      (λ _ m'. (y : ℕ) → some x ≡ some y → m' ≡ (with_entry y role m.0, m.1))
-  enters slots id m x c sequence labels from to role is becomes_role count lx small fits up s r _ have _ =
+      → c ≡ length m.0.log → length (news x) ≡ n → (IsLog 1 m.0.log → IsLog 1 (m.0.log ++ news x)) → length m.0.log + n < capacity
+      → (FitsStage from sequence (length m.0.log) → FitsStage to sequence (length m.0.log + n))
+      → (sequence % 2 ≡ 0 → RiseAlong labels (m.0.log ++ news x))
+      → Allows (IsOrdered capacity) slots id m 1 (λ k. either (eqb k c) (c + n) k)
+      (λ _ m'. (y : ℕ) → some x ≡ some y → m' ≡ (with_entries (news y) role m.0, m.1))
+  enters slots id m x c n sequence news labels from to role is becomes_role count many valid small fits up s r _ have _ =
       let k = known capacity s r id m.0 (Writing from sequence labels) is have in
       let long = ap (λ (l : List ℕ). length l) k.1 in
       let found : ℕ = get_or s.words 1 0 in
       let there : found ≡ c = ap (λ (ws : List ℕ). get_or ws 1 0) r.words ∙ omega (arith, count, long) in
-      let log' : List ℕ = r.now.log ++ x ∷ [] in
-      let more = length-append r.now.log (x ∷ []) in
-      let becomes : either (eqb found c) (c + 1) found ≡ length log' =
-      rw (eq-eqb found c there) (omega (arith, more, count, long)) in
-      let longer : length m.0.log + 1 ≡ length log' = omega (arith, more, long) in
+      let log' : List ℕ = r.now.log ++ news x in
+      let more = length-append r.now.log (news x) in
+      let becomes : either (eqb found c) (c + n) found ≡ length log' =
+      rw (eq-eqb found c there) (omega (arith, more, count, long, many)) in
+      let longer : length m.0.log + n ≡ length log' = omega (arith, more, long, many) in
       let old : FitsStage from sequence (length m.0.log) =
       subst (λ (x : ℕ × List ℕ). FitsStage from x.0 (length x.1)) (λ i. (sym k.3 i, sym k.1 i)) (fits_stage s r from k.2) in
       let now : Contents =
       record { writer = r.now.writer; log = log'; stage = to; sequence = r.now.sequence; labels = r.now.labels } in
-      let log_is : m.0.log ++ x ∷ [] ≡ log' = ap (λ (l : List ℕ). l ++ x ∷ []) k.1 in
-      let knows : KnowsAs now id (m.0.log ++ x ∷ []) role =
-      subst (λ (o : Role). KnowsAs now id (m.0.log ++ x ∷ []) o) (sym becomes_role) (k.0, log_is, refl, k.3, k.4) in
-      let learned = prefix_pushed r.now.log m.0.learned x (r.each id m.0 have).learned in
-      let mine : Knows now id (with_entry x role m.0) = record { learned = learned; role = knows } in (
-        with_entry x role m.0,
+      let log_is : m.0.log ++ news x ≡ log' = ap (λ (l : List ℕ). l ++ news x) k.1 in
+      let knows : KnowsAs now id (m.0.log ++ news x) role =
+      subst (λ (o : Role). KnowsAs now id (m.0.log ++ news x) o) (sym becomes_role) (k.0, log_is, refl, k.3, k.4) in
+      let learned = prefix_extended r.now.log m.0.learned (news x) (r.each id m.0 have).learned in
+      let mine : Knows now id (with_entries (news x) role m.0) = record { learned = learned; role = knows } in (
+        with_entries (news x) role m.0,
         keeps,
         tt,
         record {
           now = now;
-          words = ap (λ (ws : List ℕ). set ws 1 (either (eqb found c) (c + 1) found)) r.words
-              ∙ ap (λ (n : ℕ). r.now.sequence ∷ n ∷ r.now.labels) becomes;
+          words = ap (λ (ws : List ℕ). set ws 1 (either (eqb found c) (c + n) found)) r.words
+              ∙ ap (λ (k : ℕ). r.now.sequence ∷ k ∷ r.now.labels) becomes;
           wide = r.wide;
-          room = omega (arith, more, long, small);
-          valid = (entries_insert_elements r.now.log x).names r.valid (omega (arith, lx, long));
-          fits = subst (λ (n : ℕ × ℕ). FitsStage to n.0 n.1) (λ i. (k.3 i, longer i)) (fits old);
+          room = omega (arith, more, long, small, many);
+          valid = subst (λ (l : List ℕ). IsLog 1 (l ++ news x)) k.1 (valid (subst (IsLog 1) (sym k.1) r.valid));
+          fits = subst (λ (k : ℕ × ℕ). FitsStage to k.0 k.1) (λ i. (k.3 i, longer i)) (fits old);
           rises = λ even. subst (λ (y : List ℕ × List ℕ). RiseAlong y.0 y.1) (λ i. (k.4 i, log_is i))
               (up (ap (λ (n : ℕ). n % 2) k.3 ∙ even));
-          each = one_view (Knows now) s.views id (with_entry x role m.0) mine
-              (λ j d other at. others s r x id k.0 j d other (r.each j d at));
+          each = one_view (Knows now) s.views id (with_entries (news x) role m.0) mine
+              (λ j d other at. others s r (news x) id k.0 j d other (r.each j d at));
         },
-        λ y e. ap (λ (z : ℕ). (with_entry z role m.0, m.1)) (some-injective x y e),
+        λ y e. ap (λ (z : ℕ). (with_entries (news z) role m.0, m.1)) (some-injective x y e),
       )
     where
-      with_log : {s : State ℕ View} (r : IsOrdered capacity s) (x : ℕ) → Contents
-      with_log {s} r x =
-          let log = r.now.log ++ x ∷ [] in
+      with_log : {s : State ℕ View} (r : IsOrdered capacity s) (xs : List ℕ) → Contents
+      with_log {s} r xs =
+          let log = r.now.log ++ xs in
           record { writer = r.now.writer; log = log; stage = to; sequence = r.now.sequence; labels = r.now.labels }
 
-      in_role : (s : State ℕ View) (r : IsOrdered capacity s) (x id : ℕ) → id ≡ r.now.writer
+      in_role : (s : State ℕ View) (r : IsOrdered capacity s) (xs : List ℕ) (id : ℕ) → id ≡ r.now.writer
           → (j : ℕ) (seen : List ℕ) (o : Role)
-          → j ≢ id → KnowsAs r.now j seen o → KnowsAs (with_log r x) j seen o
-      in_role s r x id own j seen (Writing st sq ls) other k = absurd (other (k.0 ∙ sym own))
-      in_role s r x id own j seen Spent other k = tt
-      in_role s r x id own j seen (Asking at ns) other k = (prefix_pushed r.now.log seen x k.0, k.1, k.2, k.3)
+          → j ≢ id → KnowsAs r.now j seen o → KnowsAs (with_log r xs) j seen o
+      in_role s r xs id own j seen (Writing st sq ls) other k = absurd (other (k.0 ∙ sym own))
+      in_role s r xs id own j seen Spent other k = tt
+      in_role s r xs id own j seen (Asking at ns) other k = (prefix_extended r.now.log seen xs k.0, k.1, k.2, k.3)
 
-      others : (s : State ℕ View) (r : IsOrdered capacity s) (x id : ℕ) → id ≡ r.now.writer → (j : ℕ) (d : View)
+      others : (s : State ℕ View) (r : IsOrdered capacity s) (xs : List ℕ) (id : ℕ) → id ≡ r.now.writer → (j : ℕ) (d : View)
           → j ≢ id
-          → Knows r.now j d → Knows (with_log r x) j d
-      others s r x id own j d other k =
-          record { learned = prefix_pushed r.now.log d.learned x k.learned; role = in_role s r x id own j d.log d.role other k.role }
+          → Knows r.now j d → Knows (with_log r xs) j d
+      others s r xs id own j d other k = record {
+        learned = prefix_extended r.now.log d.learned xs k.learned;
+        role = in_role s r xs id own j d.log d.role other k.role;
+      }
+
+  -- a log with one more entry
+  one_more : (log : List ℕ) (x : ℕ) → x ≤ length log → IsLog 1 log → IsLog 1 (log ++ x ∷ [])
+  one_more log x lx v = (entries_insert_elements log x).names v (omega (arith, lx))
 
   -- the element has its label, and the writer rests
   pub publishes : (slots id : ℕ) (m : SeatState) (x c sequence : ℕ) (labels : List ℕ) (stage : Stage)
@@ -246,7 +266,8 @@ module _ (capacity : ℕ) where
       → RiseAlong labels (m.0.log ++ x ∷ [])
       → MayPublish capacity slots id m x c
   publishes slots id m x c sequence labels stage is count even lx small up =
-      enters slots id m x c sequence labels stage Resting (rested m.0.role) is (ap rested is) count lx small
+      enters slots id m x c 1 sequence (λ y. y ∷ []) labels stage Resting (rested m.0.role) is (ap rested is) count refl
+      (one_more m.0.log x lx) small
       (λ f. (let a = even_fits stage sequence (length m.0.log) even f in (even, omega (arith, a)))) (λ _. up)
 
   -- the element has no label yet, and labels move
@@ -255,7 +276,18 @@ module _ (capacity : ℕ) where
       → c ≡ length m.0.log → sequence % 2 ≡ 1 → x ≤ length m.0.log → length m.0.log + 1 < capacity
       → MayAnnounce capacity slots id m x c
   announces slots id m x c sequence labels is count odd lx small =
-      enters slots id m x c sequence labels Moving Moving m.0.role is is count lx small
+      enters slots id m x c 1 sequence (λ y. y ∷ []) labels Moving Moving m.0.role is is count refl (one_more m.0.log x lx) small
+      (λ f. (let a = f.0 in let b = f.1 in (omega (arith, a), omega (arith, b))))
+      (λ even. absurd (omega (arith, odd, even)))
+
+  -- the same of two elements, of which the second is after the first
+  pub announces_pair : (slots id : ℕ) (m : SeatState) (x c sequence : ℕ) (labels : List ℕ)
+      → m.0.role ≡ Writing Moving sequence labels
+      → c ≡ length m.0.log → sequence % 2 ≡ 1 → x ≤ length m.0.log → length m.0.log + 2 < capacity
+      → MayAnnouncePair capacity slots id m x c
+  announces_pair slots id m x c sequence labels is count odd lx small =
+      enters slots id m x c 2 sequence (λ y. y ∷ (1 + length m.0.log) ∷ []) labels Moving Moving m.0.role is is count refl
+      (pair_is_log m.0.log x lx) small
       (λ f. (let a = f.0 in let b = f.1 in (omega (arith, a), omega (arith, b))))
       (λ even. absurd (omega (arith, odd, even)))
 

@@ -1,5 +1,5 @@
 -- What each kind of step gives: the seat before it, the number that it found or stored, and the seat after it.
-use Rattle.std.specs.Prelude.{◌≡◌, ℕ, ◌-◌, ◌%◌, ◌<◌, ◌↔◌, List, [], ◌∷◌, ◌++◌, length, slice_set, nat_le, if◌then◌else◌}
+use Rattle.std.specs.Prelude.{◌≡◌, ℕ, ◌+◌, ◌-◌, ◌%◌, ◌<◌, ◌↔◌, List, [], ◌∷◌, ◌++◌, length, slice_set, nat_le, if◌then◌else◌}
 use mathlib.Core.Option.{some}
 use Rattle.atomic_table.specs.Table.{Me, Step}
 use Rattle.pipe_model.specs.Orders.OrderList.{IsBeforeIn, list_of_log}
@@ -40,9 +40,13 @@ rested (Writing stage sequence labels) = Writing Resting sequence labels
 rested (Asking at notes) = Spent
 rested Spent = Spent
 
--- one more insertion is in the log, and the seat has this role
+-- these insertions are at the end of the log, and the seat has this role
+abbrev pub with_entries : List ℕ → Role → View → View
+with_entries xs role v = view (v.log ++ xs) v.learned role
+
+-- one more insertion is in the log
 abbrev pub with_entry : ℕ → Role → View → View
-with_entry x role v = view (v.log ++ x ∷ []) v.learned role
+with_entry x role v = with_entries (x ∷ []) role v
 
 -- the same, and the writer rests
 abbrev pub with_insertion : ℕ → View → View
@@ -55,6 +59,11 @@ published step m found m' = (x : ℕ) → step.said ≡ some x → m' ≡ (with_
 -- an element is inserted after the one that the step announces, and has no label yet
 abbrev pub announced : Step ℕ → SeatState → ℕ → SeatState → Type 0
 announced step m found m' = (x : ℕ) → step.said ≡ some x → m' ≡ (with_entry x m.0.role m.0, m.1)
+
+-- an element is inserted after the one that the step announces, and another after that; neither has a label yet
+abbrev pub announced_pair : Step ℕ → SeatState → ℕ → SeatState → Type 0
+announced_pair step m found m' = (x : ℕ) → step.said ≡ some x
+    → m' ≡ (with_entries (x ∷ (1 + length m.0.log) ∷ []) m.0.role m.0, m.1)
 
 -- the log that the writer learned of is a prefix of its own
 abbrev pub checked_learned : Step ℕ → SeatState → ℕ → SeatState → Type 0

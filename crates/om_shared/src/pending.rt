@@ -7,7 +7,7 @@ ghost use Rattle.om_shared.specs.Seats.{HasLinkRoom, IsBetween, IsResting, IsSto
 ghost use Rattle.om_shared.specs.SharedLists.{HasChosenLabels};
 ghost use Rattle.om_shared.specs.declared.view.Stage.TheVariants.{Moving};
 
-use crate::rule::{Announce, Settle, StartMoving, StoreLabel};
+use crate::rule::{Announce, AnnouncePair, Settle, StartMoving, StoreLabel};
 use crate::table::{COUNT, HEAD, OrderSeat, OrderWords, SEQUENCE};
 use om_list::insertion::insert_element;
 use om_relabel::links::{Links, MOST_ELEMENTS};
@@ -61,6 +61,37 @@ pub(crate) fn announce_after(
     let entries = links.label.len() as u64 + pending.len() as u64 - 1;
     words.compare_exchange_with::<Announce>(seat, COUNT, entries, entries + 1, &x);
     pending.push_reserved(x);
+    moving
+}
+
+/// Publishes an insertion after `x` and one after its element, in one step; both are pending from now on.
+/// Returns the new sequence number.
+pub(crate) fn announce_pair_after(
+    words: &OrderWords,
+    seat: &mut OrderSeat,
+    links: &Links,
+    pending: &mut Vec<u32>,
+    sequence: u64,
+    x: u32,
+) -> u64
+    requires own { seat.old.table_id ≡ words.now.table_id }
+    requires between { IsBetween (stage_of pending.old.items) words.now.key words.now.table_id.words sequence links.now
+        pending.old.items seat.old.me }
+    requires there { x ≤ length seat.old.me.0.log }
+    requires room { length seat.old.me.0.log + 2 < words.now.key }
+    requires bounded { words.now.key ≤ MOST_ELEMENTS }
+    requires pending_room { words.now.key ≤ vec_capacity pending.old }
+    ensures own { seat.new.table_id ≡ seat.old.table_id }
+    ensures log { seat.new.me.0.log ≡ seat.old.me.0.log ++ x ∷ (1 + length seat.old.me.0.log) ∷ [] }
+    ensures pending { pending.new.items ≡ pending.old.items ++ x ∷ (1 + length seat.old.me.0.log) ∷ [] }
+    ensures pending_room { vec_capacity pending.new ≡ vec_capacity pending.old }
+    ensures moving { IsBetween Moving words.now.key words.now.table_id.words result links.now pending.new.items seat.new.me }
+{
+    let moving = odd_sequence(words, seat, links, pending.as_slice(), sequence);
+    let entries = links.label.len() as u64 + pending.len() as u64 - 1;
+    words.compare_exchange_with::<AnnouncePair>(seat, COUNT, entries, entries + 2, &x);
+    pending.push_reserved(x);
+    pending.push_reserved(entries as u32 + 1);
     moving
 }
 

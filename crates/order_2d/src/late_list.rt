@@ -87,4 +87,9 @@ impl ListWriter for LateList {
         self.pending.push_reserved(x);
         element
     }
+
+    fn insert_pair_after(&mut self, x: u32) -> (u32, u32) {
+        let element = self.insert_after(x);
+        (element, self.insert_after(element))
+    }
 }

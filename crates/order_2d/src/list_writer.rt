@@ -22,6 +22,15 @@ pub trait ListWriter {
         requires room { length (list self.old).log + 1 < (list self.old).capacity }
         ensures element { result ≡ 1 + length (list self.old).log }
         ensures list { list self.new ≡ record (list self.old) { log = (list self.old).log ++ x ∷ [] } };
+
+    /// Inserts a new element right after `x` and another right after that one, as two calls of
+    /// `insert_after` do, and returns the numbers of the two.
+    fn insert_pair_after(&mut self, x: u32) -> (u32, u32)
+        requires there { x ≤ length (list self.old).log }
+        requires room { length (list self.old).log + 2 < (list self.old).capacity }
+        ensures elements { result ≡ (1 + length (list self.old).log, 2 + length (list self.old).log) }
+        ensures list { list self.new
+            ≡ record (list self.old) { log = (list self.old).log ++ x ∷ (1 + length (list self.old).log) ∷ [] } };
 }
 
 impl ListWriter for OmList {
@@ -30,6 +39,11 @@ impl ListWriter for OmList {
     fn insert_after(&mut self, x: u32) -> u32 {
         OmList::insert_after(self, x)
     }
+
+    fn insert_pair_after(&mut self, x: u32) -> (u32, u32) {
+        let element = OmList::insert_after(self, x);
+        (element, OmList::insert_after(self, element))
+    }
 }
 
 impl ListWriter for OmWriter {
@@ -37,5 +51,9 @@ impl ListWriter for OmWriter {
 
     fn insert_after(&mut self, x: u32) -> u32 {
         OmWriter::insert_after(self, x)
+    }
+
+    fn insert_pair_after(&mut self, x: u32) -> (u32, u32) {
+        OmWriter::insert_pair_after(self, x)
     }
 }

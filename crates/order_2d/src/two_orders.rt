@@ -45,10 +45,8 @@ impl<L: ListWriter + Drop> TwoOrders<L> {
         ensures marks { result ≡ marks_after (length self.old.down.log) down_first right_first }
         ensures lists { self.new ≡ with_start self.old down_first right_first }
     {
-        let down_child = self.down.insert_after(down_first);
-        let next_head = self.down.insert_after(down_child);
-        let right_child = self.right.insert_after(right_first);
-        let down_child_last = self.right.insert_after(right_child);
+        let (down_child, next_head) = self.down.insert_pair_after(down_first);
+        let (right_child, down_child_last) = self.right.insert_pair_after(right_first);
         Marks {
             down_first,
             right_first,

@@ -42,13 +42,14 @@ fn runners<B: PlayedCode>(
 // most 262,145.
 const MOST_ELEMENTS: u32 = 524_291;
 
-// Returns two order lists with room for each run. The memory that a run does not use is only reserved.
-fn orders(alloc: Global) -> Result<TwoOrders<InsertionLog>, NoMemory>
-    ensures { IfOk result AreNewOrders }
+// Returns two order lists with room for each run, of which the elements are counted alone.
+fn orders() -> TwoOrders<InsertionLog>
+    ensures { AreNewOrders result }
 {
-    let down = InsertionLog::new(alloc, MOST_ELEMENTS)?;
-    let right = InsertionLog::new(alloc, MOST_ELEMENTS)?;
-    Ok(TwoOrders::new(down, right))
+    TwoOrders::new(
+        InsertionLog::new(MOST_ELEMENTS),
+        InsertionLog::new(MOST_ELEMENTS),
+    )
 }
 
 /// Returns the book of a program and its input without events. At most `throttle` iterations may be
@@ -68,7 +69,7 @@ pub(crate) fn open_book<B: PlayedCode>(
     ensures tree { IfOk result (λ book. tree_of book.program ≡ tree_of checked.now) }
     ensures book { IfOk result (λ book. book ≡ new_book book.program input.now throttle no_lists) }
 {
-    let orders = orders(alloc)?;
+    let orders = orders();
     match runners(alloc, code, throttle) {
         Ok(runners) => Book::new(alloc, checked.program(), input, throttle, runners, orders),
         Err(refused) => {

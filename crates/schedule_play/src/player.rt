@@ -132,8 +132,7 @@ impl<B: PlayedCode> Player<B> {
         ensures keeps { IfOk result (λ u. KeepsProgram self.old self.new) }
     {
         self.running.reserve(1)?;
-        let begun = self.book.begin()?;
-        let Begun::Started(token) = begun else {
+        let Begun::Started(token) = self.book.begin() else {
             unreachable!()
         };
         let iteration = token.iteration;

@@ -1,5 +1,6 @@
 -- Rows that no iteration has used yet.
-use Rattle.std.proofs.Common.{◌≡◌, ℕ, suc, pos, ◌+◌, ◌<◌, ◌≤◌, List, [], ◌∷◌, ◌++◌, length, length-append, map, get_or, refl, ap, ap₂, sym}
+use Rattle.std.proofs.Common.{◌≡◌, ℕ, ℤ, suc, pos, ◌+◌, ◌<◌, ◌≤◌, List, [], ◌∷◌, ◌++◌, length, length-append, map, get_or, refl}
+use Rattle.std.proofs.Common.{ap, ap₂, sym}
 use Rattle.std.proofs.Common.{◌∙◌, arith, subst, true, Some, None, reverse, append_assoc, All, zero, replicate}
 use Rattle.std.proofs.lemmas.List.{length-map, length-reverse, map-append, reverse-append, get_or-append-add}
 use Rattle.std.proofs.Math.Seq.{get_or-append_seam}
@@ -17,7 +18,8 @@ use Rattle.run_laws.proofs.RunStates.Frames.{frame_at_exists}
 use Rattle.frame_book.specs.Rooms.{IsSized, IsPlanned, IsFresh, room_in, rooms_of}
 use Rattle.frame_book.specs.Invariant.{MatchesFrame, pending_nodes}
 use Rattle.frame_rows.specs.IterationRows.{IterationRow, empty_row}
-use Rattle.frame_rows.specs.SpareRows.{spare_rows}
+use Rattle.pipe_model.specs.declared.marks.Marks.{Marks}
+use Rattle.frame_rows.specs.Places.{PlaceTable, spare_rows, with_place}
 use Rattle.frame_rows.specs.Totals.{total}
 use Rattle.frame_rows.proofs.Totals.{total_append, few_of_total}
 
@@ -72,6 +74,11 @@ rows_alike (suc n) s = ap (λ l. empty_row s ∷ l) (rows_alike n s)
 -- the row that is made is the last
 pub row_made : {M : Type 0} → (old new : List ℕ) (n : ℕ) → old ≡ new ++ n ∷ [] → spare_rows {M = M} old ≡ spare_rows new ++ empty_row n ∷ []
 row_made old new n e = ap spare_rows e ∙ map-append empty_row new (n ∷ [])
+
+-- and it stays the last while its instance 0 gets its place
+pub row_placed : {M : Type 0} → (old new placed : PlaceTable) (n at : ℕ) (z : ℤ) (m : Marks) → placed ≡ with_place at z m new
+    → old.spare ≡ new.spare ++ n ∷ [] → spare_rows {M = M} old.spare ≡ spare_rows placed.spare ++ empty_row n ∷ []
+row_placed old new placed n at z m p e = row_made old.spare placed.spare n (e ∙ ap (λ (q : PlaceTable). q.spare ++ n ∷ []) (sym p))
 
 -- the rooms with a spare row taken into use
 module _ {M : Type 0} (rows spare : List (IterationRow M)) (row y : IterationRow M) (same : y.room ≡ row.room) where

@@ -194,13 +194,6 @@ module _ {M : Type 0} {Whole : SyntaxTree → M → Type 0} {ReadyAt : SyntaxTre
       let k : length r.numbers ≡ length f.nodes = ap length row_matches.numbers ∙ length-map f.nodes (λ (z : Node). z.number) in
       omega (arith, here, few, n, e, k)
 
-  pub marks_room : length r.marks < r.room
-  marks_room =
-      let k : length r.numbers ≡ length f.nodes = ap length row_matches.numbers ∙ length-map f.nodes (λ (z : Node). z.number) in
-      let l = row_room in
-      let m = row_matches.marks in
-      omega (arith, k, l, m)
-
   -- the iteration has started fewer than 2^31 instances
   pub few : length f.nodes < 2 ^ 31
   few =
@@ -296,6 +289,13 @@ module _ {M : Type 0} {Whole : SyntaxTree → M → Type 0} {ReadyAt : SyntaxTre
 
     pub index_is : length (nodes_at (own_columns c) i) ≡ suc t.index
     index_is = ap length nodes_are ∙ kept.index
+
+    -- the row has as many instances
+    pub index_here : t.index + 1 ≡ length r.numbers
+    index_here =
+        let k : length r.numbers ≡ length f.nodes = ap length row_matches.numbers ∙ length-map f.nodes (λ (z : Node). z.number) in
+        let e = kept.index in
+        omega (arith, k, e)
 
     -- tickets do not wrap
     pub now_below : t.now < 2 ^ 63
@@ -440,15 +440,17 @@ module _ {M : Type 0} {Whole : SyntaxTree → M → Type 0} {ReadyAt : SyntaxTre
 
       -- tables with its parts are these tables
       pub entered_tables : {rows' seen : List (IterationRow M)} {again y' : IterationRow M} {marks' : Marks} {number' : ℤ}
-          {orders' : OrderPair} {ledger' : Ledger} → rows' ≡ set b.rows i y' → y' ≡ with_instance number' marks' again → again ≡ r0
+          {orders' : OrderPair} {ledger' : Ledger}
+          {spare' : List (IterationRow M)} → spare' ≡ b.spare → rows' ≡ set b.rows i y'
+          → y' ≡ with_instance number' marks' again → again ≡ r0
           → number' ≡ may.number → seen ≡ rows
           → marks' ≡ marks_after (length b.orders.down.log) (down_taken (Some (marks_at seen i t.index)) (left_marks seen i left))
           (right_taken (Some (marks_at seen i t.index)) (left_marks seen i left))
           → orders' ≡ with_start b.orders (down_taken (Some (marks_at seen i t.index)) (left_marks seen i left))
           (right_taken (Some (marks_at seen i t.index)) (left_marks seen i left))
           → ledger' ≡ record { log = with_events b.ledger.log t.now (Enter i ∷ []); room = b.ledger.room }
-          → record b { rows = rows'; orders = orders'; ledger = ledger' } ≡ with_enter
-      entered_tables er ey ea en es ek eo el = rw (er, ey, ek, ea, en, es, eo, es, el) refl
+          → record b { rows = rows'; spare = spare'; orders = orders'; ledger = ledger' } ≡ with_enter
+      entered_tables ep er ey ea en es ek eo el = rw (ep, er, ey, ek, ea, en, es, eo, es, el) refl
 
       new_row_matches : IsRowOf (not c.stopped) (u f) y
       new_row_matches = subst (λ g. IsRowOf (not c.stopped) g y) (sym entered) (record {

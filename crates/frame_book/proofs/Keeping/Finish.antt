@@ -396,14 +396,6 @@ module _ {M : Type 0} (Whole : SyntaxTree → M → Type 0) (ReadyAt : SyntaxTre
             ∙ ap length (sym (get_or-set_other traces t.iteration j (get_or traces t.iteration [] ++ trace ∷ []) [] m)))
       ]
 
-  -- there is room for the trace
-  pub trace_room : length r.traces < r.room
-  trace_room =
-      let old : suc (length r.traces) ≡ length f.nodes = subst (λ w. HasTraceCount w (length r.traces) (length f.nodes))
-      out.token.running.runs (row_matches.traces (inr none)) in
-      let fits = row_matches.fits in
-      omega (arith, old, fits)
-
   -- a payload is out
   pub pool_room : length b.pool.home < b.pool.size
   pool_room = let a = alive_drop c.frames t.iteration f u out.token.running.is (ap alive_one out.token.running.runs) refl in

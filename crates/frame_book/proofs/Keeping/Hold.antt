@@ -17,7 +17,7 @@ use Rattle.pipe_frame.specs.TokenFields.{fields_of}
 use Rattle.pipe_frame.specs.declared.token.FrameToken.{FrameToken}
 use Rattle.frame_book.specs.BookStates.{events_of, actions_at, pipeline_in, made, timed_access, Kept}
 use Rattle.frame_book.specs.Invariant.{IsBook, HasActions, MatchesFrame, actions_in}
-use Rattle.frame_rows.specs.RowsOfFrames.{IsRowOf, IsUnheld, HasTraceCount, TokenFits, token_at, no_marks}
+use Rattle.frame_rows.specs.RowsOfFrames.{IsRowOf, IsUnheld, TokenFits, token_at, no_marks}
 use Rattle.frame_rows.specs.IterationRows.{IterationRow, row_at}
 use Rattle.frame_book.specs.CallEffects.{with_held}
 use Rattle.frame_book.specs.Tables.{Tables, book_state, token_state_of}
@@ -130,14 +130,6 @@ module _ {M : Type 0} (Whole : SyntaxTree → M → Type 0) (ReadyAt : SyntaxTre
     unheld_not : (s : Bool) → s ≡ true → IsUnheld s (Some t) → ⊥
     unheld_not s e (inl q) = (let z : true ≡ false = sym e ∙ q in absurd (cc))
     unheld_not s e (inr q) = absurd (cc)
-
-    -- there is room for the trace
-    pub trace_room : length r.traces < r.room
-    trace_room =
-        let old : suc (length r.traces) ≡ length f.nodes = subst (λ w. HasTraceCount w (length r.traces) (length f.nodes))
-        out.token.running.runs (row_matches.traces (inr none)) in
-        let fits = row_matches.fits in
-        omega (arith, old, fits)
 
     pub hold_keeps : IsBook Whole ReadyAt tie tables_held
     hold_keeps = record {

@@ -411,14 +411,6 @@ module _ {M : Type 0} (Whole : SyntaxTree → M → Type 0) (ReadyAt : SyntaxTre
               ∙ ap length (sym (get_or-set_other traces t.iteration j (get_or traces t.iteration [] ++ trace ∷ []) [] m)))
         ]
 
-    -- there is room for the trace
-    pub trace_room : length r.traces < r.room
-    trace_room =
-        let old : suc (length r.traces) ≡ length f.nodes = subst (λ w. HasTraceCount w (length r.traces) (length f.nodes))
-        out.token.running.runs (row_matches.traces (inr none)) in
-        let fits = row_matches.fits in
-        omega (arith, old, fits)
-
     -- what contracts see
     pub name_view : book_state with_name ≡ with_named (book_state b) (fields_of t) (Advance t.iteration k n) trace
     name_view =

@@ -87,10 +87,11 @@ returns-clause-alive g c =
     let k = (goal.at.returns-clause-alive g c).After-new in
     (c.in_ok-alive.ensures.items, c.in_ok-alive.ensures.exact ∙ ap (λ n. n + 1) (iterations_are g k))
 
-pub returns-clause-spare : goal.returns-clause-spare
-returns-clause-spare g c =
-    let k = (goal.at.returns-clause-spare g c).After-new in
-    c.new-2.ensures ∙ ap₂ (λ k z. 1 ∷ replicate k z) (iterations_are g k) (stages_are g k)
+pub returns-clause-places : goal.returns-clause-places
+returns-clause-places g c =
+    let k = (goal.at.returns-clause-places g c).After-new in
+    c.in_ok-places.ensures
+    ∙ ap₂ (λ k z. record { numbers = []; marks = []; stages = z; spare = 1 ∷ replicate k z }) (iterations_are g k) (stages_are g k)
 
 pub returns-clause-ledger : goal.returns-clause-ledger
 returns-clause-ledger g c =

@@ -1,7 +1,8 @@
 -- The insertion is the last entry of the log.
 use Rattle.std.proofs.Common.{ℕ, ◌-◌, ◌+◌, ◌++◌, ◌∷◌, [], ◌∙◌, List, length, length-append, refl, ap, sym, arith}
-use Rattle.om_shared.proofs.PendingEntries.{one_more_pending}
+use Rattle.om_shared.proofs.PendingEntries.{more_pending}
 use Rattle.om_shared.proofs.WriterSteps.{announces}
+use Rattle.run_laws.proofs.ListOrders.InsertionLists.{entries_insert_elements}
 use Rattle.om_shared.proofs.pending.announce_after.Goals as goal
 
 pub compare_exchange_with-requires : goal.compare_exchange_with-requires
@@ -33,7 +34,10 @@ returns-clause-moving c =
     let long = ap (length {A = ℕ}) e.log in
     let there = r.there in
     let room = r.room in
-    one_more_pending _ _ _ c.args.x c.args.links.now c.as_slice.result.now c.push_reserved.new.self.items
-    c.odd_sequence-moving.new.seat.me c.compare_exchange_with.new.seat.me (omega (arith, there, long)) (omega (arith, room, long))
+    more_pending _ _ _ (c.args.x ∷ []) c.args.links.now c.as_slice.result.now c.push_reserved.new.self.items
+    c.odd_sequence-moving.new.seat.me c.compare_exchange_with.new.seat.me
+    (λ v. (entries_insert_elements c.odd_sequence-moving.new.seat.me.0.log c.args.x).names v
+    (omega (arith, there, long)))
+    (omega (arith, room, long))
     (c.push_reserved.ensures.items ∙ ap (λ (xs : List ℕ). xs ++ c.args.x ∷ []) (sym c.as_slice.ensures.value))
     (c.compare_exchange_with.ensures.2 c.args.x refl) e.moving

@@ -22,13 +22,13 @@ new-requires-clause-whole g c = λ k d less.
     let code = g.B.PlayedCode.code in
     let cells = g.B.PlayedCode.cells in
     let machine = (get_or c.in-Ok.runners.items k d).machine in
-    let lists = c.in_ok-orders.ensures.down.identity in (
+    let lists = c.orders-orders.ensures.down.identity in (
       subst (λ (p : Program). CanRun code cells (tree_of p) machine) (sym c.program.ensures.program) (record {
         code_of = subst (λ (x : FlatCode). IsCodeOf (tree_of c.args.checked.now) x) c.requires.code c.requires.code_of;
         made = c.in-Ok.ensures.made k d less;
         served = c.requires.served;
       }),
-      subst (λ (l : List ℕ). BelongsTo no_tie (record { down = l; right = c.in_ok-orders.orders.right.identity })) (sym lists) tt,
+      subst (λ (l : List ℕ). BelongsTo no_tie (record { down = l; right = c.orders-orders.result.right.identity })) (sym lists) tt,
     )
 
 pub new-requires-clause-room : goal.new-requires-clause-room
@@ -38,8 +38,8 @@ new-requires-clause-room g c =
     let bounded = planned.bounded in
     let same : most_instances (tree_of c.program.result.now) ≡ most_instances (tree_of c.args.checked.now) =
     ap (λ (p : Program). most_instances (tree_of p)) c.program.ensures.program in
-    let down = c.in_ok-orders.ensures.down.capacity in
-    let right = c.in_ok-orders.ensures.right.capacity in
+    let down = c.orders-orders.ensures.down.capacity in
+    let right = c.orders-orders.ensures.right.capacity in
     (omega (arith, bounded, same, down), omega (arith, bounded, same, right))
 
 pub returns-in-Ok-clause-tree : goal.returns-in-Ok-clause-tree
@@ -48,6 +48,6 @@ returns-in-Ok-clause-tree g c =
 
 pub returns-in-Ok-clause-book : goal.returns-in-Ok-clause-book
 returns-in-Ok-clause-book g c =
-    let lists = ap₂ (λ a b. record { down = a; right = b }) c.in_ok-orders.ensures.down.identity c.in_ok-orders.ensures.right.identity in
+    let lists = ap₂ (λ a b. record { down = a; right = b }) c.orders-orders.ensures.down.identity c.orders-orders.ensures.right.identity in
     subst (λ (l : ListIdentities). IfOk c.new.result (λ book. book ≡ new_book book.program c.args.input.now c.args.throttle l)) lists
     c.new.ensures.book

@@ -8,4 +8,5 @@ invariant_of-self g c = (
   subst (λ o. IsBook g.M.Stands.whole g.M.Stands.ready_at g.M.Stands.tie (record (tables_of c.self.inside) { orders = o }))
       (sym c.settle.ensures.unchanged) c.self.invariant.0,
   c.self.invariant.1,
+  c.self.invariant.2,
 )

@@ -9,7 +9,7 @@ use Rattle.frame_book.specs.BookTables.{tables_of}
 use Rattle.frame_book.specs.Tables.{book_state}
 use Rattle.frame_rows.proofs.FrameRows.{rows_length}
 use Rattle.frame_book.proofs.Iterations.SpareRows.{few_rows}
-use Rattle.frame_rows.specs.SpareRows.{spare_rows}
+use Rattle.frame_rows.specs.Places.{spare_rows}
 use Rattle.frame_book.proofs.book.Book.check_right.Goals as goal
 
 pub returns-then-iteration-len-clause-returned : goal.returns-then-iteration-len-clause-returned
@@ -26,7 +26,7 @@ returns-then-iteration-len-clause-returned g c = inr (λ m.
 pub overflow_add-iteration-2 : goal.overflow_add-iteration-2
 overflow_add-iteration-2 g c =
     let a = few_rows (pipeline_of (tree_of c.self.inside.program) c.self.inside.input) c.self.inside.rows.items (spare_rows
-    c.self.inside.spare) _
+    c.self.inside.places.spare) _
     _ _ c.self.invariant.0.sized in
     let z = c.self.invariant.0.sized.bounded in
     let l : length c.self.inside.rows.items < 2 ^ 31 = omega (arith, a, z) in

@@ -11,4 +11,5 @@ invariant_of-self g c = (
     room = (let room = c.self.invariant.1.room in let few = c.drop_ended.ensures.length in
         let same = c.drop_ended.ensures.capacity in omega (arith, room, few, same));
   },
+  c.self.invariant.2,
 )

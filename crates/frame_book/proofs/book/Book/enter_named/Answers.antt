@@ -1,5 +1,5 @@
 use mir.Val.{SFits}
-use Rattle.std.proofs.Common.{◌≡◌, ◌<◌, ◌+◌, ◌^◌, arith, length, set, ap, sym, subst, ◌∙◌, false, Some, None, w64, rules}
+use Rattle.std.proofs.Common.{◌≡◌, ℕ, ℤ, List, ◌<◌, ◌+◌, ◌^◌, arith, length, set, refl, ap, sym, subst, ◌∙◌, false, Some, None, w64, rules}
 use Rattle.std.proofs.Common.{to_z, of_z}
 use Rattle.std.proofs.lemmas.Grind.{common_steps}
 use Rattle.std.proofs.lemmas.Int.{to_z-of_z}
@@ -13,13 +13,17 @@ use Rattle.frame_book.specs.GivenTokens.{IsGivenBy}
 use Rattle.frame_book.specs.Invariant.{IsBook}
 use Rattle.frame_book.specs.Tables.{Tables, book_state}
 use Rattle.frame_book.specs.BookTables.{tables_of}
-use Rattle.frame_rows.specs.IterationRows.{IterationRow, left_numbers, marks_at, left_marks}
+use Rattle.pipe_model.specs.declared.marks.Marks.{Marks}
+use Rattle.frame_rows.specs.Places.{HoldsRows, PlaceTable, place_of, spare_rows, with_place}
+use Rattle.frame_rows.specs.IterationRows.{IterationRow, row_at, with_instance, left_numbers, marks_at, left_marks}
 use Rattle.frame_book.specs.CallEffects.{seen_whole, with_entered}
-use Rattle.frame_book.proofs.Keeping.Enter.{Enters, Finds, enters, may_within, named, rows, at_home, status_is, row_room, marks_room}
+use Rattle.frame_book.proofs.Keeping.Enter.{Enters, Finds, enters, may_within, named, rows, at_home, status_is, row_room}
 use Rattle.frame_book.proofs.Keeping.Enter.{few, room, searchable, kept, index_is, now_below, up_marks, left_has_marks, placed}
-use Rattle.frame_book.proofs.Keeping.Enter.{enter_keeps, enter_view, entered_tables, folded_was, enter_given}
+use Rattle.frame_book.proofs.Keeping.Enter.{enter_keeps, enter_view, entered_tables, folded_was, enter_given, index_here}
 use Rattle.frame_book.proofs.Keeping.Stop.{log_room, last_below}
 use Rattle.frame_rows.proofs.AliveRows.{alive_set}
+use Rattle.frame_rows.proofs.FrameRows.{row_at_within}
+use Rattle.frame_rows.proofs.PlacedRows.{place_free, places_entered, places_same, row_at_set}
 use Rattle.frame_book.specs.TicketLog.{Ledger}
 use Rattle.frame_book.proofs.BookLogs.LogEntries.{last_ticket_with}
 use Rattle.frame_book.proofs.book.Book.enter_named.Given.{Over}
@@ -135,15 +139,58 @@ pub index_mut-row-requires-2 : goal.index_mut-row-requires-2
 index_mut-row-requires-2 g c =
     let l = may_within c.self.invariant.0 c.self.view_is c.requires.may in grind (arith, common_steps)
 
-pub enter-requires-clause-numbers : goal.enter-requires-clause-numbers
-enter-requires-clause-numbers g c =
+pub enter-requires : goal.enter-requires
+enter-requires g c =
     subst (λ (z : IterationRow _). length z.numbers < z.room) (sym (row_is g c))
-    (row_room c.self.invariant.0 (entry g (goal.at.enter-requires-clause-numbers g c).After-as_slice-2))
+    (row_room c.self.invariant.0 (entry g (goal.at.enter-requires g c).After-as_slice-2))
 
-pub enter-requires-clause-marks : goal.enter-requires-clause-marks
-enter-requires-clause-marks g c =
-    subst (λ (z : IterationRow _). length z.marks < z.room) (sym (row_is g c))
-    (marks_room c.self.invariant.0 (entry g (goal.at.enter-requires-clause-marks g c).After-as_slice-2))
+pub left_place-left-requires-clause-holds : goal.left_place-left-requires-clause-holds
+left_place-left-requires-clause-holds g c =
+    let x = enters c.self.invariant.0 c.self.view_is c.requires.may c.requires.going c.index_mut-row.ensures.value in
+    rw c.as_slice.ensures.value
+    (places_same _ _ c.args.iteration c.index_mut-row.result.now _ _ x.at_row c.take_token.ensures.row refl refl refl c.self.invariant.2)
+
+pub start_below-marks-requires-clause-holds : goal.start_below-marks-requires-clause-holds
+start_below-marks-requires-clause-holds g c =
+    let x = enters c.self.invariant.0 c.self.view_is c.requires.may c.requires.going c.index_mut-row.ensures.value in
+    rw c.as_slice-2.ensures.value
+    (places_same _ _ c.args.iteration c.index_mut-row.result.now _ _ x.at_row c.take_token.ensures.row refl refl refl c.self.invariant.2)
+
+-- no spare row is taken
+spare_kept : {M : Type 0} → (old new : PlaceTable) (at : ℕ) (z : ℤ) (m : Marks) → new ≡ with_place at z m old
+    → spare_rows {M = M} new.spare ≡ spare_rows old.spare
+spare_kept old new at z m e = ap (λ (p : PlaceTable). spare_rows p.spare) e
+
+-- the place of the instance
+place_is : (g : Over) (c : After-as_slice-2 g) → c.in-Some.token.index + 1 ≡ length c.index_mut-row.result.now.numbers
+place_is g c = index_here c.self.invariant.0 (entry g c) (held g c)
+
+pub put-requires-clause-numbers : goal.put-requires-clause-numbers
+put-requires-clause-numbers g c =
+    let k = (goal.at.put-requires-clause-numbers g c).After-as_slice-2 in
+    let room = row_room c.self.invariant.0 (entry g k) in
+    let e = place_is g k in
+    (place_free c.self.inside.rows.items c.self.inside.places c.args.iteration (c.in-Some.token.index + 1) c.index_mut-row.result.now
+    c.self.invariant.2 (entry g k).at_row (omega (arith, room, e))).0
+
+pub put-requires-clause-marks : goal.put-requires-clause-marks
+put-requires-clause-marks g c =
+    let k = (goal.at.put-requires-clause-marks g c).After-as_slice-2 in
+    let room = row_room c.self.invariant.0 (entry g k) in
+    let e = place_is g k in
+    (place_free c.self.inside.rows.items c.self.inside.places c.args.iteration (c.in-Some.token.index + 1) c.index_mut-row.result.now
+    c.self.invariant.2 (entry g k).at_row (omega (arith, room, e))).1
+
+-- the places after the start
+places_hold : {M : Type 0} → (rows : List (IterationRow M)) (p q : PlaceTable) (i k : ℕ) (r taken again y : IterationRow M) (n : ℤ)
+    (m : Marks) → row_at rows i ≡ Some r → taken ≡ record r { token = None } → again ≡ taken → y ≡ with_instance n m again
+    → k ≡ length r.numbers → length r.numbers < r.room → q ≡ with_place (place_of p i k) n m p → HoldsRows rows p
+    → HoldsRows (set (set rows i taken) i y) q
+places_hold {M} rows p q i k r taken again y n m at et ea ey ek free eq h =
+    let t : IterationRow M = record r { token = None } in
+    let there = row_at_set rows i t (row_at_within rows i r at) in
+    let held = places_entered (set rows i t) p i t n m there free (places_same rows p i r t t at refl refl refl refl h) in
+    rw (ey, ea, et, eq, ek) held
 
 pub invariant_of-self : goal.invariant_of-self
 invariant_of-self g c =
@@ -151,19 +198,30 @@ invariant_of-self g c =
     let x = entry g k in (
       subst (IsBook g.M.Stands.whole g.M.Stands.ready_at g.M.Stands.tie)
           (sym (entered_tables c.self.invariant.0 (entry g k) (held g k) (found g k)
+          (spare_kept c.self.inside.places c.put.new.self _ _ _ c.put.ensures)
           (set-set c.self.inside.rows.items c.args.iteration c.take_token.new.self c.enter.new.self) c.enter.ensures
           (row_is g (goal.at.invariant_of-self g c).After-index_mut-row-2) (number_is g k) (rows_are g k) c.start_below-marks.ensures.marks
           c.start_below-marks.ensures.lists c.stamp.ensures.log))
           (enter_keeps c.self.invariant.0 x (held g k) (found g k)),
-      rw (set-set c.self.inside.rows.items c.args.iteration c.take_token.new.self c.enter.new.self)
+      rw (
+        set-set c.self.inside.rows.items c.args.iteration c.take_token.new.self c.enter.new.self,
+        spare_kept {M = g.row.M.Denot} c.self.inside.places c.put.new.self _ _ _ c.put.ensures,
+      )
           (alive_set c.self.inside.rows.items _ c.args.iteration c.index_mut-row.result.now _ _ _ x.at_row
           (ap is_completed (status_is c.self.invariant.0 x)) c.self.invariant.1),
+      places_hold c.self.inside.rows.items c.self.inside.places c.put.new.self c.args.iteration (c.in-Some.token.index + 1)
+          c.index_mut-row.result.now c.take_token.new.self c.index_mut-row-2.result.now c.enter.new.self _ _ x.at_row
+          c.take_token.ensures.row
+          (c.index_mut-row-2.ensures.value ∙ get_or-set_same c.self.inside.rows.items c.args.iteration c.take_token.new.self
+          c.index_mut-row-2.result.now (may_within c.self.invariant.0 c.self.view_is c.requires.may))
+          c.enter.ensures (place_is g k) (row_room c.self.invariant.0 x) c.put.ensures c.self.invariant.2,
     )
 
 pub returns-clause-book : goal.returns-clause-book
 returns-clause-book g c =
     let k = (goal.at.returns-clause-book g c).After-as_slice-2 in
     ap book_state (entered_tables c.self.invariant.0 (entry g k) (held g k) (found g k)
+    (spare_kept c.self.inside.places c.put.new.self _ _ _ c.put.ensures)
     (set-set c.self.inside.rows.items c.args.iteration c.take_token.new.self c.enter.new.self) c.enter.ensures
     (row_is g (goal.at.returns-clause-book g c).After-index_mut-row-2) (number_is g k) (rows_are g k) c.start_below-marks.ensures.marks
     c.start_below-marks.ensures.lists c.stamp.ensures.log)
@@ -196,6 +254,7 @@ returns-clause-token g c =
       marks = c.start_below-marks.result;
       payload = c.start_below-marks.new.payload;
     })) (sym (entered_tables c.self.invariant.0 (entry g k) (held g k) (found g k)
+    (spare_kept c.self.inside.places c.put.new.self _ _ _ c.put.ensures)
     (set-set c.self.inside.rows.items c.args.iteration c.take_token.new.self c.enter.new.self) c.enter.ensures
     (row_is g (goal.at.returns-clause-token g c).After-index_mut-row-2) (number_is g k) (rows_are g k) c.start_below-marks.ensures.marks
     c.start_below-marks.ensures.lists c.stamp.ensures.log))

@@ -166,12 +166,12 @@ overflow_add-self g c =
 pub invariant_of-self : goal.invariant_of-self
 invariant_of-self g c =
     let k = (goal.at.invariant_of-self g c).After-count_of in
-    (more_reads c.self-2.invariant.0 _ (reads_fit g k c.self-2.view_is), c.self-2.invariant.1)
+    (more_reads c.self-2.invariant.0 _ (reads_fit g k c.self-2.view_is), c.self-2.invariant.1, c.self-2.invariant.2)
 
 pub invariant_of-self-else-enters : goal.invariant_of-self-else-enters
 invariant_of-self-else-enters g c =
     let k = (goal.at.invariant_of-self-else-enters g c).After-count_of in
-    (more_reads c.self-2.invariant.0 _ (reads_fit g k c.self-2.view_is), c.self-2.invariant.1)
+    (more_reads c.self-2.invariant.0 _ (reads_fit g k c.self-2.view_is), c.self-2.invariant.1, c.self-2.invariant.2)
 
 pub enter_named-requires-clause-going : goal.enter_named-requires-clause-going
 enter_named-requires-clause-going g c =

@@ -1,4 +1,4 @@
-use Rattle.std.proofs.Common.{sym, subst, ◌<◌, length, arith}
+use Rattle.std.proofs.Common.{sym, subst, ◌<◌, length, arith, refl}
 use Rattle.pipe_frame.specs.TokenFields.{fields_of}
 use Rattle.frame_book.specs.BookStates.{replies_at}
 use Rattle.frame_book.specs.BookTables.{tables_of}
@@ -6,6 +6,7 @@ use Rattle.frame_book.specs.GivenTokens.{IsOutOf, IsPayloadOf}
 use Rattle.frame_book.proofs.Keeping.LeaveReady.{ready_keeps, ready_view, out_row_read, out_within}
 use Rattle.frame_book.proofs.Iterations.OutRows.{alive_out}
 use Rattle.std.proofs.lemmas.Grind.{common_steps}
+use Rattle.frame_rows.proofs.PlacedRows.{places_same}
 use Rattle.frame_book.proofs.book.Book.leave_ready.Goals as goal
 
 pub index_mut-requires : goal.index_mut-requires
@@ -26,6 +27,7 @@ invariant_of-self g c =
           c.self.invariant.0 at out pay c.requires.knows,
       alive_out c.self.inside.rows.items _ t.iteration c.index_mut.result.now _ _ _ at
           out.out c.self.invariant.1,
+      places_same _ _ t.iteration c.index_mut.result.now _ _ at refl refl refl refl c.self.invariant.2,
     )
 
 pub returns : goal.returns

@@ -1,4 +1,4 @@
-use Rattle.std.proofs.Common.{arith}
+use Rattle.std.proofs.Common.{arith, refl}
 use Rattle.std.proofs.lemmas.List.{length-replicate}
 use Rattle.std.specs.Prelude.{vec_capacity}
 use Rattle.pipe_model.specs.Language.Programs.{natural}
@@ -6,6 +6,7 @@ use Rattle.frame_rows.specs.IterationRows.{empty_row}
 use Rattle.frame_book.proofs.Iterations.SpareRows.{rows_alike}
 use Rattle.frame_book.proofs.Keeping.New.{new_keeps}
 use Rattle.frame_rows.proofs.AliveRows.{alive_none}
+use Rattle.frame_rows.proofs.PlacedRows.{places_none}
 use Rattle.frame_book.proofs.book.Book.opened.Goals as goal
 
 pub invariant_of-result : goal.invariant_of-result
@@ -18,7 +19,7 @@ invariant_of-result g c =
     rw (
       c.in-Ok.ensures.rows.0,
       c.in-Ok.ensures.alive.0,
-      c.in-Ok.ensures.spare,
+      c.in-Ok.ensures.places,
       rows_alike {M = g.row.M.Denot} (natural i) (natural s),
       c.in-Ok.ensures.ledger,
       c.new.ensures,
@@ -29,4 +30,5 @@ invariant_of-result g c =
           c.args.orders c.requires.whole c.requires.started.0 c.requires.started.1 c.requires.room.0 c.requires.room.1
           (vec_capacity c.in-Ok.rooms.rows) (omega (arith, rows)),
       alive_none _ _ (omega (arith, wide, long)),
+      places_none _ refl refl,
     )

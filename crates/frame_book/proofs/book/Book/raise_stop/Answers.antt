@@ -12,6 +12,7 @@ invariant_of-self g c =
       raise_keeps g.M.Stands.whole g.M.Stands.ready_at g.M.Stands.tie
           (tables_of c.self.inside) c.self.invariant.0 c.args.least least some,
       c.self.invariant.1,
+      c.self.invariant.2,
     )
 
 pub raise_last-requires : goal.raise_last-requires

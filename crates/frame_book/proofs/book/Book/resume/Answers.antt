@@ -1,4 +1,4 @@
-use Rattle.std.proofs.Common.{[], ◌∷◌, ◌≡◌, arith, ap, sym, subst, ◌∙◌}
+use Rattle.std.proofs.Common.{[], ◌∷◌, ◌≡◌, arith, refl, ap, sym, subst, ◌∙◌}
 use Rattle.std.proofs.lemmas.Grind.{common_steps}
 use Rattle.pipe_model.specs.Runs.State.{frame_at, is_completed}
 use Rattle.pipe_frame.specs.CallResults.{pending_events, resume_events}
@@ -16,7 +16,8 @@ use Rattle.frame_book.proofs.Keeping.Resume.{set_itself, can_run, can_enter, can
 use Rattle.frame_book.proofs.Keeping.Resume.{kept, resume_keeps, resume_view, resume_given, resume_beside, resume_folded}
 use Rattle.frame_rows.proofs.ChangedRows.{map_at}
 use Rattle.frame_rows.proofs.AliveRows.{alive_set}
-use Rattle.frame_rows.specs.SpareRows.{spare_rows}
+use Rattle.frame_rows.specs.Places.{HoldsRows, spare_rows}
+use Rattle.frame_rows.proofs.PlacedRows.{places_same}
 use Rattle.frame_book.proofs.book.Book.resume.Goals as goal
 
 pub index_mut-row-requires : goal.index_mut-row-requires
@@ -42,6 +43,7 @@ invariant_of-self g c =
       resume_keeps c.self.invariant.0 x ran (sym c.take_token.ensures.token ∙ c.in-Some.is),
       alive_set
           c.self.inside.rows.items _ i c.index_mut-row.result.now _ _ _ x.at_row (ap is_completed ran) c.self.invariant.1,
+      places_same _ _ i c.index_mut-row.result.now _ _ x.at_row refl refl refl refl c.self.invariant.2,
     )
 
 pub enter_named-requires-clause-may : goal.enter_named-requires-clause-may
@@ -122,6 +124,7 @@ invariant_of-self-in-Pending g c =
     let same = sym (set_itself c.self.inside.rows.items i c.index_mut-row.result.now x.at_row) in (
       subst (λ rs. IsBook g.M.Stands.whole g.M.Stands.ready_at g.M.Stands.tie (record (tables_of c.self.inside) { rows = rs })) same
           c.self.invariant.0,
-      subst (λ rs. HasAliveList rs (spare_rows c.self.inside.spare) c.self.inside.alive.items (vec_capacity c.self.inside.alive)) same
-          c.self.invariant.1,
+      subst (λ rs. HasAliveList rs (spare_rows c.self.inside.places.spare) c.self.inside.alive.items (vec_capacity c.self.inside.alive))
+          same c.self.invariant.1,
+      subst (λ rs. HoldsRows rs c.self.inside.places) same c.self.invariant.2,
     )

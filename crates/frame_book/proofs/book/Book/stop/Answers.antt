@@ -12,4 +12,5 @@ invariant_of-self g c = rw c.stamp.ensures.log (
   stop_keeps g.M.Stands.whole g.M.Stands.ready_at g.M.Stands.tie _ c.self.invariant.0
       c.if-not-self.true,
   c.self.invariant.1,
+  c.self.invariant.2,
 )

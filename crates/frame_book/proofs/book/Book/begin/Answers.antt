@@ -17,8 +17,8 @@ use Rattle.frame_book.specs.GivenTokens.{IsGivenBy}
 use Rattle.frame_book.specs.BookTables.{tables_of}
 use Rattle.frame_rows.specs.RowsOfFrames.{AreRows}
 use Rattle.frame_rows.specs.IterationRows.{IterationRow, head_marks, empty_row, with_instance}
-use Rattle.frame_rows.specs.SpareRows.{spare_rows}
-use Rattle.frame_book.proofs.Iterations.SpareRows.{row_made}
+use Rattle.frame_rows.specs.Places.{HoldsRows, place_of, spare_rows, with_place}
+use Rattle.frame_book.proofs.Iterations.SpareRows.{row_made, row_placed}
 use Rattle.frame_book.specs.CallEffects.{seen_whole}
 use Rattle.frame_book.specs.Invariant.{IsBook}
 use Rattle.frame_book.specs.Tables.{Tables, book_state}
@@ -26,11 +26,12 @@ use Rattle.frame_book.proofs.Keeping.Begin.{Begins, may, few, there, placed, roo
 use Rattle.frame_book.proofs.Keeping.Begin.{begin_given, was_home}
 use Rattle.frame_book.proofs.Keeping.Stop.{log_room, last_below}
 use Rattle.frame_rows.proofs.AliveRows.{alive_push}
+use Rattle.frame_rows.proofs.PlacedRows.{place_free, places_added, places_begun, row_at_end}
 use Rattle.frame_book.specs.TicketLog.{Ledger}
 use Rattle.frame_book.proofs.BookLogs.LogEntries.{last_ticket_with}
-use Rattle.frame_book.proofs.book.Book.begin_with.Given.{Over}
-use Rattle.frame_book.proofs.book.Book.begin_with.Goals.{After-last_has_ended_first, After-len-iteration, In-Some}
-use Rattle.frame_book.proofs.book.Book.begin_with.Goals as goal
+use Rattle.frame_book.proofs.book.Book.begin.Given.{Over}
+use Rattle.frame_book.proofs.book.Book.begin.Goals.{After-add_row, After-last_has_ended_first, After-len-iteration, In-Some}
+use Rattle.frame_book.proofs.book.Book.begin.Goals as goal
 
 len_is : {X Z : Type 0} → (v : Vec X Z) (n : ℕ) → n ≡ vec_len v → n ≡ length v.items
 len_is v n e = grind (arith, common_steps)
@@ -66,10 +67,10 @@ module _ (g : Over) (c : In-Some g) where
   }
 
   -- a row is left
-  some_left : 0 < length c.self.inside.spare
+  some_left : 0 < length c.self.inside.places.spare
   some_left =
-      let e = length-map c.self.inside.spare (empty_row {M = g.row.M.Denot}) in
-      elim (cases_eq (length c.self.inside.spare) 0) [
+      let e = length-map c.self.inside.places.spare (empty_row {M = g.row.M.Denot}) in
+      elim (cases_eq (length c.self.inside.places.spare) 0) [
         | inl none ↦ absurd (spare_some c.self.invariant.0 begins (e ∙ none))
         | inr some ↦ omega (arith, some)
       ]
@@ -133,36 +134,66 @@ pub stamp-now-requires-clause-last : goal.stamp-now-requires-clause-last
 stamp-now-requires-clause-last g c = last_below g.M.Stands.whole g.M.Stands.ready_at g.M.Stands.tie
     (tables_of c.self.inside) c.self.invariant.0 c.if-self.false
 
-pub take-requires-2-clause-left : goal.take-requires-2-clause-left
-take-requires-2-clause-left g c = some_left g (goal.at.take-requires-2-clause-left g c).In-Some
+pub add_row-requires : goal.add_row-requires
+add_row-requires g c = some_left g (goal.at.add_row-requires g c).In-Some
 
-pub enter-requires-clause-numbers : goal.enter-requires-clause-numbers
-enter-requires-clause-numbers g c =
-    subst (λ (r : IterationRow _). length r.numbers < r.room) (sym c.in-Ok.ensures.row.2)
-    (row_room c.self.invariant.0 (begins g (goal.at.enter-requires-clause-numbers g c).In-Some) (spare_rows c.take-2.new.self)
-    (empty_row c.in-Ok.ensures.row.0) (row_made c.self.inside.spare c.take-2.new.self c.in-Ok.ensures.row.0 c.in-Ok.ensures.row.1)).0
+-- the places with those of the new row
+module _ (g : Over) (c : After-add_row g) where
+  places_with_row : HoldsRows (c.self.inside.rows.items ++ empty_row {M = g.row.M.Denot} c.add_row.result ∷ []) c.add_row.new.self
+  places_with_row = places_added c.self.inside.rows.items c.self.inside.places c.add_row.new.self c.add_row.result
+      c.add_row.ensures.spare c.add_row.ensures.numbers c.add_row.ensures.marks c.add_row.ensures.stages c.add_row.ensures.count
+      c.self.invariant.2
 
-pub enter-requires-clause-marks : goal.enter-requires-clause-marks
-enter-requires-clause-marks g c =
-    subst (λ (r : IterationRow _). length r.marks < r.room) (sym c.in-Ok.ensures.row.2)
-    (row_room c.self.invariant.0 (begins g (goal.at.enter-requires-clause-marks g c).In-Some) (spare_rows c.take-2.new.self)
-    (empty_row c.in-Ok.ensures.row.0) (row_made c.self.inside.spare c.take-2.new.self c.in-Ok.ensures.row.0 c.in-Ok.ensures.row.1)).1
+  place_there : 0 < c.add_row.result → (place_of c.add_row.new.self (length c.self.inside.rows.items) 0 < length c.add_row.new.self.numbers)
+      × (place_of c.add_row.new.self (length c.self.inside.rows.items) 0 < length c.add_row.new.self.marks)
+  place_there some = place_free (c.self.inside.rows.items ++ empty_row c.add_row.result ∷ []) c.add_row.new.self
+      (length c.self.inside.rows.items) 0 (empty_row c.add_row.result) places_with_row
+      (row_at_end c.self.inside.rows.items (empty_row c.add_row.result)) some
+
+pub put-requires-clause-numbers : goal.put-requires-clause-numbers
+put-requires-clause-numbers g c =
+    let x = begins g (goal.at.put-requires-clause-numbers g c).In-Some in
+    let k = (goal.at.put-requires-clause-numbers g c).After-len-iteration in
+    let p = (goal.at.put-requires-clause-numbers g c).After-add_row in
+    let some = (row_room c.self.invariant.0 x (spare_rows c.add_row.new.self.spare) (empty_row c.add_row.result)
+    (row_made c.self.inside.places.spare c.add_row.new.self.spare c.add_row.result c.add_row.ensures.spare)).0 in
+    subst (λ n. place_of c.add_row.new.self n 0 < length c.add_row.new.self.numbers) (sym (number_is g k)) (place_there g p some).0
+
+pub put-requires-clause-marks : goal.put-requires-clause-marks
+put-requires-clause-marks g c =
+    let x = begins g (goal.at.put-requires-clause-marks g c).In-Some in
+    let k = (goal.at.put-requires-clause-marks g c).After-len-iteration in
+    let p = (goal.at.put-requires-clause-marks g c).After-add_row in
+    let some = (row_room c.self.invariant.0 x (spare_rows c.add_row.new.self.spare) (empty_row c.add_row.result)
+    (row_made c.self.inside.places.spare c.add_row.new.self.spare c.add_row.result c.add_row.ensures.spare)).0 in
+    subst (λ n. place_of c.add_row.new.self n 0 < length c.add_row.new.self.marks) (sym (number_is g k)) (place_there g p some).1
+
+pub enter-requires : goal.enter-requires
+enter-requires g c =
+    subst (λ (r : IterationRow _). length r.numbers < r.room) (sym c.new-row.ensures)
+    (row_room c.self.invariant.0 (begins g (goal.at.enter-requires g c).In-Some) (spare_rows c.add_row.new.self.spare)
+    (empty_row c.add_row.result) (row_made c.self.inside.places.spare c.add_row.new.self.spare c.add_row.result
+    c.add_row.ensures.spare)).0
 
 pub push_reserved-requires : goal.push_reserved-requires
 push_reserved-requires g c =
     let z = c.self.invariant.0.reserve in
-    let w : length (spare_rows {M = g.row.M.Denot} c.self.inside.spare) ≡ length (spare_rows {M = g.row.M.Denot} c.take-2.new.self) + 1 =
-    ap length (row_made c.self.inside.spare c.take-2.new.self c.in-Ok.ensures.row.0 c.in-Ok.ensures.row.1)
-    ∙ length_push (spare_rows {M = g.row.M.Denot} c.take-2.new.self) (empty_row c.in-Ok.ensures.row.0) in
+    let w : length (spare_rows {M = g.row.M.Denot} c.self.inside.places.spare)
+    ≡ length (spare_rows {M = g.row.M.Denot} c.put.new.self.spare) + 1 =
+    ap length
+    (row_placed c.self.inside.places c.add_row.new.self c.put.new.self c.add_row.result _ _ _ c.put.ensures c.add_row.ensures.spare)
+    ∙ length_push (spare_rows {M = g.row.M.Denot} c.put.new.self.spare) (empty_row c.add_row.result) in
     let l : length c.self.inside.rows.items < vec_capacity c.self.inside.rows = omega (arith, z, w) in
     grind (arith, common_steps)
 
 pub push_reserved-requires-2 : goal.push_reserved-requires-2
 push_reserved-requires-2 g c =
     let z = c.self.invariant.1.room in
-    let w : length (spare_rows {M = g.row.M.Denot} c.self.inside.spare) ≡ length (spare_rows {M = g.row.M.Denot} c.take-2.new.self) + 1 =
-    ap length (row_made c.self.inside.spare c.take-2.new.self c.in-Ok.ensures.row.0 c.in-Ok.ensures.row.1)
-    ∙ length_push (spare_rows {M = g.row.M.Denot} c.take-2.new.self) (empty_row c.in-Ok.ensures.row.0) in
+    let w : length (spare_rows {M = g.row.M.Denot} c.self.inside.places.spare)
+    ≡ length (spare_rows {M = g.row.M.Denot} c.put.new.self.spare) + 1 =
+    ap length
+    (row_placed c.self.inside.places c.add_row.new.self c.put.new.self c.add_row.result _ _ _ c.put.ensures c.add_row.ensures.spare)
+    ∙ length_push (spare_rows {M = g.row.M.Denot} c.put.new.self.spare) (empty_row c.add_row.result) in
     let l : length c.self.inside.alive.items < vec_capacity c.self.inside.alive = omega (arith, z, w) in
     grind (arith, common_steps)
 
@@ -170,18 +201,31 @@ pub invariant_of-self-2 : goal.invariant_of-self-2
 invariant_of-self-2 g c =
     let k = (goal.at.invariant_of-self-2 g c).After-len-iteration in
     let h = (goal.at.invariant_of-self-2 g c).In-Some in
+    let some = (row_room c.self.invariant.0 (begins g h) (spare_rows c.add_row.new.self.spare) (empty_row c.add_row.result)
+    (row_made c.self.inside.places.spare c.add_row.new.self.spare c.add_row.result c.add_row.ensures.spare)).0 in
     let listed = subst (λ spare. HasAliveList c.self.inside.rows.items spare c.self.inside.alive.items (vec_capacity c.self.inside.alive))
-    (row_made c.self.inside.spare c.take-2.new.self c.in-Ok.ensures.row.0 c.in-Ok.ensures.row.1) c.self.invariant.1 in (
+    (row_placed c.self.inside.places c.add_row.new.self c.put.new.self c.add_row.result _ _ _ c.put.ensures c.add_row.ensures.spare)
+    c.self.invariant.1 in (
       subst (IsBook g.M.Stands.whole g.M.Stands.ready_at g.M.Stands.tie)
-          (sym (begun c.self.invariant.0 (begins g h) (spare_rows c.take-2.new.self) (empty_row c.in-Ok.ensures.row.0) (row_made
-          c.self.inside.spare c.take-2.new.self c.in-Ok.ensures.row.0 c.in-Ok.ensures.row.1)
+          (sym (begun c.self.invariant.0 (begins g h) (spare_rows c.put.new.self.spare) (empty_row c.add_row.result)
+          (row_placed c.self.inside.places c.add_row.new.self c.put.new.self c.add_row.result _ _ _ c.put.ensures c.add_row.ensures.spare)
           c.push_reserved.ensures.items c.push_reserved.ensures.capacity (c.enter.ensures ∙ ap (with_instance (pos 0)
-          c.start_head-marks.result) c.in-Ok.ensures.row.2) c.as_slice-2.ensures.value
+          c.start_head-marks.result) c.new-row.ensures) c.as_slice-2.ensures.value
           c.start_head-marks.ensures.marks c.start_head-marks.ensures.lists c.stamp-now.ensures.log (number_is g k) c.take.ensures.size))
-          (begin_keeps c.self.invariant.0 (begins g h) (spare_rows c.take-2.new.self) (empty_row c.in-Ok.ensures.row.0) (row_made
-          c.self.inside.spare c.take-2.new.self c.in-Ok.ensures.row.0 c.in-Ok.ensures.row.1)),
+          (begin_keeps c.self.invariant.0 (begins g h) (spare_rows c.put.new.self.spare) (empty_row c.add_row.result)
+          (row_placed c.self.inside.places c.add_row.new.self c.put.new.self c.add_row.result _ _ _ c.put.ensures c.add_row.ensures.spare)
+          ),
       rw (c.push_reserved.ensures.items, c.push_reserved-2.ensures.items, c.push_reserved-2.ensures.capacity, number_is g k)
-          (alive_push c.self.inside.rows.items (spare_rows c.take-2.new.self) (empty_row c.in-Ok.ensures.row.0) _ _ _ listed),
+          (alive_push c.self.inside.rows.items (spare_rows c.put.new.self.spare) (empty_row c.add_row.result) _ _ _ listed),
+      subst (λ rows. HoldsRows rows c.put.new.self) (sym (c.push_reserved.ensures.items
+          ∙ ap (λ (r : IterationRow _). c.self.inside.rows.items ++ r ∷ []) (c.enter.ensures
+          ∙ ap (with_instance (pos 0) c.start_head-marks.result) c.new-row.ensures)))
+          (subst (HoldsRows (c.self.inside.rows.items ++ with_instance (pos 0) c.start_head-marks.result
+          (empty_row c.add_row.result) ∷ [])) (sym (c.put.ensures ∙ ap (λ n. with_place (place_of c.add_row.new.self n 0) (pos 0)
+          c.start_head-marks.result c.add_row.new.self) (number_is g k)))
+          (places_begun c.self.inside.rows.items c.self.inside.places c.add_row.new.self c.add_row.result c.start_head-marks.result
+          c.add_row.ensures.spare c.add_row.ensures.numbers c.add_row.ensures.marks c.add_row.ensures.stages c.add_row.ensures.count
+          some c.self.invariant.2)),
     )
 
 pub returns-clause-returned : goal.returns-clause-returned
@@ -197,13 +241,13 @@ pub returns-clause-book : goal.returns-clause-book
 returns-clause-book g c =
     let k = (goal.at.returns-clause-book g c).After-len-iteration in
     let h = (goal.at.returns-clause-book g c).In-Some in
-    ap book_state (begun c.self.invariant.0 (begins g h) (spare_rows c.take-2.new.self) (empty_row c.in-Ok.ensures.row.0) (row_made
-    c.self.inside.spare c.take-2.new.self c.in-Ok.ensures.row.0 c.in-Ok.ensures.row.1)
+    ap book_state (begun c.self.invariant.0 (begins g h) (spare_rows c.put.new.self.spare) (empty_row c.add_row.result)
+    (row_placed c.self.inside.places c.add_row.new.self c.put.new.self c.add_row.result _ _ _ c.put.ensures c.add_row.ensures.spare)
     c.push_reserved.ensures.items c.push_reserved.ensures.capacity (c.enter.ensures ∙ ap (with_instance (pos 0)
-    c.start_head-marks.result) c.in-Ok.ensures.row.2) c.as_slice-2.ensures.value
+    c.start_head-marks.result) c.new-row.ensures) c.as_slice-2.ensures.value
     c.start_head-marks.ensures.marks c.start_head-marks.ensures.lists c.stamp-now.ensures.log (number_is g k) c.take.ensures.size)
-    ∙ (begin_view c.self.invariant.0 (begins g h) (spare_rows c.take-2.new.self) (empty_row c.in-Ok.ensures.row.0) (row_made
-    c.self.inside.spare c.take-2.new.self c.in-Ok.ensures.row.0 c.in-Ok.ensures.row.1)
+    ∙ (begin_view c.self.invariant.0 (begins g h) (spare_rows c.put.new.self.spare) (empty_row c.add_row.result)
+    (row_placed c.self.inside.places c.add_row.new.self c.put.new.self c.add_row.result _ _ _ c.put.ensures c.add_row.ensures.spare)
     ∙ ap₂ (λ (v : BookState) i. record v {
       log = with_events v.log 0 (Begin i ∷ []);
       traces = v.traces ++ [] ∷ [];
@@ -224,10 +268,10 @@ returns-clause-token g c =
       folded = c.new.result;
       marks = c.start_head-marks.result;
       payload = c.start_head-marks.new.payload;
-    })) (sym (begun c.self.invariant.0 (begins g h) (spare_rows c.take-2.new.self) (empty_row c.in-Ok.ensures.row.0) (row_made
-    c.self.inside.spare c.take-2.new.self c.in-Ok.ensures.row.0 c.in-Ok.ensures.row.1)
+    })) (sym (begun c.self.invariant.0 (begins g h) (spare_rows c.put.new.self.spare) (empty_row c.add_row.result)
+    (row_placed c.self.inside.places c.add_row.new.self c.put.new.self c.add_row.result _ _ _ c.put.ensures c.add_row.ensures.spare)
     c.push_reserved.ensures.items c.push_reserved.ensures.capacity (c.enter.ensures ∙ ap (with_instance (pos 0)
-    c.start_head-marks.result) c.in-Ok.ensures.row.2) c.as_slice-2.ensures.value
+    c.start_head-marks.result) c.new-row.ensures) c.as_slice-2.ensures.value
     c.start_head-marks.ensures.marks c.start_head-marks.ensures.lists c.stamp-now.ensures.log (number_is g k) c.take.ensures.size))
     (rw (
       number_is g k,
@@ -236,8 +280,8 @@ returns-clause-token g c =
       c.stamp-now.ensures.ticket,
       c.new.ensures,
     )
-    (begin_given c.self.invariant.0 (begins g h) (spare_rows c.take-2.new.self) (empty_row c.in-Ok.ensures.row.0) (row_made
-    c.self.inside.spare c.take-2.new.self c.in-Ok.ensures.row.0 c.in-Ok.ensures.row.1)
+    (begin_given c.self.invariant.0 (begins g h) (spare_rows c.put.new.self.spare) (empty_row c.add_row.result)
+    (row_placed c.self.inside.places c.add_row.new.self c.put.new.self c.add_row.result _ _ _ c.put.ensures c.add_row.ensures.spare)
     c.start_head-marks.new.payload
     (c.start_head-marks.ensures.ready (tree_of c.self.inside.program) c.self.inside.input (length c.self.inside.rows.items) []
     (subst (λ k. g.M.Stands.ready_at (tree_of c.self.inside.program) c.self.inside.input c.begin.new.self k []) (number_is g k)
@@ -256,15 +300,10 @@ invariant_of-self g c = (
   subst (λ p. IsBook g.M.Stands.whole g.M.Stands.ready_at g.M.Stands.tie (record (tables_of c.self.inside) { pool = p }))
       (sym c.in_default.ensures.unchanged) c.self.invariant.0,
   c.self.invariant.1,
+  c.self.invariant.2,
 )
 
 pub returns-then-self-2-clause-returned : goal.returns-then-self-2-clause-returned
 returns-then-self-2-clause-returned g c =
     subst (λ (v : BookState). ((state_of v).stopped ≡ false) × IsClosed (state_of v).frames) c.self.view_is
     (sym c.self.invariant.0.stopped ∙ c.if-self.false, c.self.invariant.0.closed.0 c.if-self-2.true)
-
-pub invariant_of-self-in_default-take : goal.invariant_of-self-in_default-take
-invariant_of-self-in_default-take g c =
-    let pool : c.give.new.self ≡ c.self.inside.pool = c.give.ensures
-    ∙ ap₂ (λ h z. record { home = h; size = z }) (sym c.in-Some.ensures.some) c.take.ensures.size in
-    rw (pool, c.in_default-take.ensures.unchanged) c.self.invariant

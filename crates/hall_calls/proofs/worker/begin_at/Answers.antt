@@ -11,40 +11,30 @@ use Rattle.hall_table.specs.WorkerSeats.{name_of}
 use Rattle.pipe_frame.specs.TokenFields.{fields_of}
 use Rattle.frame_book.specs.BookStates.{BookState, HasRisingTickets, events_of, state_of}
 use Rattle.hall_table.specs.SeatViews.{constants_of}
-use Rattle.frame_book.proofs.BegunIterations.{HasBegun, has_begun}
 use Rattle.hall_calls.proofs.BookCalls.{begin_call, events_stamped}
-use Rattle.hall_calls.proofs.TakenBooks.{hall_is, knows_after, lent_of, name_is, none_started}
-use Rattle.hall_calls.proofs.TakenBooks.{nothing_begun, runs_after, sees, stays_idle, unchanged}
+use Rattle.hall_calls.proofs.TakenBooks.{hall_is, knows_after, lent_of, name_is, none_started, nothing_begun, runs_after, sees, stays_idle}
 use Rattle.pipe_frame.specs.TokenCounts.{Exchanges}
 use Rattle.hall_calls.proofs.TokenMoves.{none_begun, none_moves, token_given}
-use Rattle.hall_calls.proofs.worker.try_begin_at.Given.{Over}
-use Rattle.hall_calls.proofs.worker.try_begin_at.Goals.{In-Started}
-use Rattle.hall_calls.proofs.worker.try_begin_at.Goals as goal
-
--- an iteration that has begun
-module _ (g : Over) (c : In-Started g) where
-  began : HasBegun g.M.Stands.ready_at g.M.Stands.tie c.get_mut-lent.result.now c.begin_with.new.self c.in-Started.token
-  began = has_begun g.M.Stands.ready_at g.M.Stands.tie c.get_mut-lent.result.now c.begin_with.new.self c.in-Ok.begun c.in-Started.token
-      c.in-Started.is c.in-Ok.ensures.returned c.in-Ok.ensures.book c.in-Ok.ensures.token c.in-Ok.ensures.now
+use Rattle.hall_calls.proofs.worker.begin_at.Goals as goal
 
 pub return_token-requires-clause-call : goal.return_token-requires-clause-call
 return_token-requires-clause-call g c =
     let b = c.get_mut-lent.result.now in
     let h = lent_of g.row.M.Denot c.args.seat.now.me c.take_book-book.new.seat.me c.take_book-book.result c.get_mut-lent.result.now None
     c.get_mut-lent.ensures.value c.take_book-book.ensures.taken in
-    let e = (began g (goal.at.return_token-requires-clause-call g c).In-Started) in (
+    let e = c.in-Started.ensures in (
       b,
       None,
       h.holds,
-      begin_call b c.begin_with.new.self (fields_of c.in-Started.token) e.book h.tokens h.traces c.entries-2.ensures.control
-          (subst HasRisingTickets c.entries-2.ensures.log c.entries-2.ensures.rise)
+      begin_call b c.begin-begun.new.self (fields_of c.in-Started.token) e.book h.tokens h.traces c.entries.ensures.control
+          (subst HasRisingTickets c.entries.ensures.log c.entries.ensures.rise)
           e.token.out e.token.parts e.now,
     )
 
-pub return_book-requires-in_default-begun : goal.return_book-requires-in_default-begun
-return_book-requires-in_default-begun g c =
+pub return_book-requires : goal.return_book-requires
+return_book-requires g c =
     let b = c.get_mut-lent.result.now in
-    let q = nothing_begun b c.begin_with.new.self c.in-Ok.begun c.in_default-begun.not-Started c.in-Ok.ensures.book in
+    let q = nothing_begun b c.begin-begun.new.self c.begin-begun.result c.in_default.not-Started c.begin-begun.ensures.book in
     record {
       own = c.take_book-book.ensures.own ∙ c.requires.own;
       call = (
@@ -60,41 +50,36 @@ pub returns-in-Started-clause-idle : goal.returns-in-Started-clause-idle
 returns-in-Started-clause-idle g c =
     stays_idle g.row.M.Denot c.args.seat.now.me c.take_book-book.new.seat.me c.get_mut-lent.result.now None
     (lent_of g.row.M.Denot c.args.seat.now.me c.take_book-book.new.seat.me c.take_book-book.result c.get_mut-lent.result.now None
-    c.get_mut-lent.ensures.value c.take_book-book.ensures.taken) c.return_token.new.seat.me c.begin_with.new.self
-    _ c.return_token.ensures.given (ap constants_of (began g (goal.at.returns-in-Started-clause-idle g c).In-Started).book)
-    c.entries-2.ensures.control
+    c.get_mut-lent.ensures.value c.take_book-book.ensures.taken) c.return_token.new.seat.me c.begin-begun.new.self
+    _ c.return_token.ensures.given (ap constants_of c.in-Started.ensures.book) c.entries.ensures.control
 
-pub returns-in_default-begun : goal.returns-in_default-begun
-returns-in_default-begun g c =
+pub returns-in_default : goal.returns-in_default
+returns-in_default g c =
     let m = c.args.seat.now.me in
     let n = c.take_book-book.new.seat.me in
     let b = c.get_mut-lent.result.now in
     let h = lent_of g.row.M.Denot c.args.seat.now.me c.take_book-book.new.seat.me c.take_book-book.result c.get_mut-lent.result.now None
     c.get_mut-lent.ensures.value c.take_book-book.ensures.taken in
-    let x = c.begin_with.new.self in
-    let r = c.in-Ok.begun in
-    let z = c.return_book-in_default-begun.new.seat.me in
-    let q = nothing_begun b x r c.in_default-begun.not-Started c.in-Ok.ensures.book in
+    let x = c.begin-begun.new.self in
+    let r = c.begin-begun.result in
+    let z = c.return_book.new.seat.me in
+    let q = nothing_begun b x r c.in_default.not-Started c.begin-begun.ensures.book in
     record {
-      own = c.return_book-in_default-begun.ensures.own.0 ∙ c.take_book-book.ensures.own;
-      idle = stays_idle g.row.M.Denot m n b None h z x _ c.return_book-in_default-begun.ensures.given q.constants
-          c.entries-2.ensures.control;
-      sees = sees g.row.M.Denot m n b None h z x _ c.return_book-in_default-begun.ensures.given (begin_events r) (λ s. BeginReturns _ s
-          r) q.adds
+      own = c.return_book.ensures.own.0 ∙ c.take_book-book.ensures.own;
+      idle = stays_idle g.row.M.Denot m n b None h z x _ c.return_book.ensures.given q.constants c.entries.ensures.control;
+      sees = sees g.row.M.Denot m n b None h z x _ c.return_book.ensures.given (begin_events r) (λ s. BeginReturns _ s r) q.adds
           (subst (λ (k : HallName). BeginReturns k.limit (state_of b) r) (sym (name_is c.args.seat.now.table_id m n b None h))
-          c.in-Ok.ensures.returned);
-      tokens = subst (λ k. Exchanges k 0 m.0.it.tokens z.0.it.tokens) (sym (none_begun r c.in_default-begun.not-Started))
-          (none_moves g.row.M.Denot m n z b x h c.return_book-in_default-begun.ensures.given);
-      runs = none_started r _ c.in_default-begun.not-Started;
-      token = none_started r _ c.in_default-begun.not-Started;
-      later = tt;
-      unchanged = tt;
+          c.begin-begun.ensures.returned);
+      tokens = subst (λ k. Exchanges k 0 m.0.it.tokens z.0.it.tokens) (sym (none_begun r c.in_default.not-Started))
+          (none_moves g.row.M.Denot m n z b x h c.return_book.ensures.given);
+      runs = none_started r _ c.in_default.not-Started;
+      token = none_started r _ c.in_default.not-Started;
     }
 
 pub returns-in-Started-clause-tokens : goal.returns-in-Started-clause-tokens
 returns-in-Started-clause-tokens g c =
     token_given g.row.M.Denot c.args.seat.now.me c.take_book-book.new.seat.me c.return_token.new.seat.me c.get_mut-lent.result.now
-    c.begin_with.new.self (lent_of g.row.M.Denot c.args.seat.now.me c.take_book-book.new.seat.me c.take_book-book.result
+    c.begin-begun.new.self (lent_of g.row.M.Denot c.args.seat.now.me c.take_book-book.new.seat.me c.take_book-book.result
     c.get_mut-lent.result.now None c.get_mut-lent.ensures.value c.take_book-book.ensures.taken) c.return_token.ensures.given
 
 pub return_token-requires-clause-own : goal.return_token-requires-clause-own
@@ -104,8 +89,7 @@ pub return_token-requires-clause-constants : goal.return_token-requires-clause-c
 return_token-requires-clause-constants g c =
     knows_after c.args.seat.now.me c.take_book-book.new.seat.me c.get_mut-lent.result.now None
     (lent_of g.row.M.Denot c.args.seat.now.me c.take_book-book.new.seat.me c.take_book-book.result c.get_mut-lent.result.now None
-    c.get_mut-lent.ensures.value c.take_book-book.ensures.taken) c.begin_with.new.self (ap constants_of (began g
-    (goal.at.return_token-requires-clause-constants g c).In-Started).book)
+    c.get_mut-lent.ensures.value c.take_book-book.ensures.taken) c.begin-begun.new.self (ap constants_of c.in-Started.ensures.book)
 
 pub returns-in-Started-clause-own : goal.returns-in-Started-clause-own
 returns-in-Started-clause-own g c = c.return_token.ensures.own ∙ c.take_book-book.ensures.own
@@ -114,7 +98,7 @@ pub returns-in-Started-clause-runs : goal.returns-in-Started-clause-runs
 returns-in-Started-clause-runs g c =
     runs_after g.row.M.Denot c.args.seat.now.me c.take_book-book.new.seat.me c.get_mut-lent.result.now None
     (lent_of g.row.M.Denot c.args.seat.now.me c.take_book-book.new.seat.me c.take_book-book.result c.get_mut-lent.result.now None
-    c.get_mut-lent.ensures.value c.take_book-book.ensures.taken) c.return_token.new.seat.me c.begin_with.new.self
+    c.get_mut-lent.ensures.value c.take_book-book.ensures.taken) c.return_token.new.seat.me c.begin-begun.new.self
     _ c.return_token.ensures.given (fields_of c.return_token.result) c.return_token.ensures.runs
 
 pub returns-in-Started-clause-token : goal.returns-in-Started-clause-token
@@ -132,9 +116,9 @@ returns-in-Started-clause-sees g c =
     let b = c.get_mut-lent.result.now in
     let h = lent_of g.row.M.Denot c.args.seat.now.me c.take_book-book.new.seat.me c.take_book-book.result c.get_mut-lent.result.now None
     c.get_mut-lent.ensures.value c.take_book-book.ensures.taken in
-    let x = c.begin_with.new.self in
+    let x = c.begin-begun.new.self in
     let z = c.return_token.new.seat.me in
-    let e = (began g (goal.at.returns-in-Started-clause-sees g c).In-Started) in
+    let e = c.in-Started.ensures in
     let s = c.return_token.ensures.same in
     let limit = (name_of c.args.seat.now.table_id m.0.it.constants).limit in
     let u : FrameToken g.row.M.Denot = record c.in-Started.token { payload = g.M.Carrier.with_seat c.in-Started.token.payload (Some s.0) }
@@ -146,19 +130,3 @@ returns-in-Started-clause-sees g c =
     (ap (λ (y : BookState). events_of y.log) e.book ∙ events_stamped b.log 0 (Begin u.iteration ∷ []))
     (subst (λ (k : HallName). BeginReturns {M = g.row.M.Denot} k.limit (state_of b) (begun.Started u))
     (sym (name_is c.args.seat.now.table_id m n b None h)) e.returned))
-
-pub return_book-requires-clause-call : goal.return_book-requires-clause-call
-return_book-requires-clause-call g c = (
-  c.get_mut-lent.result.now,
-  None,
-  (lent_of g.row.M.Denot c.args.seat.now.me c.take_book-book.new.seat.me c.take_book-book.result c.get_mut-lent.result.now None
-      c.get_mut-lent.ensures.value c.take_book-book.ensures.taken).holds,
-  unchanged c.get_mut-lent.result.now c.begin_with.new.self c.in_default.ensures.unchanged,
-)
-
-pub returns-in_default-clause-idle : goal.returns-in_default-clause-idle
-returns-in_default-clause-idle g c =
-    stays_idle g.row.M.Denot c.args.seat.now.me c.take_book-book.new.seat.me c.get_mut-lent.result.now None
-    (lent_of g.row.M.Denot c.args.seat.now.me c.take_book-book.new.seat.me c.take_book-book.result c.get_mut-lent.result.now None
-    c.get_mut-lent.ensures.value c.take_book-book.ensures.taken) c.return_book.new.seat.me c.begin_with.new.self
-    _ c.return_book.ensures.given (ap constants_of c.in_default.ensures.unchanged) c.entries.ensures.control
