@@ -10,3 +10,4 @@ pub mod Resume
 pub mod RaiseStop
 pub mod New
 pub mod Performed
+pub mod Pass

@@ -1,8 +1,9 @@
 -- A book after each of its calls, by the result of the call.
-use Rattle.std.specs.Prelude.{◌≡◌, ℕ, List, [], ◌∷◌, ◌++◌, ◌+◌, Option, Some, None, Bool, cond, ◌&&◌, not, max, slice_set}
+use Rattle.std.specs.Prelude.{◌≡◌, ℕ, ℤ, List, [], ◌∷◌, ◌++◌, ◌+◌, Option, Some, None, Bool, cond, ◌&&◌, not, max, slice_set}
 use Rattle.order_2d.specs.OrderPairs.{OrderPair}
 use Rattle.pipe_model.specs.declared.event.Event.{Event}
 use Rattle.pipe_model.specs.declared.event.Event.TheVariants as events
+use Rattle.pipe_model.specs.declared.node.Kind.{Kind}
 use Rattle.pipe_model.specs.declared.stage.Counter.{Counter}
 use Rattle.pipe_model.specs.declared.stage.StageEnd.{StageEnd}
 use Rattle.pipe_model.specs.declared.ticket.Entry.{Entry}
@@ -144,6 +145,16 @@ with_named v t e trace = record v {
   log = with_events v.log t.now (e ∷ []);
   traces = slice_set v.traces t.iteration (item_or [] v.traces t.iteration ++ trace ∷ []);
   tokens = slice_set v.tokens t.iteration (Kept (record t { now = 1 + max (last_ticket v.log) t.now }));
+}
+
+-- the instance of the token has ended, its iteration has entered the next stage at once, and its token is out; the left counter was
+-- read or not
+abbrev pub with_passed : BookState → TokenFields → Kind → ℤ → List Entry → Bool → BookState
+with_passed v t kind number trace read = record v {
+  log = with_events v.log t.now (events.Advance t.iteration kind number ∷ events.Enter t.iteration ∷ []);
+  traces = slice_set v.traces t.iteration (item_or [] v.traces t.iteration ++ trace ∷ []);
+  tokens = slice_set v.tokens t.iteration Out;
+  reads = v.reads + cond read 1 0;
 }
 
 -- it has ended by this event, and its iteration with it

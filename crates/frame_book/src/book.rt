@@ -2,7 +2,7 @@
 
 ghost use Rattle.std.specs.Prelude.{◌≡◌, ◌≢◌, ◌↔◌, ◌+◌, ◌-◌, ◌*◌, ◌<◌, ◌≤◌, ◌^◌, [], ◌∷◌, ◌++◌, true, false, IsTrue, None, cond, ◌||◌};
 ghost use Rattle.std.specs.Prelude.{length, All, IfOk, IfSome, ℕ};
-ghost use Rattle.pipe_model.specs.Runs.Allowed.{IsRunning, MayBegin, MayEnter};
+ghost use Rattle.pipe_model.specs.Runs.Allowed.{IsRunning, LeftHasPassed, MayBegin, MayEnter};
 ghost use Rattle.pipe_model.specs.Runs.Run.{IsFinished};
 ghost use Rattle.pipe_model.specs.Pipelines.Behaviour.{Performs, Staged, Ended, closes_at_once};
 ghost use Rattle.pipe_model.specs.Races.Columns.{nodes_at};
@@ -29,7 +29,7 @@ ghost use Rattle.frame_book.specs.NewBooks.{IsPlannedProgram, new_book};
 ghost use Rattle.schedule_laws.specs.StartCounts.{most_instances};
 ghost use Rattle.frame_book.specs.CallEffects.{identities_of_orders, after_stop, after_begin, with_named, with_finished, with_held};
 ghost use Rattle.frame_book.specs.CallEffects.{with_entered, after_enter, after_advance, folded_after, after_name_next, after_rescue};
-ghost use Rattle.frame_book.specs.CallEffects.{with_resumed, after_leave_ready, IsReady, kept_folded};
+ghost use Rattle.frame_book.specs.CallEffects.{with_passed, with_resumed, after_leave_ready, IsReady, kept_folded};
 ghost use Rattle.frame_rows.specs.NamedStages.{stage_end};
 ghost use Rattle.frame_book.specs.GivenTokens.{IsGivenBeside, IsGivenBy, IsOutOf, IsPayloadOf};
 
@@ -360,6 +360,59 @@ impl<M: Payload<L>, L: ListWriter + Drop> Book<M, L> {
         row.keep(token);
     }
 
+    // The events `Advance` and `Enter` of the token's instance, whose iteration may enter the stage that it
+    // names, and the token of the next instance; counts the left counter if it was `read`. The token does
+    // not lie in the row in between, and what is read comes before what changes, so that a processor can
+    // fetch the cache lines of other threads all at the same time.
+    fn enter_next(
+        &mut self,
+        mut token: FrameToken<M>,
+        kind: Kind,
+        number: i64,
+        trace: Trace,
+        read: bool,
+    ) -> FrameToken<M>
+        requires going { (state_of self.old).stopped ≡ false }
+        requires out { IsOutOf self.old (fields_of token) }
+        requires performs { Performs (left_of self.old token.iteration) (accessed trace ++ Staged kind number ∷ []) }
+        requires payload { IsPayloadOf M.ready_at M.tie self.old token.iteration
+            (replies_at self.old token.iteration ++ replies_of trace ∷ []) token.payload }
+        requires free { kind ≡ Kind.Wait → LeftHasPassed (state_of self.old).frames token.iteration number }
+        ensures book { self.new ≡ with_passed self.old (fields_of token) kind number trace read }
+        ensures instance { (result.iteration ≡ token.iteration) × (result.index ≡ token.index + 1) }
+        ensures folded { result.folded ≡ token.folded }
+        ensures now { result.now ≡ last_ticket self.new.log }
+        ensures token { IsGivenBy M.ready_at M.tie self.new result }
+    {
+        let iteration = token.iteration;
+        let row = &mut self.rows[iteration as usize];
+        row.end(trace, Status::Pending(kind, number));
+        let rows = self.rows.as_slice();
+        let left = left_place(rows, &self.places, iteration, kind, number, token.joined);
+        let marks = start_below(
+            rows,
+            &self.places,
+            &mut self.orders,
+            &mut token.payload,
+            iteration,
+            token.index,
+            left,
+        );
+        let named = self
+            .ledger
+            .stamp(token.now, Event::Advance(iteration, kind, number));
+        token.now = self.ledger.stamp(named, Event::Enter(iteration));
+        token.index += 1;
+        token.joined = left.unwrap_or(token.joined);
+        token.marks = marks;
+        self.places
+            .put(iteration, token.index as usize, number, marks);
+        let row = &mut self.rows[iteration as usize];
+        row.enter(number, marks);
+        self.reads += count_of(read);
+        token
+    }
+
     // The event `Enter` of an iteration that may enter the stage that it has named, and its token.
     fn enter_named(&mut self, iteration: u32) -> FrameToken<M>
         requires going { (state_of self.old).stopped ≡ false }
@@ -456,13 +509,12 @@ impl<M: Payload<L>, L: ListWriter + Drop> Book<M, L> {
         let read = needs_left(&token.folded, kind, iteration, number);
         fold_left(self.rows.as_slice(), iteration, read, &mut token.folded);
         let enters = lets_enter(&token.folded, kind, iteration, number);
+        if enters {
+            return Next::Go(self.enter_next(token, kind, number, trace, read));
+        }
         self.name(token, kind, number, trace);
         self.reads += count_of(read);
-        if enters {
-            Next::Go(self.enter_named(iteration))
-        } else {
-            Next::Suspended
-        }
+        Next::Suspended
     }
 
     /// Does the first half of `advance`: the event `Advance` or `Finish`. The book keeps the token of

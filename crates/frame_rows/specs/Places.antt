@@ -22,7 +22,7 @@ pub record PlaceTable : Type 0 where
   pub stages : ℕ
   pub spare : List ℕ
 
--- how many places there are
+-- how many places the rows have that have not begun
 abbrev pub places_left : ℕ → ℕ → ℕ
 places_left zero stages = 0
 places_left (suc n) stages = 1 + n * stages

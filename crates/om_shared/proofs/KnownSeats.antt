@@ -51,7 +51,7 @@ module _ (capacity : ℕ) (s : State ℕ View) (r : IsOrdered capacity s) where
 
   -- a step of the writer that changes no log: notes that may still count stay right
   pub rewritten : (i n id : ℕ) (taken : List (ℕ × ℕ)) (v : View) (stage : Stage) (sequence : ℕ) (labels : List ℕ)
-      → set s.words i n ≡ sequence ∷ length r.now.log ∷ labels → length labels ≡ capacity
+      → set s.words i n ≡ sequence ∷ labels → length labels ≡ capacity
       → FitsStage stage sequence (length r.now.log)
       → (sequence % 2 ≡ 0 → RiseAlong labels r.now.log) → id ≡ r.now.writer
       → r.now.sequence ≤ sequence

@@ -46,7 +46,7 @@ stored_rises new log labels kept agree =
 
 -- the writer rests again
 pub rests : (capacity words sequence : ℕ) (new : Links) (labels : List ℕ) (stage : Stage) (x : ℕ) (m m' m2 : SeatState)
-    → words ≡ capacity + 2 → length labels ≡ capacity → m.1 ≡ []
+    → words ≡ capacity + 1 → length labels ≡ capacity → m.1 ≡ []
     → m' ≡ (view m.0.log m.0.learned (Writing stage sequence labels), m.1)
     → m2 ≡ (with_insertion x m'.0, m'.1) → IsKept new (m.0.log ++ x ∷ []) → AreLabelsOf labels new
     → length m.0.log + 1 < capacity

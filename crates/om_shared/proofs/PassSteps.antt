@@ -30,8 +30,8 @@ module _ (capacity : ℕ) where
         refl,
       )
 
-  label_is : (s : State ℕ View) (r : IsOrdered capacity s) (x : ℕ) → get_or s.words (x + 2) 0 ≡ label_at r.now.labels x
-  label_is s r x = let e : x + 2 ≡ suc (suc x) = omega arith in rw (e, r.words) refl
+  label_is : (s : State ℕ View) (r : IsOrdered capacity s) (x : ℕ) → get_or s.words (x + 1) 0 ≡ label_at r.now.labels x
+  label_is s r x = let e : x + 1 ≡ suc x = omega arith in rw (e, r.words) refl
 
   one_more_note : (s : State ℕ View) (r : IsOrdered capacity s) (id x label : ℕ) (seen : List ℕ) (o : Role)
       → label ≡ label_at r.now.labels x → x ≤ length seen → KnowsAs r.now id seen o
@@ -41,16 +41,16 @@ module _ (capacity : ℕ) where
   one_more_note s r id x label seen (Asking at ns) is l k = (k.0, k.1, (l, k.2), λ even here. (is, k.3 even here))
 
   pub notes_label : (slots id : ℕ) (m : SeatState) (x : ℕ) → x ≤ length m.0.log
-      → Allows (IsOrdered capacity) slots id m (x + 2) (λ n. n) (noted_label (step slots (x + 2) 0 0 none) m)
+      → Allows (IsOrdered capacity) slots id m (x + 1) (λ n. n) (noted_label (step slots (x + 1) 0 0 none) m)
   notes_label slots id m x l s r _ have _ =
-      let label : ℕ = get_or s.words (x + 2) 0 in
+      let label : ℕ = get_or s.words (x + 1) 0 in
       let v : View = view m.0.log m.0.learned (noting x label m.0.role) in
-      let back : x ≡ (x + 2) - 2 = omega arith in
+      let back : x ≡ (x + 1) - 1 = omega arith in
       let was = r.each id m.0 have in (
         v,
         keeps,
         tt,
-        unmoved capacity s r (x + 2) id m.1 v
+        unmoved capacity s r (x + 1) id m.1 v
             record { learned = was.learned; role = one_more_note s r id x label m.0.log m.0.role (label_is s r x) l was.role },
         ap (λ (y : ℕ). (view m.0.log m.0.learned (noting y label m.0.role), m.1)) back,
       )
@@ -113,11 +113,11 @@ module _ (capacity : ℕ) where
 -- the seat after one more label was noted
 pub one_noted : (m m1 m2 : SeatState) (x at label : ℕ) (notes : List (ℕ × ℕ))
     → m1 ≡ (view m.0.log m.0.learned (Asking at notes), m.1)
-    → m2 ≡ (view m1.0.log m1.0.learned (noting ((x + 2) - 2) label m1.0.role), m1.1)
+    → m2 ≡ (view m1.0.log m1.0.learned (noting ((x + 1) - 1) label m1.0.role), m1.1)
     → m2 ≡ (view m.0.log m.0.learned (Asking at ((x, label) ∷ notes)), m.1)
 one_noted m m1 m2 x at label notes e1 e2 =
-    let back : (x + 2) - 2 ≡ x = omega arith in
-    e2 ∙ (ap (λ (n : SeatState). (view n.0.log n.0.learned (noting ((x + 2) - 2) label n.0.role), n.1)) e1
+    let back : (x + 1) - 1 ≡ x = omega arith in
+    e2 ∙ (ap (λ (n : SeatState). (view n.0.log n.0.learned (noting ((x + 1) - 1) label n.0.role), n.1)) e1
     ∙ ap (λ (k : ℕ). (view m.0.log m.0.learned (Asking at ((k, label) ∷ notes)), m.1)) back)
 
 -- a pass with another log, or with other notes

@@ -175,7 +175,7 @@ none_stored capacity words sequence old new pending m more b = record {
 -- one label more is stored
 pub one_more_stored : (capacity words sequence : ℕ) (links : Links) (n label : ℕ) (m m' : SeatState)
     → length links.label.items ≤ capacity → n < length links.label.items → label ≡ slice_index links.label.items n
-    → m' ≡ (view m.0.log m.0.learned (labelling ((n + 2) - 2) label m.0.role), m.1)
+    → m' ≡ (view m.0.log m.0.learned (labelling ((n + 1) - 1) label m.0.role), m.1)
     → IsStored capacity words sequence links n m → IsStored capacity words sequence links (n + 1) m'
 one_more_stored capacity words sequence links n label m m' fits l label_is is before =
     let e = after_storing m m' Moving n label sequence before.labels is before.seat.role in

@@ -35,8 +35,8 @@ spread_agree links range count a b da db x = elim (is_true (has x (elements_of l
 
 -- the words of the elements of a range
 pub element_word : (links : Links) (log : List ℕ) (range : LabelRange) (capacity words k element : ℕ) → IsKept links log
-    → IsSparseRange links range → length log < capacity → words ≡ capacity + 2 → k < range.count
-    → element ≡ slice_index (elements_of links range) k → (element + 2 < words) × (element < length links.label.items)
+    → IsSparseRange links range → length log < capacity → words ≡ capacity + 1 → k < range.count
+    → element ≡ slice_index (elements_of links range) k → (element + 1 < words) × (element < length links.label.items)
 element_word links log range capacity words k element kept s below words_are l at =
     let inside = range_element links kept.labelled range s k l in
     let count = kept.count in
@@ -47,7 +47,7 @@ pub one_more_moved : (capacity words sequence : ℕ) (links : Links) (range : La
     (m m' : SeatState)
     → AreLabelled links → IsSparseRange links range → length links.label.items ≤ capacity → k < range.count
     → element ≡ slice_index (elements_of links range) k → label ≡ spread_label range k
-    → m' ≡ (view m.0.log m.0.learned (labelling ((element + 2) - 2) label m.0.role), m.1)
+    → m' ≡ (view m.0.log m.0.learned (labelling ((element + 1) - 1) label m.0.role), m.1)
     → IsMoved Moving capacity words sequence links range k m
     → IsMoved Moving capacity words sequence links range (k + 1) m'
 one_more_moved capacity words sequence links range k element label m m' h s fits l at label_is is before =

@@ -1,8 +1,8 @@
 -- The steps of the writer keep the rule.
-use Rattle.std.proofs.Common.{◌≡◌, ◌≢◌, ℕ, suc, ◌+◌, ◌-◌, ◌*◌, ◌%◌, ◌<◌, ◌≤◌, ◌^◌, List, [], ◌∷◌, ◌++◌, length, get_or, set, refl, sym, ap}
-use Rattle.std.proofs.Common.{◌∙◌, subst, arith, le_refl, length-set, length-append, append_assoc, eqb, eq-eqb, get_or-set_other}
-use prog.Atomic.{either}
-use mathlib.Core.Option.{none, some, some-injective}
+use Rattle.std.proofs.Common.{◌≡◌, ◌≢◌, ℕ, suc, ◌+◌, ◌-◌, ◌*◌, ◌%◌, ◌<◌, ◌≤◌, ◌^◌, List, [], ◌∷◌, ◌++◌, length, set, refl, sym, ap}
+use Rattle.std.proofs.Common.{◌∙◌, subst, arith, le_refl, length-set, length-append, append_assoc, get_or-set_other}
+use mathlib.Core.Option.{none}
+use lib.Seq.{set-get_or}
 use Rattle.atomic_table.specs.Table.{State, step, keeps, Allows}
 use Rattle.pipe_model.specs.Orders.OrderList.{IsLog, list_of_log}
 use Rattle.run_laws.proofs.ListOrders.InsertionLists.{entries_insert_elements, list_has_below}
@@ -27,22 +27,26 @@ MayTurn to capacity slots id m n =
 -- the writer may store a label of element x
 abbrev pub MayStore : (capacity slots id : ℕ) → SeatState → ℕ → ℕ → Type 0
 MayStore capacity slots id m x label =
-    Allows (IsOrdered capacity) slots id m (x + 2) (λ _. label) (λ _. stored (step slots (x + 2) label 0 none) m label)
+    Allows (IsOrdered capacity) slots id m (x + 1) (λ _. label) (λ _. stored (step slots (x + 1) label 0 none) m label)
 
--- the writer may announce an insertion after x, if there are c so far
-abbrev pub MayPublish : (capacity slots id : ℕ) → SeatState → ℕ → ℕ → Type 0
-MayPublish capacity slots id m x c =
-    Allows (IsOrdered capacity) slots id m 1 (λ n. either (eqb n c) (c + 1) n) (published (step slots 1 c (c + 1) (some x)) m)
+-- the writer may announce an insertion after x
+abbrev pub MayPublish : (capacity slots id : ℕ) → SeatState → ℕ → Type 0
+MayPublish capacity slots id m x =
+    Allows (IsOrdered capacity) slots id m (x + 1) (λ n. n) (published (step slots (x + 1) 0 0 none) m)
 
--- the writer may announce an insertion after x and one after its element, which have no labels yet, if there are c so far
-abbrev pub MayAnnouncePair : (capacity slots id : ℕ) → SeatState → ℕ → ℕ → Type 0
-MayAnnouncePair capacity slots id m x c =
-    Allows (IsOrdered capacity) slots id m 1 (λ n. either (eqb n c) (c + 2) n) (announced_pair (step slots 1 c (c + 2) (some x)) m)
+-- the writer may announce an insertion after x and one after its element, which have no labels yet
+abbrev pub MayAnnouncePair : (capacity slots id : ℕ) → SeatState → ℕ → Type 0
+MayAnnouncePair capacity slots id m x =
+    Allows (IsOrdered capacity) slots id m (x + 1) (λ n. n) (announced_pair (step slots (x + 1) 0 0 none) m)
 
--- the writer may announce an insertion after x whose element has no label yet, if there are c so far
-abbrev pub MayAnnounce : (capacity slots id : ℕ) → SeatState → ℕ → ℕ → Type 0
-MayAnnounce capacity slots id m x c =
-    Allows (IsOrdered capacity) slots id m 1 (λ n. either (eqb n c) (c + 1) n) (announced (step slots 1 c (c + 1) (some x)) m)
+-- the writer may announce an insertion after x whose element has no label yet
+abbrev pub MayAnnounce : (capacity slots id : ℕ) → SeatState → ℕ → Type 0
+MayAnnounce capacity slots id m x =
+    Allows (IsOrdered capacity) slots id m (x + 1) (λ n. n) (announced (step slots (x + 1) 0 0 none) m)
+
+-- the element whose label is in a word
+pub element_at : (x : ℕ) → (x + 1) - 1 ≡ x
+element_at x = omega arith
 
 -- a log with two more entries, of which the second is after the element of the first
 pub pair_is_log : (log : List ℕ) (x : ℕ) → x ≤ length log → IsLog 1 log → IsLog 1 (log ++ x ∷ (1 + length log) ∷ [])
@@ -129,8 +133,8 @@ module _ (capacity : ℕ) where
       let labels' : List ℕ = set r.now.labels x label in
       let now : Contents =
       record { writer = r.now.writer; log = r.now.log; stage = r.now.stage; sequence = r.now.sequence; labels = labels' } in
-      let back : x ≡ (x + 2) - 2 = omega arith in
-      let two : x + 2 ≡ suc (suc x) = omega arith in
+      let back : x ≡ (x + 1) - 1 = omega arith in
+      let next : x + 1 ≡ suc x = omega arith in
       let mine : KnowsAs now id m.0.log (labelling x label m.0.role) =
       subst (λ (o : Role). KnowsAs now id m.0.log (labelling x label o)) (sym is)
       (k.0, k.1, k.2, k.3, ap (λ (ls : List ℕ). set ls x label) k.4) in
@@ -138,7 +142,7 @@ module _ (capacity : ℕ) where
         v,
         keeps,
         tt,
-        rewritten capacity s r (x + 2) label id m.1 v r.now.stage r.now.sequence labels' (rw (two, r.words) refl)
+        rewritten capacity s r (x + 1) label id m.1 v r.now.stage r.now.sequence labels' (rw (next, r.words) refl)
             (length-set r.now.labels x label ∙ r.wide) r.fits h.0 k.0 (le_refl r.now.sequence)
             record { learned = (r.each id m.0 have).learned; role = mine }
             (λ at seen ns le even here prefix named old.
@@ -190,22 +194,18 @@ module _ (capacity : ℕ) where
   even_fits Settled sequence count even f = f.1
 
   -- after this step the new entries are in the log, and the writer's role is another
-  enters : (slots id : ℕ) (m : SeatState) (x c n sequence : ℕ) (news : ℕ → List ℕ) (labels : List ℕ) (from to : Stage) (role : Role)
+  enters : (slots id : ℕ) (m : SeatState) (x n sequence : ℕ) (news : ℕ → List ℕ) (labels : List ℕ) (from to : Stage) (role : Role)
       → m.0.role ≡ Writing from sequence labels → role ≡ Writing to sequence labels
-      → c ≡ length m.0.log → length (news x) ≡ n → (IsLog 1 m.0.log → IsLog 1 (m.0.log ++ news x)) → length m.0.log + n < capacity
+      → length (news x) ≡ n → (IsLog 1 m.0.log → IsLog 1 (m.0.log ++ news x)) → length m.0.log + n < capacity
       → (FitsStage from sequence (length m.0.log) → FitsStage to sequence (length m.0.log + n))
       → (sequence % 2 ≡ 0 → RiseAlong labels (m.0.log ++ news x))
-      → Allows (IsOrdered capacity) slots id m 1 (λ k. either (eqb k c) (c + n) k)
-      (λ _ m'. (y : ℕ) → some x ≡ some y → m' ≡ (with_entries (news y) role m.0, m.1))
-  enters slots id m x c n sequence news labels from to role is becomes_role count many valid small fits up s r _ have _ =
+      → Allows (IsOrdered capacity) slots id m (x + 1) (λ k. k) (λ _ m'. m' ≡ (with_entries (news ((x + 1) - 1)) role m.0, m.1))
+  enters slots id m x n sequence news labels from to role is becomes_role many valid small fits up s r _ have _ =
       let k = known capacity s r id m.0 (Writing from sequence labels) is have in
       let long = ap (λ (l : List ℕ). length l) k.1 in
-      let found : ℕ = get_or s.words 1 0 in
-      let there : found ≡ c = ap (λ (ws : List ℕ). get_or ws 1 0) r.words ∙ omega (arith, count, long) in
       let log' : List ℕ = r.now.log ++ news x in
       let more = length-append r.now.log (news x) in
-      let becomes : either (eqb found c) (c + n) found ≡ length log' =
-      rw (eq-eqb found c there) (omega (arith, more, count, long, many)) in
+      let back : x ≡ (x + 1) - 1 = omega arith in
       let longer : length m.0.log + n ≡ length log' = omega (arith, more, long, many) in
       let old : FitsStage from sequence (length m.0.log) =
       subst (λ (x : ℕ × List ℕ). FitsStage from x.0 (length x.1)) (λ i. (sym k.3 i, sym k.1 i)) (fits_stage s r from k.2) in
@@ -221,8 +221,7 @@ module _ (capacity : ℕ) where
         tt,
         record {
           now = now;
-          words = ap (λ (ws : List ℕ). set ws 1 (either (eqb found c) (c + n) found)) r.words
-              ∙ ap (λ (k : ℕ). r.now.sequence ∷ k ∷ r.now.labels) becomes;
+          words = set-get_or s.words (x + 1) 0 ∙ r.words;
           wide = r.wide;
           room = omega (arith, more, long, small, many);
           valid = subst (λ (l : List ℕ). IsLog 1 (l ++ news x)) k.1 (valid (subst (IsLog 1) (sym k.1) r.valid));
@@ -232,7 +231,7 @@ module _ (capacity : ℕ) where
           each = one_view (Knows now) s.views id (with_entries (news x) role m.0) mine
               (λ j d other at. others s r (news x) id k.0 j d other (r.each j d at));
         },
-        λ y e. ap (λ (z : ℕ). (with_entries (news z) role m.0, m.1)) (some-injective x y e),
+        ap (λ (y : ℕ). (with_entries (news y) role m.0, m.1)) back,
       )
     where
       with_log : {s : State ℕ View} (r : IsOrdered capacity s) (xs : List ℕ) → Contents
@@ -260,33 +259,33 @@ module _ (capacity : ℕ) where
   one_more log x lx v = (entries_insert_elements log x).names v (omega (arith, lx))
 
   -- the element has its label, and the writer rests
-  pub publishes : (slots id : ℕ) (m : SeatState) (x c sequence : ℕ) (labels : List ℕ) (stage : Stage)
+  pub publishes : (slots id : ℕ) (m : SeatState) (x sequence : ℕ) (labels : List ℕ) (stage : Stage)
       → m.0.role ≡ Writing stage sequence labels
-      → c ≡ length m.0.log → sequence % 2 ≡ 0 → x ≤ length m.0.log → length m.0.log + 1 < capacity
+      → sequence % 2 ≡ 0 → x ≤ length m.0.log → length m.0.log + 1 < capacity
       → RiseAlong labels (m.0.log ++ x ∷ [])
-      → MayPublish capacity slots id m x c
-  publishes slots id m x c sequence labels stage is count even lx small up =
-      enters slots id m x c 1 sequence (λ y. y ∷ []) labels stage Resting (rested m.0.role) is (ap rested is) count refl
+      → MayPublish capacity slots id m x
+  publishes slots id m x sequence labels stage is even lx small up =
+      enters slots id m x 1 sequence (λ y. y ∷ []) labels stage Resting (rested m.0.role) is (ap rested is) refl
       (one_more m.0.log x lx) small
       (λ f. (let a = even_fits stage sequence (length m.0.log) even f in (even, omega (arith, a)))) (λ _. up)
 
   -- the element has no label yet, and labels move
-  pub announces : (slots id : ℕ) (m : SeatState) (x c sequence : ℕ) (labels : List ℕ)
+  pub announces : (slots id : ℕ) (m : SeatState) (x sequence : ℕ) (labels : List ℕ)
       → m.0.role ≡ Writing Moving sequence labels
-      → c ≡ length m.0.log → sequence % 2 ≡ 1 → x ≤ length m.0.log → length m.0.log + 1 < capacity
-      → MayAnnounce capacity slots id m x c
-  announces slots id m x c sequence labels is count odd lx small =
-      enters slots id m x c 1 sequence (λ y. y ∷ []) labels Moving Moving m.0.role is is count refl (one_more m.0.log x lx) small
+      → sequence % 2 ≡ 1 → x ≤ length m.0.log → length m.0.log + 1 < capacity
+      → MayAnnounce capacity slots id m x
+  announces slots id m x sequence labels is odd lx small =
+      enters slots id m x 1 sequence (λ y. y ∷ []) labels Moving Moving m.0.role is is refl (one_more m.0.log x lx) small
       (λ f. (let a = f.0 in let b = f.1 in (omega (arith, a), omega (arith, b))))
       (λ even. absurd (omega (arith, odd, even)))
 
   -- the same of two elements, of which the second is after the first
-  pub announces_pair : (slots id : ℕ) (m : SeatState) (x c sequence : ℕ) (labels : List ℕ)
+  pub announces_pair : (slots id : ℕ) (m : SeatState) (x sequence : ℕ) (labels : List ℕ)
       → m.0.role ≡ Writing Moving sequence labels
-      → c ≡ length m.0.log → sequence % 2 ≡ 1 → x ≤ length m.0.log → length m.0.log + 2 < capacity
-      → MayAnnouncePair capacity slots id m x c
-  announces_pair slots id m x c sequence labels is count odd lx small =
-      enters slots id m x c 2 sequence (λ y. y ∷ (1 + length m.0.log) ∷ []) labels Moving Moving m.0.role is is count refl
+      → sequence % 2 ≡ 1 → x ≤ length m.0.log → length m.0.log + 2 < capacity
+      → MayAnnouncePair capacity slots id m x
+  announces_pair slots id m x sequence labels is odd lx small =
+      enters slots id m x 2 sequence (λ y. y ∷ (1 + length m.0.log) ∷ []) labels Moving Moving m.0.role is is refl
       (pair_is_log m.0.log x lx) small
       (λ f. (let a = f.0 in let b = f.1 in (omega (arith, a), omega (arith, b))))
       (λ even. absurd (omega (arith, odd, even)))
@@ -295,25 +294,24 @@ module _ (capacity : ℕ) where
 
 -- the seat after a label was stored
 pub after_storing : (m m' : SeatState) (stage : Stage) (e label sequence : ℕ) (labels : List ℕ)
-    → m' ≡ (view m.0.log m.0.learned (labelling ((e + 2) - 2) label m.0.role), m.1)
+    → m' ≡ (view m.0.log m.0.learned (labelling ((e + 1) - 1) label m.0.role), m.1)
     → m.0.role ≡ Writing stage sequence labels
     → m' ≡ (view m.0.log m.0.learned (Writing stage sequence (set labels e label)), m.1)
 after_storing m m' stage e label sequence labels is role =
-    let back : (e + 2) - 2 ≡ e = omega arith in
+    let back : (e + 1) - 1 ≡ e = omega arith in
     is ∙ (ap (λ (k : ℕ). (view m.0.log m.0.learned (labelling k label m.0.role), m.1)) back
     ∙ ap (λ (o : Role). (view m.0.log m.0.learned (labelling e label o), m.1)) role)
 
 -- the insertion may be published, by the seat after the label was stored
-pub publishes_after : (capacity slots id : ℕ) (m m' : SeatState) (x c sequence : ℕ) (labels : List ℕ) (stage : Stage)
-    → m' ≡ (view m.0.log m.0.learned (Writing stage sequence labels), m.1) → c ≡ length m.0.log → sequence % 2 ≡ 0
-    → x ≤ c → c + 1 < capacity
+pub publishes_after : (capacity slots id : ℕ) (m m' : SeatState) (x sequence : ℕ) (labels : List ℕ) (stage : Stage)
+    → m' ≡ (view m.0.log m.0.learned (Writing stage sequence labels), m.1) → sequence % 2 ≡ 0
+    → x ≤ length m.0.log → length m.0.log + 1 < capacity
     → RiseAlong labels (m.0.log ++ x ∷ [])
-    → MayPublish capacity slots id m' x c
-publishes_after capacity slots id m m' x c sequence labels stage e count even lx small up =
-    subst (λ (k : SeatState). MayPublish capacity slots id k x c) (sym e)
-    (publishes capacity slots id (view m.0.log m.0.learned (Writing stage sequence labels), m.1) x c sequence labels stage refl
-    count even
-    (omega (arith, lx, count)) (omega (arith, small, count)) up)
+    → MayPublish capacity slots id m' x
+publishes_after capacity slots id m m' x sequence labels stage e even lx small up =
+    subst (λ (k : SeatState). MayPublish capacity slots id k x) (sym e)
+    (publishes capacity slots id (view m.0.log m.0.learned (Writing stage sequence labels), m.1) x sequence labels stage refl even
+    lx small up)
 
 -- labels have moved, by the sequence number at which they began to
 pub ends_moving_at : (capacity slots id : ℕ) (m : SeatState) (sequence from : ℕ) (labels : List ℕ) → from ≡ sequence + 1

@@ -1,6 +1,5 @@
 -- What each kind of step gives: the seat before it, the number that it found or stored, and the seat after it.
 use Rattle.std.specs.Prelude.{◌≡◌, ℕ, ◌+◌, ◌-◌, ◌%◌, ◌<◌, ◌↔◌, List, [], ◌∷◌, ◌++◌, length, slice_set, nat_le, if◌then◌else◌}
-use mathlib.Core.Option.{some}
 use Rattle.atomic_table.specs.Table.{Me, Step}
 use Rattle.pipe_model.specs.Orders.OrderList.{IsBeforeIn, list_of_log}
 use Rattle.om_shared.specs.SharedLists.{StartsWith}
@@ -33,7 +32,7 @@ labelling x label Spent = Spent
 
 -- an element has another label
 abbrev pub stored : Step ℕ → SeatState → ℕ → SeatState → Type 0
-stored step m found m' = m' ≡ (view m.0.log m.0.learned (labelling (step.word - 2) step.first m.0.role), m.1)
+stored step m found m' = m' ≡ (view m.0.log m.0.learned (labelling (step.word - 1) step.first m.0.role), m.1)
 
 abbrev pub rested : Role → Role
 rested (Writing stage sequence labels) = Writing Resting sequence labels
@@ -52,18 +51,17 @@ with_entry x role v = with_entries (x ∷ []) role v
 abbrev pub with_insertion : ℕ → View → View
 with_insertion x v = with_entry x (rested v.role) v
 
--- an element was inserted after the one that the step announces
+-- an element was inserted after the one whose label the step reads
 abbrev pub published : Step ℕ → SeatState → ℕ → SeatState → Type 0
-published step m found m' = (x : ℕ) → step.said ≡ some x → m' ≡ (with_insertion x m.0, m.1)
+published step m found m' = m' ≡ (with_insertion (step.word - 1) m.0, m.1)
 
--- an element is inserted after the one that the step announces, and has no label yet
+-- an element is inserted after the one whose label the step reads, and has no label yet
 abbrev pub announced : Step ℕ → SeatState → ℕ → SeatState → Type 0
-announced step m found m' = (x : ℕ) → step.said ≡ some x → m' ≡ (with_entry x m.0.role m.0, m.1)
+announced step m found m' = m' ≡ (with_entry (step.word - 1) m.0.role m.0, m.1)
 
--- an element is inserted after the one that the step announces, and another after that; neither has a label yet
+-- an element is inserted after the one whose label the step reads, and another after that; neither has a label yet
 abbrev pub announced_pair : Step ℕ → SeatState → ℕ → SeatState → Type 0
-announced_pair step m found m' = (x : ℕ) → step.said ≡ some x
-    → m' ≡ (with_entries (x ∷ (1 + length m.0.log) ∷ []) m.0.role m.0, m.1)
+announced_pair step m found m' = m' ≡ (with_entries ((step.word - 1) ∷ (1 + length m.0.log) ∷ []) m.0.role m.0, m.1)
 
 -- the log that the writer learned of is a prefix of its own
 abbrev pub checked_learned : Step ℕ → SeatState → ℕ → SeatState → Type 0
@@ -84,7 +82,7 @@ noting x label Spent = Spent
 
 -- the pass has noted the label of one more element
 abbrev pub noted_label : Step ℕ → SeatState → ℕ → SeatState → Type 0
-noted_label step m found m' = m' ≡ (view m.0.log m.0.learned (noting (step.word - 2) found m.0.role), m.1)
+noted_label step m found m' = m' ≡ (view m.0.log m.0.learned (noting (step.word - 1) found m.0.role), m.1)
 
 -- if the sequence number is even and still the noted one, two noted labels are in the order of their elements in the list
 -- of the seen log

@@ -8,7 +8,7 @@ ghost use Rattle.om_shared.specs.SharedLists.{HasChosenLabels};
 ghost use Rattle.om_shared.specs.declared.view.Stage.TheVariants.{Moving};
 
 use crate::rule::{Announce, AnnouncePair, Settle, StartMoving, StoreLabel};
-use crate::table::{COUNT, HEAD, OrderSeat, OrderWords, SEQUENCE};
+use crate::table::{HEAD, OrderSeat, OrderWords, SEQUENCE};
 use om_list::insertion::insert_element;
 use om_relabel::links::{Links, MOST_ELEMENTS};
 
@@ -58,8 +58,7 @@ pub(crate) fn announce_after(
     ensures moving { IsBetween Moving words.now.key words.now.table_id.words result links.now pending.new.items seat.new.me }
 {
     let moving = odd_sequence(words, seat, links, pending.as_slice(), sequence);
-    let entries = links.label.len() as u64 + pending.len() as u64 - 1;
-    words.compare_exchange_with::<Announce>(seat, COUNT, entries, entries + 1, &x);
+    words.load::<Announce>(seat, x as usize + HEAD);
     pending.push_reserved(x);
     moving
 }
@@ -88,10 +87,10 @@ pub(crate) fn announce_pair_after(
     ensures moving { IsBetween Moving words.now.key words.now.table_id.words result links.now pending.new.items seat.new.me }
 {
     let moving = odd_sequence(words, seat, links, pending.as_slice(), sequence);
-    let entries = links.label.len() as u64 + pending.len() as u64 - 1;
-    words.compare_exchange_with::<AnnouncePair>(seat, COUNT, entries, entries + 2, &x);
+    let element = links.label.len() as u32 + pending.len() as u32;
+    words.load::<AnnouncePair>(seat, x as usize + HEAD);
     pending.push_reserved(x);
-    pending.push_reserved(entries as u32 + 1);
+    pending.push_reserved(element);
     moving
 }
 

@@ -17,8 +17,5 @@ pub(crate) type OrderSeat = Seat<u32, View>;
 /// The word of the sequence number.
 pub(crate) const SEQUENCE: usize = 0;
 
-/// The word of the number of insertions.
-pub(crate) const COUNT: usize = 1;
-
-/// The number of words before the first label.
-pub(crate) const HEAD: usize = 2;
+/// The number of words before the first label: that of element `x` is at `x + HEAD`.
+pub(crate) const HEAD: usize = 1;

@@ -96,19 +96,9 @@ module _ {v : BookState} {t : TokenFields} (kind : Kind) (n : ℤ) (trace : List
     free = λ w. passed_beside (state_of v).frames t.iteration u n (free w);
   })
 
-  pub nodes1 : length (nodes_at (own_columns (state_of v1)) t.iteration) ≡ t.index + 1
-  nodes1 =
-      let a = ap (λ s. length (nodes_at (own_columns s) t.iteration)) state_is in
-      let b = ap length (nodes_at_moved (state_of v).frames t.iteration out.token.running.frame u out.token.running.is) in
-      let d = out.token.index in
-      a ∙ (b ∙ (omega (arith, d)))
-
   place1 : get_or v1.tokens t.iteration Spent ≡ Kept (record t1 { now = 1 + max (last_ticket v.log) t.now })
   place1 = get_or-set_same v.tokens t.iteration (Kept (record t1 { now = 1 + max (last_ticket v.log) t.now })) Spent
       (out_inside v.tokens t.iteration out.out)
-
-  pub folded1 : kept_folded (get_or v1.tokens t.iteration Spent) ≡ folded
-  folded1 = ap kept_folded place1
 
   pub entered1 : (one : ℕ) → with_entered (record v1 { reads = v1.reads + one }) t.iteration ≡ record v {
     log = with_events v.log t.now (Advance t.iteration kind n ∷ Enter t.iteration ∷ []);

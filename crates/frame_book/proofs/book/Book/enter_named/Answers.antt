@@ -1,5 +1,5 @@
 use mir.Val.{SFits}
-use Rattle.std.proofs.Common.{◌≡◌, ℕ, ℤ, List, ◌<◌, ◌+◌, ◌^◌, arith, length, set, refl, ap, sym, subst, ◌∙◌, false, Some, None, w64, rules}
+use Rattle.std.proofs.Common.{◌≡◌, ℕ, ℤ, ◌<◌, ◌+◌, ◌^◌, arith, length, set, refl, ap, sym, subst, ◌∙◌, false, Some, None, w64, rules}
 use Rattle.std.proofs.Common.{to_z, of_z}
 use Rattle.std.proofs.lemmas.Grind.{common_steps}
 use Rattle.std.proofs.lemmas.Int.{to_z-of_z}
@@ -14,16 +14,16 @@ use Rattle.frame_book.specs.Invariant.{IsBook}
 use Rattle.frame_book.specs.Tables.{Tables, book_state}
 use Rattle.frame_book.specs.BookTables.{tables_of}
 use Rattle.pipe_model.specs.declared.marks.Marks.{Marks}
-use Rattle.frame_rows.specs.Places.{HoldsRows, PlaceTable, place_of, spare_rows, with_place}
-use Rattle.frame_rows.specs.IterationRows.{IterationRow, row_at, with_instance, left_numbers, marks_at, left_marks}
+use Rattle.frame_rows.specs.Places.{PlaceTable, spare_rows, with_place}
+use Rattle.frame_rows.specs.IterationRows.{IterationRow, left_numbers, marks_at, left_marks}
 use Rattle.frame_book.specs.CallEffects.{seen_whole, with_entered}
 use Rattle.frame_book.proofs.Keeping.Enter.{Enters, Finds, enters, may_within, named, rows, at_home, status_is, row_room}
 use Rattle.frame_book.proofs.Keeping.Enter.{few, room, searchable, kept, index_is, now_below, up_marks, left_has_marks, placed}
 use Rattle.frame_book.proofs.Keeping.Enter.{enter_keeps, enter_view, entered_tables, folded_was, enter_given, index_here}
+use Rattle.frame_book.proofs.Keeping.Pass.{places_started}
 use Rattle.frame_book.proofs.Keeping.Stop.{log_room, last_below}
 use Rattle.frame_rows.proofs.AliveRows.{alive_set}
-use Rattle.frame_rows.proofs.FrameRows.{row_at_within}
-use Rattle.frame_rows.proofs.PlacedRows.{place_free, places_entered, places_same, row_at_set}
+use Rattle.frame_rows.proofs.PlacedRows.{place_free, places_same}
 use Rattle.frame_book.specs.TicketLog.{Ledger}
 use Rattle.frame_book.proofs.BookLogs.LogEntries.{last_ticket_with}
 use Rattle.frame_book.proofs.book.Book.enter_named.Given.{Over}
@@ -181,17 +181,6 @@ put-requires-clause-marks g c =
     (place_free c.self.inside.rows.items c.self.inside.places c.args.iteration (c.in-Some.token.index + 1) c.index_mut-row.result.now
     c.self.invariant.2 (entry g k).at_row (omega (arith, room, e))).1
 
--- the places after the start
-places_hold : {M : Type 0} → (rows : List (IterationRow M)) (p q : PlaceTable) (i k : ℕ) (r taken again y : IterationRow M) (n : ℤ)
-    (m : Marks) → row_at rows i ≡ Some r → taken ≡ record r { token = None } → again ≡ taken → y ≡ with_instance n m again
-    → k ≡ length r.numbers → length r.numbers < r.room → q ≡ with_place (place_of p i k) n m p → HoldsRows rows p
-    → HoldsRows (set (set rows i taken) i y) q
-places_hold {M} rows p q i k r taken again y n m at et ea ey ek free eq h =
-    let t : IterationRow M = record r { token = None } in
-    let there = row_at_set rows i t (row_at_within rows i r at) in
-    let held = places_entered (set rows i t) p i t n m there free (places_same rows p i r t t at refl refl refl refl h) in
-    rw (ey, ea, et, eq, ek) held
-
 pub invariant_of-self : goal.invariant_of-self
 invariant_of-self g c =
     let k = (goal.at.invariant_of-self g c).After-as_slice-2 in
@@ -209,9 +198,10 @@ invariant_of-self g c =
       )
           (alive_set c.self.inside.rows.items _ c.args.iteration c.index_mut-row.result.now _ _ _ x.at_row
           (ap is_completed (status_is c.self.invariant.0 x)) c.self.invariant.1),
-      places_hold c.self.inside.rows.items c.self.inside.places c.put.new.self c.args.iteration (c.in-Some.token.index + 1)
+      places_started c.self.inside.rows.items c.self.inside.places c.put.new.self c.args.iteration (c.in-Some.token.index + 1)
           c.index_mut-row.result.now c.take_token.new.self c.index_mut-row-2.result.now c.enter.new.self _ _ x.at_row
-          c.take_token.ensures.row
+          (ap (λ (z : IterationRow _). z.numbers) c.take_token.ensures.row)
+          (ap (λ (z : IterationRow _). z.marks) c.take_token.ensures.row) (ap (λ (z : IterationRow _). z.room) c.take_token.ensures.row)
           (c.index_mut-row-2.ensures.value ∙ get_or-set_same c.self.inside.rows.items c.args.iteration c.take_token.new.self
           c.index_mut-row-2.result.now (may_within c.self.invariant.0 c.self.view_is c.requires.may))
           c.enter.ensures (place_is g k) (row_room c.self.invariant.0 x) c.put.ensures c.self.invariant.2,

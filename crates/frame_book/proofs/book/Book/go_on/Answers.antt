@@ -4,27 +4,26 @@ use Rattle.std.proofs.lemmas.Bool.{false≢true}
 use Rattle.std.proofs.lemmas.Grind.{common_steps}
 use Rattle.std.proofs.lemmas.Int.{to_z-of_z}
 use Rattle.dep_fold.specs.Folding.{FoldedPasses}
-use Rattle.pipe_model.specs.declared.event.Event.TheVariants.{Advance, Enter}
+use Rattle.pipe_model.specs.declared.event.Event.TheVariants.{Advance}
 use Rattle.pipe_model.specs.declared.node.Kind.TheVariants.{Wait}
 use Rattle.pipe_model.specs.declared.stage.Counter.{Counter}
 use Rattle.pipe_model.specs.declared.stage.StageEnd.{StageEnd}
 use Rattle.pipe_model.specs.Pipelines.Behaviour.{Performs, Staged}
 use Rattle.pipe_frame.specs.Replies.{accessed}
-use Rattle.pipe_model.specs.Races.Columns.{nodes_at}
-use Rattle.pipe_model.specs.Runs.Allowed.{LeftHasPassed, MayEnter}
+use Rattle.pipe_model.specs.Runs.Allowed.{LeftHasPassed}
 use Rattle.pipe_model.specs.Runs.StageEnds.{stage_end_events}
-use Rattle.pipe_model.specs.Runs.State.{own_columns}
 use Rattle.std.specs.Prelude.{Option}
 use Rattle.pipe_frame.specs.LeftCounters.{IsNotAhead, must_read_left}
 use Rattle.pipe_frame.specs.TokenFields.{fields_of}
-use Rattle.frame_book.specs.BookStates.{BookState, Kept, Out, Spent, IsOut, state_of, with_events, last_ticket, item_or, left_of}
+use Rattle.frame_book.specs.BookStates.{BookState, Kept, IsOut, state_of, with_events, last_ticket, item_or, left_of}
 use Rattle.frame_book.specs.BookTables.{tables_of}
+use Rattle.frame_book.specs.GivenTokens.{IsOutOf}
 use Rattle.frame_rows.specs.RowsOfFrames.{AreRows}
 use Rattle.frame_rows.specs.IterationRows.{WaitsAt, left_row_counter}
-use Rattle.frame_book.specs.CallEffects.{with_named, with_entered, folded_after, reads_left, kept_folded}
+use Rattle.frame_book.specs.CallEffects.{with_named, folded_after, reads_left}
 use Rattle.frame_rows.specs.NamedStages.{stage_end}
 use Rattle.frame_book.proofs.Conditions.KeptCounters.{not_ahead, lets, let_by, goes_by, waits_by, end_is, left_counter_same}
-use Rattle.frame_book.proofs.Conditions.AdvancedStates.{count_small, more_reads, reads_is, going1, may1, nodes1, folded1, entered1}
+use Rattle.frame_book.proofs.Conditions.AdvancedStates.{count_small, more_reads, reads_is}
 use Rattle.frame_book.proofs.BookLogs.LogEntries.{length_with}
 use Rattle.frame_book.proofs.Keeping.LeaveReady.{out_within}
 use Rattle.frame_book.proofs.Keeping.Stop.{log_room}
@@ -133,9 +132,10 @@ name-requires-clause-performs g c =
 pub name-requires-clause-payload : goal.name-requires-clause-payload
 name-requires-clause-payload g c = c.requires.payload
 
-pub name-requires-clause-out : goal.name-requires-clause-out
-name-requires-clause-out g c =
-    let k = (goal.at.name-requires-clause-out g c).After-lets_enter-enters in
+-- the token is that of a running instance, also with the counter that was read
+is_out : (g : Over) (c : After-lets_enter-enters g)
+    → IsOutOf c.args.self.now (record (fields_of c.args.token) { folded = c.fold_left.new.folded })
+is_out g c =
     let out = c.requires.out in
     record {
       out = out.out;
@@ -144,12 +144,24 @@ name-requires-clause-out g c =
         index = out.token.index;
         marks = out.token.marks;
         joined = out.token.joined;
-        folded = subst (IsNotAhead (state_of c.args.self.now).frames c.args.token.iteration) (sym (now g k))
+        folded = subst (IsNotAhead (state_of c.args.self.now).frames c.args.token.iteration) (sym (now g c))
             (not_ahead _ (state_of c.args.self.now).frames c.self.inside.rows.items c.args.token.iteration c.needs_left-read.result
-            c.args.token.folded (rows g k) (within g k) out.token.folded);
+            c.args.token.folded (rows g c) (within g c) out.token.folded);
       };
       now = out.now;
     }
+
+pub name-requires-clause-out : goal.name-requires-clause-out
+name-requires-clause-out g c = is_out g (goal.at.name-requires-clause-out g c).After-lets_enter-enters
+
+pub enter_next-requires-clause-out : goal.enter_next-requires-clause-out
+enter_next-requires-clause-out g c = is_out g (goal.at.enter_next-requires-clause-out g c).After-lets_enter-enters
+
+pub enter_next-requires-clause-free : goal.enter_next-requires-clause-free
+enter_next-requires-clause-free g c =
+    let j = (goal.at.enter_next-requires-clause-free g c).After-lets_enter-enters in
+    λ w. subst (LeftHasPassed (state_of c.args.self.now).frames c.args.token.iteration) (sym (number_is g j))
+    (free g j (c.lets_enter-enters.ensures.0 c.if-enters.true) w)
 
 pub overflow_add-self : goal.overflow_add-self
 overflow_add-self g c =
@@ -168,78 +180,33 @@ invariant_of-self g c =
     let k = (goal.at.invariant_of-self g c).After-count_of in
     (more_reads c.self-2.invariant.0 _ (reads_fit g k c.self-2.view_is), c.self-2.invariant.1, c.self-2.invariant.2)
 
-pub invariant_of-self-else-enters : goal.invariant_of-self-else-enters
-invariant_of-self-else-enters g c =
-    let k = (goal.at.invariant_of-self-else-enters g c).After-count_of in
-    (more_reads c.self-2.invariant.0 _ (reads_fit g k c.self-2.view_is), c.self-2.invariant.1, c.self-2.invariant.2)
-
-pub enter_named-requires-clause-going : goal.enter_named-requires-clause-going
-enter_named-requires-clause-going g c =
-    let k = (goal.at.enter_named-requires-clause-going g c).After-count_of in
-    subst (λ v. (state_of v).stopped ≡ false) (sym (after g k c.self-2.view_is))
-    (going1 c.args.kind c.args.number c.args.trace c.fold_left.new.folded c.requires.going c.requires.out)
-
-pub enter_named-requires-clause-may : goal.enter_named-requires-clause-may
-enter_named-requires-clause-may g c =
-    let j = (goal.at.enter_named-requires-clause-may g c).After-lets_enter-enters in
-    let k = (goal.at.enter_named-requires-clause-may g c).After-count_of in
-    subst (λ v. MayEnter (state_of v) c.args.token.iteration) (sym (after g k c.self-2.view_is))
-    (may1 c.args.kind c.args.number c.args.trace c.fold_left.new.folded c.requires.going c.requires.out
-    (free g j (c.lets_enter-enters.ensures.0 c.if-enters.true)))
-
 pub returns-then-enters-clause-returned : goal.returns-then-enters-clause-returned
 returns-then-enters-clause-returned g c =
-    let j = (goal.at.returns-then-enters-clause-returned g c).After-lets_enter-enters in
-    let k = (goal.at.returns-then-enters-clause-returned g c).After-count_of in (
+    let j = (goal.at.returns-then-enters-clause-returned g c).After-lets_enter-enters in (
       c.requires.going,
       goes_by (state_of c.args.self.now) c.args.token.iteration c.args.kind c.args.number
           (free g j (c.lets_enter-enters.ensures.0 c.if-enters.true)),
-      c.enter_named.ensures.instance.0,
-      c.enter_named.ensures.instance.1
-          ∙ (ap (λ v. length (nodes_at (own_columns (state_of v)) c.args.token.iteration)) (after g k c.self-2.view_is)
-          ∙ nodes1 c.args.kind c.args.number c.args.trace c.fold_left.new.folded c.requires.going c.requires.out),
+      c.enter_next.ensures.instance.0,
+      c.enter_next.ensures.instance.1,
     )
-
-pub returns-then-enters-clause-book : goal.returns-then-enters-clause-book
-returns-then-enters-clause-book g c =
-    let j = (goal.at.returns-then-enters-clause-book g c).After-lets_enter-enters in
-    let k = (goal.at.returns-then-enters-clause-book g c).After-count_of in
-    let i = c.args.token.iteration in
-    c.enter_named.ensures.book ∙ (ap (λ v. with_entered v i) (after g k c.self-2.view_is)
-    ∙ (entered1 c.args.kind c.args.number c.args.trace c.fold_left.new.folded c.requires.going c.requires.out c.count_of.result
-    ∙ ap₂ (λ es k. record c.args.self.now {
-      log = with_events c.args.self.now.log c.args.token.now (es ++ Enter i ∷ []);
-      traces = set c.args.self.now.traces i (item_or [] c.args.self.now.traces i ++ c.args.trace ∷ []);
-      tokens = set c.args.self.now.tokens i Out;
-      reads = c.args.self.now.reads + k;
-    }) (sym (end_is i c.args.kind c.args.number c.requires.kind)) (c.count_of.ensures ∙ ap (λ b. cond b 1 0) (reads_are g j))))
 
 pub returns-then-enters-clause-token : goal.returns-then-enters-clause-token
 returns-then-enters-clause-token g c =
     let j = (goal.at.returns-then-enters-clause-token g c).After-lets_enter-enters in
-    let k = (goal.at.returns-then-enters-clause-token g c).After-count_of in (
-      c.enter_named.ensures.token,
-      c.enter_named.ensures.folded
-          ∙ (ap (λ (v : BookState). kept_folded (item_or Spent v.tokens c.args.token.iteration)) (after g k c.self-2.view_is)
-          ∙ (folded1 c.args.kind c.args.number c.args.trace c.fold_left.new.folded c.requires.going c.requires.out
-          ∙ folded_is g j)),
-    )
+    (c.enter_next.ensures.token, c.enter_next.ensures.folded ∙ folded_is g j)
 
-pub returns-then-enters-clause-now : goal.returns-then-enters-clause-now
-returns-then-enters-clause-now g c = c.enter_named.ensures.now
-
-pub returns-else-enters-clause-returned : goal.returns-else-enters-clause-returned
-returns-else-enters-clause-returned g c =
-    let k = (goal.at.returns-else-enters-clause-returned g c).After-lets_enter-enters in (
+pub returns-clause-returned : goal.returns-clause-returned
+returns-clause-returned g c =
+    let k = (goal.at.returns-clause-returned g c).After-lets_enter-enters in (
       c.requires.going,
       waits_by (state_of c.args.self.now) c.args.token.iteration c.args.kind c.args.number
           (λ p. false≢true (sym c.if-enters.false ∙ c.lets_enter-enters.ensures.1 (passes g k p))),
     )
 
-pub returns-else-enters-clause-book : goal.returns-else-enters-clause-book
-returns-else-enters-clause-book g c =
-    let j = (goal.at.returns-else-enters-clause-book g c).After-lets_enter-enters in
-    let k = (goal.at.returns-else-enters-clause-book g c).After-count_of in
+pub returns-clause-book : goal.returns-clause-book
+returns-clause-book g c =
+    let j = (goal.at.returns-clause-book g c).After-lets_enter-enters in
+    let k = (goal.at.returns-clause-book g c).After-count_of in
     let i = c.args.token.iteration in
     let end = stage_end c.args.kind c.args.number in
     after g k c.self-2.view_is ∙ (ap₂ (λ es k. record c.args.self.now {
@@ -256,9 +223,3 @@ returns-else-enters-clause-book g c =
           { now = 1 + max (last_ticket c.args.self.now.log) c.args.token.now; folded = o }));
       reads = c.args.self.now.reads + cond (reads_left c.args.self.now (fields_of c.args.token) end) 1 0;
     }) (folded_is g j))
-
-pub returns-else-enters-clause-token : goal.returns-else-enters-clause-token
-returns-else-enters-clause-token g c = tt
-
-pub returns-else-enters-clause-now : goal.returns-else-enters-clause-now
-returns-else-enters-clause-now g c = tt
