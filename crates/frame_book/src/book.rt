@@ -398,18 +398,19 @@ impl<M: Payload<L>, L: ListWriter + Drop> Book<M, L> {
             token.index,
             left,
         );
-        let named = self
-            .ledger
-            .stamp(token.now, Event::Advance(iteration, kind, number));
+        let advance = Event::Advance(iteration, kind, number);
+        let named = self.ledger.stamp(token.now, advance);
+        let index = token.index + 1;
+        let joined = left.unwrap_or(token.joined);
         token.now = self.ledger.stamp(named, Event::Enter(iteration));
-        token.index += 1;
-        token.joined = left.unwrap_or(token.joined);
+        token.index = index;
+        token.joined = joined;
         token.marks = marks;
-        self.places
-            .put(iteration, token.index as usize, number, marks);
+        self.places.put(iteration, index as usize, number, marks);
         let row = &mut self.rows[iteration as usize];
         row.enter(number, marks);
-        self.reads += count_of(read);
+        let counted = count_of(read);
+        self.reads += counted;
         token
     }
 

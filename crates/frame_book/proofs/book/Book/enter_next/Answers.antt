@@ -193,9 +193,9 @@ stamp-requires-clause-now g c =
     let k = (goal.at.stamp-requires-clause-now g c).After-end in
     rw c.stamp-named.ensures.ticket (now_below (keeps g k) (entry g k) refl)
 
-pub overflow_add-token : goal.overflow_add-token
-overflow_add-token g c =
-    let k = (goal.at.overflow_add-token g c).After-end in
+pub overflow_add-index : goal.overflow_add-index
+overflow_add-index g c =
+    let k = (goal.at.overflow_add-index g c).After-end in
     let l = few (keeps g k) (entry g k) in
     let e = (kept (keeps g k) (entry g k) refl).index in
     let w : c.args.token.index + 1 < 2 ^ 32 = omega (arith, l, e) in
@@ -240,9 +240,9 @@ overflow_add-self g c =
     (c.self.invariant.0.stopped ∙ subst (λ v. (state_of v).stopped ≡ false) (sym c.self.view_is) c.requires.going) in
     let size = c.self.invariant.0.sized.log_room in
     let small = c.self.invariant.0.sized.bounded in
-    let one = c.count_of.ensures in
+    let one = c.count_of-counted.ensures in
     let most = count_small c.args.read in
-    let w : c.self.inside.reads + c.count_of.result < 2 ^ 64 = omega (arith, few, room, size, small, one, most) in
+    let w : c.self.inside.reads + c.count_of-counted.result < 2 ^ 64 = omega (arith, few, room, size, small, one, most) in
     grind (arith, common_steps)
 
 -- the tables once the stage is entered
@@ -304,7 +304,7 @@ invariant_of-self g c =
     let same = passed_tables g k found c.as_slice-rows.ensures.value
     (row_is g (goal.at.invariant_of-self g c).After-index_mut-row-2) c.enter.ensures c.start_below-marks.ensures.marks
     c.start_below-marks.ensures.lists c.stamp-named.ensures.log c.stamp-named.ensures.ticket c.stamp.ensures.log
-    (ap (λ (p : PlaceTable). spare_rows p.spare) c.put.ensures) c.count_of.ensures in
+    (ap (λ (p : PlaceTable). spare_rows p.spare) c.put.ensures) c.count_of-counted.ensures in
     let out = subst (λ v. IsOutOf v (fields_of c.args.token)) (sym c.self.view_is) c.requires.out in (
       subst (IsBook g.M.Stands.whole g.M.Stands.ready_at g.M.Stands.tie) (sym same) (enter_keeps (keeps g k) (entry g k) refl found),
       rw (
@@ -326,7 +326,7 @@ returns-clause-book g c =
     let same = passed_tables g k found c.as_slice-rows.ensures.value
     (row_is g (goal.at.returns-clause-book g c).After-index_mut-row-2) c.enter.ensures c.start_below-marks.ensures.marks
     c.start_below-marks.ensures.lists c.stamp-named.ensures.log c.stamp-named.ensures.ticket c.stamp.ensures.log
-    (ap (λ (p : PlaceTable). spare_rows p.spare) c.put.ensures) c.count_of.ensures in
+    (ap (λ (p : PlaceTable). spare_rows p.spare) c.put.ensures) c.count_of-counted.ensures in
     ap book_state same ∙ (enter_view (keeps g k) (entry g k) refl found
     ∙ pass.passed_view c.self.invariant.0 c.self.view_is c.args.token c.args.kind c.args.number c.args.trace c.args.read
     c.requires.going c.requires.out c.requires.performs c.requires.payload c.requires.free c.index_mut-row.ensures.value)
@@ -346,12 +346,12 @@ returns-clause-token g c =
     let same = passed_tables g k found c.as_slice-rows.ensures.value
     (row_is g (goal.at.returns-clause-token g c).After-index_mut-row-2) c.enter.ensures c.start_below-marks.ensures.marks
     c.start_below-marks.ensures.lists c.stamp-named.ensures.log c.stamp-named.ensures.ticket c.stamp.ensures.log
-    (ap (λ (p : PlaceTable). spare_rows p.spare) c.put.ensures) c.count_of.ensures in
+    (ap (λ (p : PlaceTable). spare_rows p.spare) c.put.ensures) c.count_of-counted.ensures in
     subst (λ (b : Tables _). IsGivenBy g.M.Stands.ready_at g.M.Stands.tie (book_state b) (record {
       iteration = c.args.token.iteration;
       index = c.args.token.index + 1;
       now = c.stamp.result;
-      joined = c.unwrap_or.result;
+      joined = c.unwrap_or-joined.result;
       folded = c.args.token.folded;
       marks = c.start_below-marks.result;
       payload = c.start_below-marks.new.payload;
@@ -363,7 +363,7 @@ returns-clause-token g c =
       c.stamp.ensures.ticket,
       stamped g k c.stamp-named.ensures.log,
       c.stamp-named.ensures.ticket,
-      c.unwrap_or.ensures,
+      c.unwrap_or-joined.ensures,
     ) (enter_given (keeps g k) (entry g k) refl found c.start_below-marks.new.payload
     (λ replies q. c.start_below-marks.ensures.ready (tree_of c.self.inside.program) c.self.inside.input c.args.token.iteration replies q)
     (c.start_below-marks.ensures.tie ∙ ap (λ o. record {
