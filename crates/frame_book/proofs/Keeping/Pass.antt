@@ -111,6 +111,6 @@ module _ {M : Type 0} {Whole : SyntaxTree → M → Type 0} {ReadyAt : SyntaxTre
     pub passed_view : with_entered (book_state between) t.iteration ≡ with_passed v (fields_of t) k n trace read
     passed_view =
         ap (λ (w : BookState). with_entered (record w { reads = b.reads + cond read 1 0 }) t.iteration)
-            (naming.name_view Whole ReadyAt tie b t r k n trace h at going_here out_here performs_here pay_here)
+        (naming.name_view Whole ReadyAt tie b t r k n trace h at going_here out_here performs_here pay_here)
         ∙ (entered1 k n trace t.folded going_here out_here (cond read 1 0)
         ∙ ap (λ (w : BookState). with_passed w (fields_of t) k n trace read) seen)

@@ -35,5 +35,7 @@ returns-clause-moving c =
     (omega (arith, there, long)))
     (omega (arith, room, long))
     (c.push_reserved.ensures.items ∙ ap (λ (xs : List ℕ). xs ++ c.args.x ∷ []) (sym c.as_slice.ensures.value))
-    (c.load.ensures.2 ∙ ap (λ (y : ℕ). (with_entry y c.odd_sequence-moving.new.seat.me.0.role c.odd_sequence-moving.new.seat.me.0,
-    c.odd_sequence-moving.new.seat.me.1)) (element_at c.args.x)) e.moving
+    (c.load.ensures.2 ∙ ap (λ (y : ℕ). (
+      with_entry y c.odd_sequence-moving.new.seat.me.0.role c.odd_sequence-moving.new.seat.me.0,
+      c.odd_sequence-moving.new.seat.me.1,
+    )) (element_at c.args.x)) e.moving

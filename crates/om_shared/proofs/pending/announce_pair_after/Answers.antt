@@ -63,6 +63,9 @@ returns-clause-moving c =
     (pushed_pair c.as_slice.result.now c.push_reserved.new.self.items c.push_reserved-2.new.self.items c.args.x _ _ number
     (c.push_reserved.ensures.items ∙ ap (λ (xs : List ℕ). xs ++ c.args.x ∷ []) (sym c.as_slice.ensures.value))
     c.push_reserved-2.ensures.items)
-    (c.load.ensures.2 ∙ ap (λ (y : ℕ). (with_entries (y ∷ (1 + length c.odd_sequence-moving.new.seat.me.0.log) ∷ [])
-    c.odd_sequence-moving.new.seat.me.0.role c.odd_sequence-moving.new.seat.me.0, c.odd_sequence-moving.new.seat.me.1))
+    (c.load.ensures.2 ∙ ap (λ (y : ℕ). (
+      with_entries (y ∷ (1 + length c.odd_sequence-moving.new.seat.me.0.log) ∷ [])
+          c.odd_sequence-moving.new.seat.me.0.role c.odd_sequence-moving.new.seat.me.0,
+      c.odd_sequence-moving.new.seat.me.1,
+    ))
     (element_at c.args.x)) e.moving
