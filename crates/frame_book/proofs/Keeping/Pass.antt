@@ -65,7 +65,8 @@ module _ {M : Type 0} {Whole : SyntaxTree → M → Type 0} {ReadyAt : SyntaxTre
     performs_here = performed Whole ReadyAt tie b t r h at out_here (accessed trace ++ Staged k n ∷ [])
         (subst (λ w. Performs (left_of w t.iteration) (accessed trace ++ Staged k n ∷ [])) (sym seen) performs)
 
-    pub pay_here : IsPayloadOf ReadyAt tie (book_state b) t.iteration (replies_at (book_state b) t.iteration ++ replies_of trace ∷ []) t.payload
+    pub pay_here : IsPayloadOf ReadyAt tie (book_state b) t.iteration
+        (replies_at (book_state b) t.iteration ++ replies_of trace ∷ []) t.payload
     pay_here = subst (λ w. IsPayloadOf ReadyAt tie w t.iteration (replies_at w t.iteration ++ replies_of trace ∷ []) t.payload) (sym seen)
         pay
 

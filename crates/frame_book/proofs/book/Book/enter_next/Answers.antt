@@ -1,5 +1,6 @@
 -- The instance ends and its iteration enters the next stage: what holds of the tables in between gives what each step asks for.
-use Rattle.std.proofs.Common.{◌≡◌, ℕ, List, [], ◌∷◌, ◌<◌, ◌≤◌, ◌+◌, ◌^◌, arith, length, max, cond, set, refl, ap, ap₂, sym, subst, ◌∙◌, false, Option, Some, None}
+use Rattle.std.proofs.Common.{◌≡◌, ℕ, List, [], ◌∷◌, ◌<◌, ◌≤◌, ◌+◌, ◌^◌, arith, length, max, cond, set, refl, ap, ap₂, sym, subst, ◌∙◌}
+use Rattle.std.proofs.Common.{false, Option, Some, None}
 use Rattle.std.proofs.Common.{w64, to_z, of_z}
 use Rattle.std.proofs.lemmas.Grind.{common_steps}
 use Rattle.std.proofs.lemmas.Int.{to_z-of_z}
@@ -230,7 +231,8 @@ row_is g c = c.index_mut-row-2.ensures.value ∙ get_or-set_same c.self.inside.r
 pub enter-requires : goal.enter-requires
 enter-requires g c =
     let k = (goal.at.enter-requires g c).After-end in
-    subst (λ (z : IterationRow _). length z.numbers < z.room) (sym (row_is g (goal.at.enter-requires g c).After-index_mut-row-2 ∙ ended g k))
+    subst (λ (z : IterationRow _). length z.numbers < z.room)
+    (sym (row_is g (goal.at.enter-requires g c).After-index_mut-row-2 ∙ ended g k))
     (row_room (keeps g k) (entry g k))
 
 pub overflow_add-self : goal.overflow_add-self
@@ -371,6 +373,7 @@ returns-clause-token g c =
       seat = (g.M.Stands.tie c.args.token.payload).seat;
     }) (c.start_below-marks.ensures.lists
     ∙ ap (λ rs. with_start c.self.inside.orders
-    (down_taken (Some (marks_at rs c.args.token.iteration c.args.token.index)) (left_marks rs c.args.token.iteration c.left_place-left.result))
+    (down_taken (Some (marks_at rs c.args.token.iteration c.args.token.index)) (left_marks rs c.args.token.iteration
+    c.left_place-left.result))
     (right_taken (Some (marks_at rs c.args.token.iteration c.args.token.index)) (left_marks rs c.args.token.iteration
     c.left_place-left.result))) (c.as_slice-rows.ensures.value ∙ rows_are g k)))))
