@@ -2,7 +2,7 @@
 
 ghost use Rattle.std.specs.Prelude.{◌≡◌, All, IfOk};
 ghost use Rattle.run_record.specs.LogLines.{log_text};
-ghost use Rattle.run_record.specs.LoggedRuns.{CanBeMerged, events_of};
+ghost use Rattle.run_record.specs.LoggedRuns.{CanBeMerged, columns_of, events_of};
 ghost use Rattle.run_record.specs.MergedLogs.{AreMerged, BookRises, ShardRises};
 ghost use Rattle.run_record.specs.OwnColumns.{made_columns};
 
@@ -22,18 +22,17 @@ use std::marker::Model;
 // Where the events of a run are.
 #[derive(Drop)]
 pub(crate) enum EventLogs {
-    // In one list.
-    Merged(Events),
+    // In one list, beside the columns.
+    Merged(RunLog),
     // In the book and in the shards, by their tickets.
     Apart(BookLog, Vec<ShardLog>),
 }
 
 /// The run log of a finished run. Contracts see its columns and its events in the order in which they
-/// happened. They may still be in the logs that the workers wrote, and are merged when they are asked
-/// for, since most callers need the columns alone.
+/// happened. The events may still be in the logs that the workers wrote: they are merged, and columns
+/// are made of them, when somebody asks, since most callers want neither.
 #[derive(Drop)]
 pub struct LoggedRun {
-    columns: Columns,
     logs: EventLogs,
 }
 
@@ -42,21 +41,35 @@ impl Model for LoggedRun {
 
     ghost Value = { RunLog };
 
-    ghost use Rattle.run_record.specs.LoggedRuns.{CanBeMerged, events_of};
+    ghost use Rattle.run_record.specs.LoggedRuns.{CanBeMerged, columns_of, events_of};
 
-    ghost view = { λ l. record { columns = l.columns; events = events_of l.logs } };
+    ghost view = { λ l. record { columns = columns_of l.logs; events = events_of l.logs } };
 
     ghost invariant = { λ l. CanBeMerged l.logs };
 }
 
-// Returns the events, merged unless they are merged already.
-fn into_events(alloc: Global, logs: EventLogs) -> Result<Events, NoMemory>
-    requires { CanBeMerged logs }
-    ensures { IfOk result (λ events. events ≡ events_of logs) }
+// Returns the columns, made of the events unless they are there.
+fn into_columns(alloc: Global, logs: EventLogs) -> Result<Columns, NoMemory>
+    ensures { IfOk result (λ columns. columns ≡ columns_of logs) }
 {
     match logs {
-        EventLogs::Merged(events) => Ok(events),
-        EventLogs::Apart(book, shards) => merged_events(alloc, book.as_slice(), shards.as_slice()),
+        EventLogs::Merged(log) => Ok(log.columns),
+        EventLogs::Apart(book, _) => columns_in(alloc, book.as_slice()),
+    }
+}
+
+// Returns the events, merged unless they are merged already, and the columns.
+fn into_run_log(alloc: Global, logs: EventLogs) -> Result<RunLog, NoMemory>
+    requires { CanBeMerged logs }
+    ensures { IfOk result (λ log. log ≡ record { columns = columns_of logs; events = events_of logs }) }
+{
+    match logs {
+        EventLogs::Merged(log) => Ok(log),
+        EventLogs::Apart(book, shards) => {
+            let events = merged_events(alloc, book.as_slice(), shards.as_slice())?;
+            let columns = columns_in(alloc, book.as_slice())?;
+            Ok(RunLog { columns, events })
+        }
     }
 }
 
@@ -66,7 +79,7 @@ fn lines_in(alloc: Global, cells: &[Declaration], logs: &EventLogs) -> Result<Ve
     ensures { IfOk result (λ lines. lines.items ≡ log_text cells.now (events_of logs.now)) }
 {
     match logs {
-        EventLogs::Merged(events) => Ok(lines_of(alloc, cells, events.as_slice())?),
+        EventLogs::Merged(log) => Ok(lines_of(alloc, cells, log.events.as_slice())?),
         EventLogs::Apart(book, shards) => {
             let events = merged_events(alloc, book.as_slice(), shards.as_slice())?;
             Ok(lines_of(alloc, cells, events.as_slice())?)
@@ -76,41 +89,39 @@ fn lines_in(alloc: Global, cells: &[Declaration], logs: &EventLogs) -> Result<Ve
 
 impl LoggedRun {
     /// Returns the run log of these logs, as `merge` does, but leaves the events where they are. In each
-    /// log the tickets must rise. Returns an error only if memory runs out.
-    pub fn of_logs(alloc: Global, book: BookLog, shards: Vec<ShardLog>) -> Result<Self, NoMemory>
+    /// log the tickets must rise.
+    pub fn of_logs(book: BookLog, shards: Vec<ShardLog>) -> Self
         requires book { BookRises book }
         requires shards { All ShardRises shards.items }
-        ensures events { IfOk result (λ log. AreMerged book shards.items log.events) }
-        ensures columns { IfOk result (λ log. log.columns ≡ made_columns log.events) }
+        ensures events { AreMerged book shards.items result.events }
+        ensures columns { result.columns ≡ made_columns result.events }
     {
-        let columns = columns_in(alloc, book.as_slice())?;
         let logs = EventLogs::Apart(book, shards);
-        Ok(LoggedRun { columns, logs })
+        LoggedRun { logs }
     }
 
     /// Returns a run log whose events are merged.
     pub fn of_run_log(run_log: RunLog) -> Self
         ensures { result ≡ run_log }
     {
-        let RunLog { columns, events } = run_log;
-        let logs = EventLogs::Merged(events);
-        LoggedRun { columns, logs }
+        let logs = EventLogs::Merged(run_log);
+        LoggedRun { logs }
     }
 
-    /// Returns the columns of the run.
-    pub fn columns(&self) -> &Columns
-        ensures { result.now ≡ self.now.columns }
+    /// Returns the columns of the run. Returns an error only if memory runs out.
+    pub fn into_columns(self, alloc: Global) -> Result<Columns, NoMemory>
+        ensures { IfOk result (λ columns. columns ≡ self.columns) }
     {
-        &self.columns
+        let LoggedRun { logs } = self;
+        into_columns(alloc, logs)
     }
 
     /// Merges the events, unless they are merged already. Returns an error only if memory runs out.
     pub fn into_run_log(self, alloc: Global) -> Result<RunLog, NoMemory>
         ensures { IfOk result (λ log. log ≡ self) }
     {
-        let LoggedRun { columns, logs } = self;
-        let events = into_events(alloc, logs)?;
-        Ok(RunLog { columns, events })
+        let LoggedRun { logs } = self;
+        into_run_log(alloc, logs)
     }
 
     /// Builds the lines of the events, as `text` does. Returns an error only if memory runs out.

@@ -1,9 +1,6 @@
 use Rattle.run_record.proofs.MergedColumns.{columns_of_merges}
 use Rattle.run_record.proofs.SortedEntries.{sorted_events_are_merged}
 use Rattle.run_record.specs.SortedEntries.{merged_events}
-use Rattle.std.proofs.Common.{◌∙◌, ap, map}
-use Rattle.run_record.specs.OwnColumns.{made_columns}
-use Rattle.pipe_model.specs.declared.ticket.BookEntry.{BookEntry}
 use Rattle.run_record.proofs.logged_run.LoggedRun.of_logs.Goals as goal
 
 pub returns-clause-events : goal.returns-clause-events
@@ -11,7 +8,5 @@ returns-clause-events c = sorted_events_are_merged c.args.book c.args.shards.ite
 
 pub returns-clause-columns : goal.returns-clause-columns
 returns-clause-columns c =
-    c.in_ok-columns.ensures
-    ∙ (ap (λ l. made_columns (map (λ (b : BookEntry). b.event) l)) c.as_slice.ensures
-    ∙ columns_of_merges c.args.book c.args.shards.items (merged_events c.args.book c.args.shards.items)
-    (sorted_events_are_merged c.args.book c.args.shards.items c.requires.book c.requires.shards))
+    columns_of_merges c.args.book c.args.shards.items (merged_events c.args.book c.args.shards.items)
+    (sorted_events_are_merged c.args.book c.args.shards.items c.requires.book c.requires.shards)
