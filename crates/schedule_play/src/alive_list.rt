@@ -80,6 +80,7 @@ impl AliveList {
     }
 
     // Puts an entry in place of another.
+    #[inline(always)]
     fn replace(&mut self, index: usize, entry: Alive)
         requires within { index < length self.old.entries }
         ensures { self.new ≡ record self.old { entries = slice_set self.old.entries index entry } }
@@ -92,6 +93,7 @@ impl AliveList {
     }
 
     // Changes the entry at this index, if there is one, by an event.
+    #[inline(always)]
     fn change_at(&mut self, index: usize, change: Change)
         ensures { self.new ≡ record self.old { entries = altered (after_change change) self.old.entries index } }
     {

@@ -62,17 +62,6 @@ impl Alive {
         u64::from(self.iteration) == u64::from(iteration) + 1
     }
 
-    // Returns the entry after an event of its left neighbour.
-    fn with_left(self, passed: bool) -> Alive
-        ensures { result ≡ record self { readiness = released passed self.readiness } }
-    {
-        Alive {
-            iteration: self.iteration,
-            number: self.number,
-            readiness: self.readiness.released(passed),
-        }
-    }
-
     /// Returns whether this is not the left neighbour of the iteration, or has named a stage with a
     /// greater number.
     pub fn passes_left(self, iteration: u32, number: i64) -> bool
@@ -82,42 +71,31 @@ impl Alive {
     }
 
     /// Returns the entry after an event. That of an iteration which ends stays.
+    #[inline(always)]
     pub fn after(self, change: Change) -> Alive
         ensures { result ≡ after_change change self }
     {
+        let mut entry = self;
         match change {
             Change::Named(iteration, number, may_enter) => {
                 if self.iteration == iteration {
-                    let readiness = Readiness::of_waiting(may_enter);
-                    Alive {
-                        iteration,
-                        number,
-                        readiness,
-                    }
+                    entry.number = number;
+                    entry.readiness = Readiness::of_waiting(may_enter);
                 } else if self.is_right_of(iteration) {
-                    self.with_left(self.number < number)
-                } else {
-                    self
+                    entry.readiness = self.readiness.released(self.number < number);
                 }
             }
             Change::Entered(iteration) => {
                 if self.iteration == iteration {
-                    Alive {
-                        iteration,
-                        number: self.number,
-                        readiness: Readiness::Running,
-                    }
-                } else {
-                    self
+                    entry.readiness = Readiness::Running;
                 }
             }
             Change::Ended(iteration) => {
                 if self.is_right_of(iteration) {
-                    self.with_left(true)
-                } else {
-                    self
+                    entry.readiness = self.readiness.released(true);
                 }
             }
         }
+        entry
     }
 }

@@ -57,10 +57,10 @@ impl Readiness {
 pub struct Alive {
     /// Its number.
     pub iteration: u32,
-    /// The number of the stage that it has named last; 0 until it names one.
-    pub number: i64,
     /// How far it is.
     pub readiness: Readiness,
+    /// The number of the stage that it has named last; 0 until it names one.
+    pub number: i64,
 }
 
 /// Whose turn it is.
