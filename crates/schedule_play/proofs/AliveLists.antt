@@ -2,12 +2,15 @@
 use Rattle.std.proofs.Common.{◌≡◌, ◌≢◌, ◌∙◌, ap, ap₂, subst, sym, refl, arith, ℕ, ℤ, zero, suc, ◌+◌, ◌-◌, ◌<◌}
 use Rattle.std.proofs.Common.{◌≤◌, List, [], ◌∷◌, ◌++◌, Bool, true, false}
 use Rattle.std.proofs.Common.{not, ◌&&◌, ◌||◌, if◌then◌else◌, cond, length, map, filter, count_by, nat_lt, slice_index_or}
+use Rattle.std.proofs.Common.{eqb, int_eq}
 use Rattle.std.specs.Prelude.{◌==◌, int_lt, slice_set}
+use denote.Enum.Bare.{sameb}
+use Rattle.schedule_play.specs.contracts.turns.Readiness.{the_type as readinesses}
 use Rattle.std.specs.List.{list_all, prefix_len, remove}
 use Rattle.std.proofs.lemmas.Bool.{eq-eqb, eqb-true}
 use Rattle.std.specs.List.Sorted.{IsPartitionedBy}
 use Rattle.std.proofs.lemmas.List.Sorted.{IsPartitionedBy-ltb}
-use Rattle.std.proofs.lemmas.List.Sums.{sum_by-cons}
+use Rattle.std.proofs.lemmas.List.Sums.{prefix_len_is, sum_by-cons}
 use Rattle.pipe_model.specs.declared.status.Status.{Status}
 use Rattle.pipe_model.specs.declared.status.Status.TheVariants as statuses
 use Rattle.pipe_model.specs.Runs.State.{Frame, State}
@@ -82,6 +85,46 @@ altered_past change [] k le = refl
 altered_past change (a ∷ rest) zero le = absurd (omega (arith, le))
 altered_past change (a ∷ rest) (suc k) le = ap (λ l. a ∷ l) (altered_past change rest k (omega (arith, le)))
 
+pub altered_same : (change : Alive → Alive) (entries : List Alive) (k : ℕ) (d : Alive)
+    → change (slice_index_or entries k d) ≡ slice_index_or entries k d → entries ≡ altered change entries k
+altered_same change [] k d stays = refl
+altered_same change (a ∷ rest) zero d stays = ap (λ x. x ∷ rest) (sym stays)
+altered_same change (a ∷ rest) (suc k) d stays = ap (λ l. a ∷ l) (altered_same change rest k d stays)
+
+-- what an unequal test says of two entries
+same_readiness : (r s : Readiness) → sameb readinesses r s ≡ true → r ≡ s
+same_readiness Running Running e = refl
+same_readiness Running MayEnter e = absurd (cc (e))
+same_readiness Running MustWait e = absurd (cc (e))
+same_readiness MayEnter Running e = absurd (cc (e))
+same_readiness MayEnter MayEnter e = refl
+same_readiness MayEnter MustWait e = absurd (cc (e))
+same_readiness MustWait Running e = absurd (cc (e))
+same_readiness MustWait MayEnter e = absurd (cc (e))
+same_readiness MustWait MustWait e = refl
+
+same_number : (m n : ℤ) → int_eq m n ≡ true → m ≡ n
+same_number m n e = grind (arith, e)
+
+pub same_entry : (a b : Alive)
+    → not (eqb a.iteration b.iteration && (sameb readinesses a.readiness b.readiness && int_eq a.number b.number)) ≡ false → a ≡ b
+same_entry a b e =
+    by (eqb a.iteration b.iteration) (sameb readinesses a.readiness b.readiness) (int_eq a.number b.number) refl refl refl e
+  where
+    entry : ℕ → Readiness → ℤ → Alive
+    entry i r n = record { iteration = i; readiness = r; number = n }
+
+    by : (i r n : Bool) → eqb a.iteration b.iteration ≡ i → sameb readinesses a.readiness b.readiness ≡ r
+        → int_eq a.number b.number ≡ n
+        → not (i && (r && n)) ≡ false → a ≡ b
+    by true true true i r n e =
+        ap (λ x. entry x a.readiness a.number) (eqb-true a.iteration b.iteration i)
+        ∙ ap (λ x. entry b.iteration x a.number) (same_readiness a.readiness b.readiness r)
+        ∙ ap (entry b.iteration b.readiness) (same_number a.number b.number n)
+    by true true false i r n e = absurd (cc (e))
+    by true false m i r n e = absurd (cc (e))
+    by false q m i r n e = absurd (cc (e))
+
 -- ---- the entries with smaller numbers
 
 -- how many entries have a number smaller than i
@@ -113,6 +156,24 @@ in_order n (a ∷ rest) zero (suc m) d h le lt =
     let later = not_below (a.iteration + 1) rest m d h.1 (omega (arith, lt)) in omega (arith, later)
 in_order n (a ∷ rest) (suc k) zero d h le lt = absurd (omega (arith, le))
 in_order n (a ∷ rest) (suc k) (suc m) d h le lt = in_order (a.iteration + 1) rest k m d h.1 (omega (arith, le)) (omega (arith, lt))
+
+-- an earlier entry has a smaller number
+smaller_before : (n : ℕ) (entries : List Alive) (k m : ℕ) (d : Alive) → RisesFrom n entries → k < m → m < length entries
+    → (slice_index_or entries k d).iteration < (slice_index_or entries m d).iteration
+smaller_before n [] k m d h before lt = absurd (omega (arith, lt))
+smaller_before n (a ∷ rest) k zero d h before lt = absurd (omega (arith, before))
+smaller_before n (a ∷ rest) zero (suc m) d h before lt =
+    let later = not_below (a.iteration + 1) rest m d h.1 (omega (arith, lt)) in omega (arith, later)
+smaller_before n (a ∷ rest) (suc k) (suc m) d h before lt =
+    smaller_before (a.iteration + 1) rest k m d h.1 (omega (arith, before)) (omega (arith, lt))
+
+-- the entry of iteration i is where those with smaller numbers end
+pub place_found : (i : ℕ) (entries : List Alive) (k : ℕ) (d : Alive) → IsRising entries → k < length entries
+    → (slice_index_or entries k d).iteration ≡ i → place i entries ≡ k
+place_found i entries k d h lt is =
+    prefix_len_is (λ (a : Alive). nat_lt a.iteration i) entries k d (omega (arith, lt))
+    (λ m before. let smaller = smaller_before 0 entries m k d h before lt in grind (arith, smaller, is))
+    (λ within. grind (arith, is))
 
 -- the entries with smaller numbers are the first ones
 pub smaller_first : (i : ℕ) (entries : List Alive) → IsRising entries → IsPartitionedBy (λ (a : Alive). nat_lt a.iteration i) entries

@@ -98,25 +98,43 @@ impl AliveList {
         ensures { self.new ≡ record self.old { entries = altered (after_change change) self.old.entries index } }
     {
         if index < self.entries.len() {
-            let entry = self.entries[index].after(change);
-            self.replace(index, entry);
+            let old = self.entries[index];
+            let new = old.after(change);
+            if new != old {
+                self.replace(index, new);
+            }
         }
     }
 
-    // Returns how many entries, of a list that rises, have a smaller number.
+    // Returns how many entries, of a list that rises, have a smaller number. While the iterations end in
+    // their order the list has no gaps, and this is the distance to the first number.
     fn place_of(&self, iteration: u32) -> usize
         ensures bound { result ≤ length self.now.entries }
         ensures fits { result < 2 ^ 63 }
         ensures place { IsRising self.now.entries
             → result ≡ prefix_len (λ (a : Kept). nat_lt a.iteration iteration) self.now.entries }
     {
+        let distance = self.distance_to(iteration);
+        if distance < self.entries.len() && self.entries[distance].iteration == iteration {
+            return distance;
+        }
         self.entries
             .as_slice()
             .partition_point(|a| a.iteration < iteration)
     }
 
+    // Returns how much the number is greater than the first one. Returns 0 if it is smaller, or if there
+    // is none.
+    fn distance_to(&self, iteration: u32) -> usize {
+        if self.entries.is_empty() {
+            return 0;
+        }
+        iteration.saturating_sub(self.entries[0].iteration) as usize
+    }
+
     /// Changes the iterations by an event, which concerns the one that it names and its right neighbour.
     /// One that ends stays.
+    #[inline(always)]
     pub fn change(&mut self, change: Change)
         ensures entries { IsRising self.old.entries → self.new.entries ≡ map (after_change change) self.old.entries }
         ensures limit { self.new.limit ≡ self.old.limit }

@@ -7,7 +7,7 @@ ghost use Rattle.schedule_play.specs.Turns.{is_ready, is_running, iteration_turn
 ghost use Rattle.schedule_play.specs.declared.turns.Alive.{Alive as Kept};
 
 /// How far an iteration is that has not ended.
-#[derive(Clone, Copy)]
+#[derive(Clone, Copy, PartialEq)]
 pub enum Readiness {
     /// Its current instance runs.
     Running,
@@ -53,7 +53,7 @@ impl Readiness {
 }
 
 /// An iteration that has not ended.
-#[derive(Clone, Copy)]
+#[derive(Clone, Copy, PartialEq)]
 pub struct Alive {
     /// Its number.
     pub iteration: u32,

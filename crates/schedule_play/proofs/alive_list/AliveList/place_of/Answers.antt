@@ -1,10 +1,10 @@
-use Rattle.std.proofs.Common.{◌∙◌, ap, arith, nat_lt, of_calls, pos, rules, subst, sym}
+use Rattle.std.proofs.Common.{◌≡◌, ◌∙◌, ◌<◌, ap, arith, length, nat_lt, of_calls, pos, rules, slice_index_or, subst, sym}
 use Rattle.std.proofs.lemmas.Fn.{always_returns_same}
 use Rattle.std.proofs.lemmas.List.Sums.{prefix_len_is}
 use Rattle.schedule_play.specs.declared.turns.Alive.{Alive}
 use Rattle.schedule_play.specs.declared.turns.Readiness.TheVariants.{Running}
 use Rattle.schedule_play.specs.AliveLists.{AliveListState, IsRising}
-use Rattle.schedule_play.proofs.AliveLists.{place, smaller_first}
+use Rattle.schedule_play.proofs.AliveLists.{place, place_found, smaller_first}
 use Rattle.schedule_play.proofs.alive_list.AliveList.place_of.Goals as goal
 
 pub returns-clause-place : goal.returns-clause-place
@@ -19,3 +19,15 @@ returns-clause-place c = λ rise.
     (smaller_first i items (subst IsRising (sym same) rise)) in
     sym (prefix_len_is (λ (a : Alive). nat_lt a.iteration i) items k d c.partition_point.ensures.bound
     (λ n lt. point.0 n d (omega arith) lt) (λ lt. point.1 k d (omega arith) lt)) ∙ ap (place i) same
+
+pub returns-then-index-iteration-clause-place : goal.returns-then-index-iteration-clause-place
+returns-then-index-iteration-clause-place c = λ rise.
+    let entries = c.args.self.now.entries in
+    let k = c.distance_to-distance.result in
+    let own = c.index.result.now in
+    let same = ap (λ (l : AliveListState). l.entries) c.self.view_is in
+    let long = c.len.ensures ∙ c.self.inside.entries.ok.0 ∙ ap length same in
+    let test = c.if-distance-len.true in
+    let within : k < length entries = omega (arith, test, long) in
+    let there : own ≡ slice_index_or entries k own = c.index.ensures ∙ ap (λ l. slice_index_or l k own) same in
+    sym (place_found c.args.iteration entries k own rise within (sym (ap (λ (a : Alive). a.iteration) there) ∙ c.if-index-iteration.true))
