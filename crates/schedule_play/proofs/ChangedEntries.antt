@@ -22,7 +22,7 @@ use Rattle.run_laws.proofs.RunStates.Frames.{frame_at_other, frame_at_push, fram
 use Rattle.schedule_play.specs.declared.changes.Change.TheVariants.{Named, Entered, Ended}
 use Rattle.schedule_play.specs.declared.turns.Alive.{Alive}
 use Rattle.schedule_play.specs.declared.turns.Readiness.TheVariants.{Running, MayEnter, MustWait}
-use Rattle.schedule_play.specs.AliveChanges.{after_change, passes_left, released}
+use Rattle.schedule_play.specs.AliveChanges.{after_change, is_other, passes_left, released}
 use Rattle.schedule_play.specs.Turns.{alive_entry, alive_from}
 
 -- ---- entry by entry
@@ -161,7 +161,7 @@ named_right j n free a e =
     else (if a.iteration == j + 1 then release (λ m. int_lt m n) a else a)) apart
     ∙ ap (λ b. if b then release (λ m. int_lt m n) a else a) right
 
-named_other : (j : ℕ) (n : ℤ) (free : Bool) (a : Alive) → a.iteration ≢ j → a.iteration ≢ j + 1 → after_change (Named j n free) a ≡ a
+pub named_other : (j : ℕ) (n : ℤ) (free : Bool) (a : Alive) → a.iteration ≢ j → a.iteration ≢ j + 1 → after_change (Named j n free) a ≡ a
 named_other j n free a ne far =
     ap (λ b. if b then record { iteration = j; number = n; readiness = if free then MayEnter else MustWait }
     else (if a.iteration == j + 1 then release (λ m. int_lt m n) a else a)) (apart_eqb a.iteration j ne)
@@ -210,7 +210,7 @@ named all j f kind n free is runs above may = updated (map change) (map_parts ch
 
 -- ---- a stage is entered
 
-entered_other : (j : ℕ) (a : Alive) → a.iteration ≢ j → after_change (Entered j) a ≡ a
+pub entered_other : (j : ℕ) (a : Alive) → a.iteration ≢ j → after_change (Entered j) a ≡ a
 entered_other j a ne =
     ap (λ b. if b then record { iteration = j; number = a.number; readiness = Running } else a) (apart_eqb a.iteration j ne)
 
@@ -270,14 +270,10 @@ entered all j f kind n is named' = updated (map change) (map_parts change) all j
 
 -- ---- an iteration ends
 
--- the entries without the entry of iteration j
-abbrev pub is_other : ℕ → Alive → Bool
-is_other j a = not (a.iteration == j)
-
 ended_right : (j : ℕ) (a : Alive) → a.iteration ≡ j + 1 → after_change (Ended j) a ≡ release (λ m. true) a
 ended_right j a e = ap (λ b. if b then release (λ m. true) a else a) (eq-eqb a.iteration (j + 1) e)
 
-ended_other : (j : ℕ) (a : Alive) → a.iteration ≢ j + 1 → after_change (Ended j) a ≡ a
+pub ended_other : (j : ℕ) (a : Alive) → a.iteration ≢ j + 1 → after_change (Ended j) a ≡ a
 ended_other j a far = ap (λ b. if b then release (λ m. true) a else a) (apart_eqb a.iteration (j + 1) far)
 
 others_stay : (all : List Frame) (j k : ℕ) (w : Status) (nodes : List Node) → k ≢ j → filter (is_other j)

@@ -3,6 +3,7 @@ pub mod UnderWay
 pub mod TurnCandidates
 pub mod NextTurns
 pub mod ChangedEntries
+pub mod AliveLists
 pub mod ScheduleEvents
 pub mod Playing
 pub mod PlayedRuns

@@ -1,10 +1,9 @@
 -- What a schedule keeps follows the events of its run.
 use Rattle.std.proofs.Common.{◌≡◌, ◌≢◌, ◌∙◌, ap, sym, subst, refl, arith, ℕ, ℤ, pos, ◌+◌, ◌-◌, ◌<◌, List, [], ◌∷◌, ◌++◌, Bool, true, false}
-use Rattle.std.proofs.Common.{not, ◌&&◌, ◌||◌, if◌then◌else◌, Some, length, map, filter, inl, inr, drop, eqb, nat_lt, take}
+use Rattle.std.proofs.Common.{not, ◌&&◌, ◌||◌, if◌then◌else◌, Some, length, map, filter, inl, inr, eqb, nat_lt}
 use Rattle.std.specs.Prelude.{is_some, ◌==◌}
 use Rattle.std.proofs.lemmas.Bool.{cases_eq, eq-eqb}
-use Rattle.std.proofs.lemmas.List.{length-map, length_push}
-use Rattle.std.proofs.Math.Seq.{take-append_seam}
+use Rattle.std.proofs.lemmas.List.{length_push}
 use Rattle.pipe_model.specs.declared.column.ColumnEnd.{ColumnEnd}
 use Rattle.pipe_model.specs.declared.event.Event.{Event}
 use Rattle.pipe_model.specs.declared.event.Event.TheVariants as events
@@ -18,10 +17,12 @@ use Rattle.run_laws.proofs.RunStates.FrameMoves.{entered_frame, enter_pending_is
 use Rattle.run_laws.proofs.RunStates.Frames.{frame_at_last, frame_at_other, frame_at_updated, frame_at_within, length-update_frame}
 use Rattle.schedule_play.specs.declared.changes.Change.TheVariants.{Named, Entered, Ended}
 use Rattle.schedule_play.specs.declared.turns.Readiness.TheVariants.{Running}
-use Rattle.schedule_play.specs.AliveChanges.{after_change}
+use Rattle.schedule_play.specs.AliveChanges.{after_change, is_other}
+use Rattle.schedule_play.specs.AliveLists.{IsRising}
 use Rattle.schedule_play.specs.ScheduleStates.{IsScheduleOf, ScheduleState, goes_on}
 use Rattle.schedule_play.specs.Turns.{alive_iterations}
-use Rattle.schedule_play.proofs.ChangedEntries.{alive_count, apart_eqb, begun, ended, entered, is_other, named}
+use Rattle.schedule_play.proofs.AliveLists.{rising}
+use Rattle.schedule_play.proofs.ChangedEntries.{alive_count, apart_eqb, begun, ended, entered, named}
 
 -- ---- the last iteration
 
@@ -202,11 +203,16 @@ may_begin_is s v h =
     some_if true e = refl
     some_if false e = refl
 
--- ---- lists in vectors
+-- what is kept is that of a run, whatever the limit
+pub same_schedule : (s : State) (v w : ScheduleState) → w.alive ≡ v.alive → w.begun ≡ v.begun → w.continues ≡ v.continues
+    → IsScheduleOf s v → IsScheduleOf s w
+same_schedule s v w alive begun continues h = record {
+  alive = alive ∙ h.alive;
+  begun = begun ∙ h.begun;
+  continues = continues ∙ h.continues;
+  instances = h.instances;
+}
 
--- the items of a vector after each was changed in place
-pub rewritten : {X : Type 0} (change : X → X) (len : ℕ) (old new : List X) → len ≡ length old → new ≡ map change old
-    → take len (new ++ drop (length new) old) ≡ map change old
-rewritten change len old new is changed =
-    let long : length new ≡ len = ap length changed ∙ length-map old change ∙ sym is in
-    ap (λ n. take n (new ++ drop (length new) old)) (sym long) ∙ take-append_seam new (drop (length new) old) ∙ changed
+-- the iterations that have not ended rise
+pub rising_kept : (s : State) (v : ScheduleState) → IsScheduleOf s v → IsRising v.alive
+rising_kept s v h = subst IsRising (sym h.alive) (rising s)

@@ -175,11 +175,6 @@ event_at event (y ∷ ts) (x ∷ es) (suc n) t e q d = event_at event ts es n t 
 same_length : (event : Turn → Option Event) (ts : List Turn) (es : List Event) → map event ts ≡ map Some es → length ts ≡ length es
 same_length event ts es q = sym (length-map ts event) ∙ ap length q ∙ length-map es Some
 
-pub count_is : (p : Pipeline) (limit workers : ℕ) (s : State) (ts : List Turn) → map (turn_event p limit s) ts ≡ map Some
-    (candidates p limit workers s)
-    → length ts ≡ length (candidates p limit workers s)
-count_is p limit workers s ts q = same_length (turn_event p limit s) ts (candidates p limit workers s) q
-
 pub chosen_is : (event : Turn → Option Event) (ts : List Turn) (es : List Event) (choice : ℕ) → map event ts ≡ map Some es
     → option_map event (chosen_turn choice ts) ≡ option_map Some (chosen choice es)
 chosen_is event [] [] choice q = refl

@@ -6,6 +6,12 @@ use Rattle.schedule_play.specs.declared.turns.Alive.{Alive}
 use Rattle.schedule_play.specs.declared.turns.Readiness.{Readiness}
 use Rattle.schedule_play.specs.declared.turns.Readiness.TheVariants.{Running, MayEnter, MustWait}
 
+-- the iteration of an event
+abbrev pub changed_iteration : Change → ℕ
+changed_iteration (Named i n free) = i
+changed_iteration (Entered i) = i
+changed_iteration (Ended i) = i
+
 -- after an event of the left neighbour, which has passed the stage that is waited for or not
 abbrev pub released : Bool → Readiness → Readiness
 released passed Running = Running
@@ -23,3 +29,7 @@ after_change (Ended i) a = if a.iteration == i + 1 then record a { readiness = r
 -- the entry does not belong to the left neighbour of iteration i, or has named a stage with a number greater than n
 abbrev pub passes_left : ℕ → ℤ → Alive → Bool
 passes_left i n a = not (a.iteration + 1 == i) || int_lt n a.number
+
+-- the entry does not belong to iteration i
+abbrev pub is_other : ℕ → Alive → Bool
+is_other i a = not (a.iteration == i)

@@ -5,6 +5,7 @@ pub mod Runners
 pub mod RunningIterations
 pub mod Turns
 pub mod AliveChanges
+pub mod AliveLists
 pub mod ScheduleStates
 pub mod Openings
 pub mod PlayStates

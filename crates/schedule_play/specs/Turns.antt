@@ -45,6 +45,12 @@ is_running Running = true
 is_running MayEnter = false
 is_running MustWait = false
 
+-- the iteration has named a stage that it may enter
+abbrev pub is_ready : Readiness → Bool
+is_ready Running = false
+is_ready MayEnter = true
+is_ready MustWait = false
+
 -- the next event of the iteration is a candidate; `room` says whether an instance may start
 abbrev pub may_go : Bool → Readiness → Bool
 may_go room Running = true

@@ -1,9 +1,7 @@
 //! How an event changes what is kept of the iterations.
 
-ghost use Rattle.std.specs.Prelude.{◌≡◌, ◌+◌, ◌==◌, if◌then◌else◌, map};
-ghost use Rattle.std.specs.List.{list_all};
-ghost use Rattle.schedule_play.specs.AliveChanges.{after_change, passes_left, released};
-ghost use Rattle.schedule_play.specs.declared.turns.Alive.{Alive as Kept};
+ghost use Rattle.std.specs.Prelude.{◌≡◌, ◌+◌, ◌==◌, if◌then◌else◌};
+ghost use Rattle.schedule_play.specs.AliveChanges.{after_change, changed_iteration, passes_left, released};
 
 use crate::turns::{Alive, Readiness};
 
@@ -16,6 +14,19 @@ pub enum Change {
     Entered(u32),
     /// It ends.
     Ended(u32),
+}
+
+impl Change {
+    /// Returns the iteration of the event.
+    pub fn iteration(self) -> u32
+        ensures { result ≡ changed_iteration self }
+    {
+        match self {
+            Change::Named(iteration, _, _) => iteration,
+            Change::Entered(iteration) => iteration,
+            Change::Ended(iteration) => iteration,
+        }
+    }
 }
 
 impl Readiness {
@@ -51,71 +62,40 @@ impl Alive {
         u64::from(self.iteration) == u64::from(iteration) + 1
     }
 
-    // Returns the entry after an event of its left neighbour.
-    fn with_left(self, passed: bool) -> Alive
-        ensures { result ≡ record self { readiness = released passed self.readiness } }
+    /// Returns whether this is not the left neighbour of the iteration, or has named a stage with a
+    /// greater number.
+    pub fn passes_left(self, iteration: u32, number: i64) -> bool
+        ensures { result ≡ passes_left iteration number self }
     {
-        Alive {
-            iteration: self.iteration,
-            number: self.number,
-            readiness: self.readiness.released(passed),
-        }
+        u64::from(self.iteration) + 1 != u64::from(iteration) || number < self.number
     }
 
-    // Returns the entry after an event.
-    fn after(self, change: Change) -> Alive
+    /// Returns the entry after an event. That of an iteration which ends stays.
+    #[inline(always)]
+    pub fn after(self, change: Change) -> Alive
         ensures { result ≡ after_change change self }
     {
+        let mut entry = self;
         match change {
             Change::Named(iteration, number, may_enter) => {
                 if self.iteration == iteration {
-                    let readiness = Readiness::of_waiting(may_enter);
-                    Alive {
-                        iteration,
-                        number,
-                        readiness,
-                    }
+                    entry.number = number;
+                    entry.readiness = Readiness::of_waiting(may_enter);
                 } else if self.is_right_of(iteration) {
-                    self.with_left(self.number < number)
-                } else {
-                    self
+                    entry.readiness = self.readiness.released(self.number < number);
                 }
             }
             Change::Entered(iteration) => {
                 if self.iteration == iteration {
-                    Alive {
-                        iteration,
-                        number: self.number,
-                        readiness: Readiness::Running,
-                    }
-                } else {
-                    self
+                    entry.readiness = Readiness::Running;
                 }
             }
             Change::Ended(iteration) => {
                 if self.is_right_of(iteration) {
-                    self.with_left(true)
-                } else {
-                    self
+                    entry.readiness = self.readiness.released(true);
                 }
             }
         }
+        entry
     }
-}
-
-/// Changes each of these iterations by an event. One that ends stays.
-pub(crate) fn change_each(alive: &mut [Alive], change: Change)
-    ensures { alive.new ≡ map (after_change change) alive.old }
-{
-    for entry in alive.iter_mut() {
-        *entry = entry.after(change);
-    }
-}
-
-/// Returns whether the left neighbour of the iteration, if it has one that has not ended, has named a
-/// stage with a greater number.
-pub(crate) fn passes_left(alive: &[Alive], iteration: u32, number: i64) -> bool
-    ensures { result ≡ list_all (passes_left iteration number) alive.now }
-{
-    alive.iter().all(|a| u64::from(a.iteration) + 1 != u64::from(iteration) || number < a.number)
 }

@@ -1,6 +1,7 @@
 //! Plays any schedule of a program on one thread, one event a turn.
 #![tactic(auto)]
 
+mod alive_list;
 mod changes;
 pub mod choices;
 pub mod examples;

@@ -163,7 +163,7 @@ impl<B: PlayedCode> Player<B> {
             unreachable!()
         };
         let running = RunningIteration::new(alloc, token, code, input, &self.cells);
-        drop(self.running[iteration as usize].replace(running));
+        self.running[iteration as usize] = Some(running);
         self.schedule.enter(iteration);
         append(&mut self.events, Event::Enter(iteration))
     }

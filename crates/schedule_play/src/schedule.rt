@@ -12,8 +12,9 @@ ghost use Rattle.pipe_model.specs.Runs.State.{State, initial_state, next_state};
 ghost use Rattle.schedule_play.specs.ScheduleStates.{IsScheduleOf, goes_on};
 ghost use Rattle.schedule_play.specs.Turns.{turn_event};
 
-use crate::changes::{Change, change_each, passes_left};
-use crate::turns::{Alive, Readiness, Turn, choose, has_next};
+use crate::alive_list::AliveList;
+use crate::changes::Change;
+use crate::turns::{Alive, Readiness, Turn, has_next};
 use pipe_model::column::ColumnEnd;
 use pipe_model::event::Event;
 use pipe_model::memory::NoMemory;
@@ -27,21 +28,17 @@ use std::marker::Model;
 /// the iterations that have not ended, and not with that of the others.
 #[derive(Drop)]
 pub struct Schedule {
-    alive: Vec<Alive>,
+    alive: AliveList,
     begun: u32,
     continues: bool,
-    limit: u32,
 }
 
 impl Model for Schedule {
-    ghost use Rattle.std.specs.Prelude.{◌≤◌, vec_capacity};
     ghost use Rattle.schedule_play.specs.ScheduleStates.{ScheduleState};
 
     ghost Value = { ScheduleState };
 
-    ghost view = { λ s. record { alive = s.alive.items; begun = s.begun; continues = s.continues; limit = s.limit } };
-
-    ghost invariant = { λ s. s.limit ≤ vec_capacity s.alive };
+    ghost view = { λ s. record { alive = s.alive.entries; begun = s.begun; continues = s.continues; limit = s.alive.limit } };
 }
 
 // Returns whether the end of instance 0 closes the loop.
@@ -71,10 +68,9 @@ impl Schedule {
         ensures limit { IfOk result (λ schedule. schedule.limit ≡ limit) }
     {
         Ok(Schedule {
-            alive: Vec::with_capacity(alloc, limit as usize)?,
+            alive: AliveList::new(alloc, limit)?,
             begun: 0,
             continues: true,
-            limit,
         })
     }
 
@@ -82,14 +78,14 @@ impl Schedule {
     pub fn may_begin(&self) -> bool
         ensures { (s : State) → IsScheduleOf s self.now → result ≡ is_some (next_begin self.now.limit s) }
     {
-        self.alive.len() < self.limit as usize && self.continues
+        self.alive.has_place() && self.continues
     }
 
     /// Returns whether an iteration has a next event.
     pub fn has_next(&self, iteration: u32) -> bool
         ensures { (p : Pipeline) (s : State) → IsScheduleOf s self.now → result ≡ is_some (next_event p s iteration) }
     {
-        has_next(self.alive.as_slice(), iteration)
+        has_next(self.alive.entries(), iteration)
     }
 
     /// Returns whose turn it is by this choice, if at most `workers` instances may run. Returns `None`
@@ -98,7 +94,7 @@ impl Schedule {
         ensures { (p : Pipeline) (s : State) → IsScheduleOf s self.now
             → option_map (turn_event p self.now.limit s) result ≡ option_map Some (chosen choice (candidates p self.now.limit workers s)) }
     {
-        choose(self.alive.as_slice(), self.may_begin(), workers, choice)
+        self.alive.choose(self.may_begin(), workers, choice)
     }
 
     /// Notes that the next iteration begins.
@@ -108,7 +104,7 @@ impl Schedule {
         ensures schedule { (s : State) → IsScheduleOf s self.old → IsScheduleOf (next_state s (events.Begin self.old.begun)) self.new }
         ensures limit { self.new.limit ≡ self.old.limit }
     {
-        self.alive.push_reserved(Alive {
+        self.alive.push(Alive {
             iteration: self.begun,
             number: 0,
             readiness: Readiness::Running,
@@ -131,7 +127,7 @@ impl Schedule {
         match kind {
             Kind::Zero => true,
             Kind::Continue => true,
-            Kind::Wait => passes_left(self.alive.as_slice(), iteration, number),
+            Kind::Wait => self.alive.passes_left(iteration, number),
         }
     }
 
@@ -143,7 +139,8 @@ impl Schedule {
     {
         let may_enter = self.may_enter(iteration, kind, number);
         let last = self.is_last(iteration);
-        change_each(&mut self.alive, Change::Named(iteration, number, may_enter));
+        self.alive
+            .change(Change::Named(iteration, number, may_enter));
         self.continues = goes_on(self.continues, last, false);
     }
 
@@ -153,7 +150,7 @@ impl Schedule {
             (next_state s (events.Enter iteration)) self.new }
         ensures limit { self.new.limit ≡ self.old.limit }
     {
-        change_each(&mut self.alive, Change::Entered(iteration));
+        self.alive.change(Change::Entered(iteration));
     }
 
     /// Notes that an iteration ends.
@@ -163,8 +160,8 @@ impl Schedule {
         ensures limit { self.new.limit ≡ self.old.limit }
     {
         let last = self.is_last(iteration);
-        change_each(&mut self.alive, Change::Ended(iteration));
-        self.alive.retain(|a| a.iteration != iteration);
+        self.alive.change(Change::Ended(iteration));
+        self.alive.remove(iteration);
         self.continues = goes_on(self.continues, last, closes(end));
     }
 

@@ -84,7 +84,7 @@ returns-clause-play g c =
     given.payload.ready c.new-running.result
     ensured.fields ensured.empty c.args.input.now input ensured.instance c.enter-2.new.self c.enter-2.ensures.schedule
     c.enter-2.ensures.limit in
-    map_ok c.append.result c.append.ensures (λ u appended. rw (c.replace.ensures.after, c.in-Some.ensures.book, appended) made)
+    map_ok c.append.result c.append.ensures (λ u appended. rw (c.in-Some.ensures.book, appended) made)
 
 pub returns-clause-event : goal.returns-clause-event
 returns-clause-event g c = map_ok c.append.result c.append.ensures (λ u appended e next.

@@ -5,5 +5,5 @@ use Rattle.schedule_play.proofs.schedule.Schedule.has_next.Goals as goal
 
 pub returns : goal.returns
 returns c = λ p s h.
-    c.has_next.ensures ∙ has_next_is p s c.args.iteration c.as_slice.result.now
-    (c.as_slice.ensures.value ∙ ap (λ (v : ScheduleState). v.alive) c.self.view_is ∙ h.alive)
+    c.has_next.ensures ∙ has_next_is p s c.args.iteration c.entries.result.now
+    (c.entries.ensures ∙ ap (λ (v : ScheduleState). v.alive) c.self.view_is ∙ h.alive)
