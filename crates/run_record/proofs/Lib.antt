@@ -8,3 +8,4 @@ pub mod RestsOfLogs
 pub mod RisingLists
 pub mod RunColumns
 pub mod SortedEntries
+pub mod TrappedEvents

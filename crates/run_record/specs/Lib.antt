@@ -5,3 +5,4 @@ pub mod LoggedRuns
 pub mod MergedLogs
 pub mod OwnColumns
 pub mod SortedEntries
+pub mod TrappedEvents

@@ -66,9 +66,12 @@ fn into_run_log(alloc: Global, logs: EventLogs) -> Result<RunLog, NoMemory>
     match logs {
         EventLogs::Merged(log) => Ok(log),
         EventLogs::Apart(book, shards) => {
-            let events = merged_events(alloc, book.as_slice(), shards.as_slice())?;
+            let merged = merged_events(alloc, book.as_slice(), shards.as_slice())?;
             let columns = columns_in(alloc, book.as_slice())?;
-            Ok(RunLog { columns, events })
+            Ok(RunLog {
+                columns,
+                events: merged,
+            })
         }
     }
 }

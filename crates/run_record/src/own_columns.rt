@@ -6,6 +6,9 @@ ghost use Rattle.pipe_model.specs.Runs.ControlParts.{control_after, outlines_of}
 ghost use Rattle.pipe_model.specs.Runs.RunLogs.{column_of_frame};
 ghost use Rattle.pipe_model.specs.Runs.State.{enter_pending, end_of_status, fresh_frame, update_frame};
 ghost use Rattle.run_record.specs.OwnColumns.{frame_of, frames_of, made_columns, next_outlines};
+ghost use Rattle.run_record.specs.TrappedEvents.{ends_trapped};
+ghost use Rattle.std.specs.List.{list_any};
+ghost use Rattle.pipe_model.specs.declared.ticket.BookEntry.{BookEntry as Entry};
 
 use pipe_model::column::{Column, ColumnEnd, Columns};
 use pipe_model::event::Event;
@@ -131,6 +134,26 @@ fn into_columns(alloc: Global, iterations: Vec<Iteration>) -> Result<Columns, No
         })?;
     }
     Ok(ListOf::from_vec(columns))
+}
+
+// Returns whether an event ends an iteration with a trap.
+fn ends_trapped(event: Event) -> bool
+    ensures { result ≡ ends_trapped event }
+{
+    match event {
+        Event::Finish(_, ColumnEnd::Trapped(_)) => true,
+        Event::Finish(_, ColumnEnd::End | ColumnEnd::Closed) => false,
+        Event::Begin(_) | Event::Access(_, _) | Event::Advance(_, _, _) => false,
+        Event::Enter(_) | Event::Stop => false,
+    }
+}
+
+/// Returns whether an event of a book ends an iteration with a trap. If none does, nobody needs columns
+/// to find the trap of the least iteration.
+pub fn has_trap(book: &[BookEntry]) -> bool
+    ensures { result ≡ list_any (λ (b : Entry). ends_trapped b.event) book.now }
+{
+    book.iter().any(|entry| ends_trapped(entry.event))
 }
 
 /// Returns the columns that the events make, with the ends of the iterations that have ended. Returns
