@@ -10,8 +10,10 @@ ghost use Rattle.pipe_model.specs.Pipelines.WholePrograms as whole_programs;
 ghost use Rattle.pipe_model.specs.Pipelines.WholePrograms.{init_accesses};
 ghost use Rattle.pipe_model.specs.Runs.RunLogs.{state_after};
 ghost use Rattle.pipe_model.specs.Runs.State.{initial_state};
+ghost use Rattle.pipe_model.specs.declared.column.Column.{Column};
 ghost use Rattle.pipe_model.specs.declared.event.Event.{Event};
 ghost use Rattle.program_ends.specs.ProgramEnds.{HasResults, IsAfterLoop, reaches_final};
+ghost use Rattle.serial_elision.specs.ColumnTraps as column_traps;
 ghost use Rattle.serial_elision.specs.PartRuns.{Serves};
 ghost use Rattle.stage_interp.specs.MachineState.{IsMadeFor};
 ghost use Rattle.stage_interp.specs.RemainingBehaviour.{IsCodeOf};
@@ -87,6 +89,32 @@ pub fn end_after_loop(
         (state_after events) r) }
 {
     let trap = least_trap(columns.as_slice());
+    end_with_trap(alloc, machine, prepared, trap, reports, finished, cells)
+}
+
+/// The same, with the trap of the least iteration that trapped in place of the columns.
+pub fn end_with_trap(
+    alloc: Global,
+    machine: &mut Machine,
+    prepared: &Prepared,
+    trap: Option<TrapAt>,
+    reports: &Reports,
+    finished: bool,
+    cells: Cells,
+) -> Result<ProgramResults, NoMemory>
+    requires code { IsCodeOf (tree_of prepared.now.checked.now) prepared.now.code.now }
+    requires made { IsMadeFor prepared.now.code.now machine.old }
+    requires accepted { BreaksNoRule (tree_of prepared.now.checked.now) }
+    requires no_trap { is_some (whole_programs.init_trap (whole_of (tree_of prepared.now.checked.now) prepared.now.input.now)) ≡ false }
+    requires run { (limit : ℕ) × (events : List Event) × (columns : List Column) × IsAfterLoop (tree_of prepared.now.checked.now)
+        prepared.now.input.now limit events columns cells }
+    requires serves { Serves (tree_of prepared.now.checked.now) cells }
+    ensures { IfOk result (λ r. (limit : ℕ) (events : List Event) (columns : List Column) → IsAfterLoop
+        (tree_of prepared.now.checked.now) prepared.now.input.now limit events columns cells
+        → trap ≡ column_traps.least_trap 0 columns
+        → HasResults (whole_of (tree_of prepared.now.checked.now) prepared.now.input.now) (reaches_final finished reports.now)
+        (state_after events) r) }
+{
     if !runs_final(finished, reports, trap) {
         return Ok(ProgramResults {
             output: cells.into_output(),
