@@ -13,7 +13,7 @@ ghost use Rattle.schedule_laws.specs.StartCounts.{instances_in};
 ghost use Rattle.pipe_model.specs.Races.Columns.{node_columns};
 
 use crate::load::{Input, Source, input_of, source_of};
-use crate::program_run::{elide, instance_count, run_program};
+use crate::program_run::{FinishedRun, elide, instance_count, run_program};
 use pipe_check::checked::Checked;
 use pipe_gen::workload::generate;
 use pipe_model::column::Columns;
@@ -96,9 +96,13 @@ fn measured_run<R: Threads + Wait + Sync, G: Gate + Sync>(
 {
     let run = run_program(rt, alloc, checked, input, workers, throttle, gate)?;
     if run.reports.is_empty() {
-        let measured = measure(workers, run.run_log.columns(), &run.output);
-        drop(run);
-        return Ok(measured);
+        let FinishedRun {
+            output,
+            run_log,
+            ..
+        } = run;
+        let columns = run_log.into_columns(alloc)?;
+        return Ok(measure(workers, &columns, &output));
     }
     drop(run);
     let elision = elide(alloc, checked, input)?;

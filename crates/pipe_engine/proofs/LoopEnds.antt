@@ -1,6 +1,6 @@
 -- From the end of a hall to the end of its loop.
 use Rattle.std.proofs.Common.{◌≡◌, ◌∙◌, ap, sym, subst, ℕ, ℤ, ◌%◌, ◌<◌, ◌≤◌, ◌+◌}
-use Rattle.std.proofs.Common.{List, [], ◌++◌, All, false, Option, Some, get_or, arith, inl, inr}
+use Rattle.std.proofs.Common.{List, [], ◌++◌, map, All, false, Option, Some, get_or, arith, inl, inr}
 use Rattle.std.proofs.lemmas.Bool.{cases_lt, false≢true}
 use Rattle.std.proofs.lemmas.List.{get_or_default}
 use Rattle.cell_store.specs.ShardState.{IsStateAfter, ShardState}
@@ -42,6 +42,14 @@ use Rattle.pipe_model.specs.Runs.State.{State, accesses_of}
 use Rattle.pipe_model.specs.Runs.Throttling.{IsThrottled}
 use Rattle.pipe_model.specs.Runs.WholeProgramRuns.{IsFinishedProgramRun, NoLoop, OfLoop, ProgramRun}
 use Rattle.program_laws.specs.DeclaredCells.{cell_count}
+use Rattle.pipe_model.specs.declared.ticket.BookEntry.{BookEntry}
+use Rattle.pipe_model.specs.declared.trap.TrapAt.{TrapAt}
+use Rattle.pipe_model.specs.Language.CheckingRules.{BreaksNoRule}
+use Rattle.program_ends.proofs.RunColumns.{HasSmallColumns, columns_are_small}
+use Rattle.run_record.proofs.MergedColumns.{columns_of_merges}
+use Rattle.run_record.proofs.SortedEntries.{sorted_events_are_merged}
+use Rattle.run_record.specs.SortedEntries.{merged_events}
+use Rattle.serial_elision.specs.ColumnTraps.{least_trap}
 use Rattle.serial_elision.specs.PartRuns.{Serves}
 use Rattle.run_record.specs.MergedLogs.{AreMerged, BookRises, ShardRises, shard_at}
 use Rattle.run_record.specs.OwnColumns.{made_columns}
@@ -164,19 +172,35 @@ module _ (tree : SyntaxTree) (input : List ℤ) (limit : ℕ) (hall : HallState)
       → Run (pipeline_after_init tree input) limit log.events (state_after log.events)
   loop_run log run = of_loop (whole_of tree input) limit log.events (state_after log.events) of.no_trap run.run
 
-  -- the loop has ended with these reports and cells
-  pub loop_end : (reports : List Report) (cells : ShardState) → AreGathered log (found_by shards) reports → Serves tree cells
-      → IsStateAfter (store_of tree) (init_accesses (whole_of tree input) ++ accesses_in_all (logs_of shards)) cells
-      → IsLoopEnd tree input limit (record { run_log = log; reports = reports; cells = cells })
-  loop_end reports cells gathered serves state =
+  finished : IsFinishedProgramRun (whole_of tree input) limit log
+  finished =
       let none = finished_books_have_no_token_out b h.end.book h.finished in
       let run = merged_halls_are_program_runs b (logs_of shards) log (hall_ends_are_merged hall.before b shards log program_end none) in
-      let finished = subst (λ n. IsFinishedProgramRun (whole_of tree input) n log) of.limit_is
-      (subst (λ w. IsFinishedProgramRun w b.limit log) whole_is (run.finished h.finished)) in
+      subst (λ n. IsFinishedProgramRun (whole_of tree input) n log) of.limit_is
+      (subst (λ w. IsFinishedProgramRun w b.limit log) whole_is (run.finished h.finished))
+
+  -- its columns can be counted
+  pub small_columns : BreaksNoRule tree → HasSmallColumns log.columns
+  small_columns accepted =
+      subst HasSmallColumns (sym finished.columns) (columns_are_small tree input limit log.events accepted (loop_run log finished))
+
+  -- they are those of the book's events
+  pub columns_of_book : made_columns (map (λ (e : BookEntry). e.event) b.log) ≡ log.columns
+  columns_of_book = columns_of_merges b.log (logs_of shards) log.events events ∙ sym columns
+
+  -- the loop has ended with these reports, this trap and these cells
+  pub loop_end : (reports : List Report) (trap : Option TrapAt) (cells : ShardState) → AreGathered log (found_by shards) reports
+      → trap ≡ least_trap 0 log.columns → Serves tree cells
+      → IsStateAfter (store_of tree) (init_accesses (whole_of tree input) ++ accesses_in_all (logs_of shards)) cells
+      → IsLoopEnd tree input limit (record { run_log = log; reports = reports; trap = trap; cells = cells })
+  loop_end reports trap cells gathered trap_is serves state =
+      let none = finished_books_have_no_token_out b h.end.book h.finished in
+      let run = merged_halls_are_program_runs b (logs_of shards) log (hall_ends_are_merged hall.before b shards log program_end none) in
       record {
         run = finished;
         throttled = subst (λ n. IsThrottled n log.events) of.limit_is run.throttled;
         reports = races.reports reports gathered;
+        trap = trap_is;
         after = record {
           run = loop_run log finished;
           columns_are = finished.columns;
@@ -185,3 +209,16 @@ module _ (tree : SyntaxTree) (input : List ℤ) (limit : ℕ) (hall : HallState)
         };
         serves = serves;
       }
+
+-- the log into which the logs of a hall can be merged, before anybody merges them
+abbrev pub log_of_hall : BookState → List ShardValue → RunLog
+log_of_hall b shards = record {
+  columns = made_columns (merged_events b.log (logs_of shards));
+  events = merged_events b.log (logs_of shards);
+}
+
+pub hall_is_merged : (before : List Access) (b : BookState) (shards : List ShardValue) → IsFinishedEnd before b shards
+    → AreMerged b.log (logs_of shards) (log_of_hall b shards).events
+hall_is_merged before b shards h =
+    let rise = can_be_merged before b shards h in
+    sorted_events_are_merged b.log (logs_of shards) rise.0 rise.1

@@ -33,7 +33,7 @@ use pipe_model::memory::NoMemory;
 use pipe_model::report::Reports;
 use pipe_model::trap::{TrapAt, TrapPlace};
 use pipe_worker::gate::Gate;
-use program_ends::ends::{ProgramResults, end_after_init, end_after_loop};
+use program_ends::ends::{ProgramResults, end_after_init, end_with_trap};
 use program_hall::carried::RunCode;
 use program_hall::opening::open;
 use run_record::logged_run::LoggedRun;
@@ -109,11 +109,11 @@ fn run_of_loop(
     let LoopEnd {
         run_log,
         reports,
+        trap,
         cells,
     } = end;
-    let columns = run_log.columns();
-    let ProgramResults { output, trap } = end_after_loop(
-        alloc, machine, prepared, columns, &reports, true, cells,
+    let ProgramResults { output, trap } = end_with_trap(
+        alloc, machine, prepared, trap, &reports, true, cells,
     )?;
     Ok(EngineRun {
         run_log,

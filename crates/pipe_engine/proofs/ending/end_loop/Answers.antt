@@ -1,11 +1,20 @@
-use Rattle.std.proofs.Common.{◌≢◌, ◌∙◌, ◌++◌, All, AllPairs, ap, map, subst, sym, List}
+use Rattle.std.proofs.Common.{◌≡◌, ◌≢◌, ◌∙◌, ◌++◌, ◌<◌, ◌≤◌, ◌^◌, [], All, AllPairs, ap, ap₂, cond, false, length, map, refl, subst, sym, List}
+use Rattle.std.specs.List.{list_any}
 use Rattle.std.specs.List.Sorted.{IsPermutation}
 use Rattle.access_history.specs.declared.history.Found.{Found}
 use Rattle.cell_store.specs.ShardState.{IsStateAfter}
 use Rattle.hall_headline.specs.EndedPrograms.{AreGathered}
 use Rattle.hall_headline.specs.HallEnds.{logs_of}
 use Rattle.hall_shards.specs.FoundRaces.{found_by}
-use Rattle.pipe_engine.proofs.LoopEnds.{can_be_merged, can_be_replayed, finished_end, loop_end, races, serves_still}
+use Rattle.pipe_engine.proofs.LoopEnds.{can_be_merged, can_be_replayed, columns_of_book, finished_end}
+use Rattle.pipe_engine.proofs.LoopEnds.{hall_is_merged, log_of_hall, loop_end, races, serves_still, small_columns}
+use Rattle.pipe_engine.proofs.NeededColumns.{found_if, reports_if, small_if, trap_if}
+use Rattle.program_ends.proofs.RunColumns.{HasSmallColumns}
+use Rattle.pipe_model.specs.declared.report.Report.{Report}
+use Rattle.run_record.proofs.TrappedEvents.{books_without_traps_make_none}
+use Rattle.run_record.specs.OwnColumns.{made_columns}
+use Rattle.run_record.specs.TrappedEvents.{IsUntrapped, ends_trapped}
+use Rattle.serial_elision.specs.ColumnTraps.{least_trap}
 use Rattle.pipe_engine.specs.ShardAccesses.{AreInside, accesses_in_all}
 use Rattle.pipe_model.specs.declared.access.CellId.{CellId}
 use Rattle.pipe_model.specs.declared.column.Column.{Column}
@@ -20,6 +29,12 @@ use Rattle.race_report.specs.RaceReports.{IsFoundIn, report_found}
 use Rattle.run_record.specs.MergedLogs.{AreMerged, BookRises, ShardRises}
 use Rattle.pipe_engine.proofs.ending.end_loop.Goals as goal
 
+-- the reports of other columns and other races that are the same
+found_map : {columns columns' : List Column} {fs fs' : List (CellId × Found)} → columns ≡ columns' → fs ≡ fs'
+    → map (λ (f : CellId × Found). report_found (node_columns columns) f.0 f.1) fs
+    ≡ map (λ (f : CellId × Found). report_found (node_columns columns') f.0 f.1) fs'
+found_map e f = ap₂ (λ (l : List Column) (k : List (CellId × Found)). map (λ (x : CellId × Found). report_found (node_columns l) x.0 x.1) k) e f
+
 pub replay-requires-clause-inside : goal.replay-requires-clause-inside
 replay-requires-clause-inside g c =
     let end = c.in_ok-book.field-0 in
@@ -32,24 +47,6 @@ replay-requires-clause-inside g c =
     (can_be_replayed (tree_of c.args.prepared.now.checked.now) c.args.prepared.now.input.now c.args.throttle c.args.hall end.book
     end.shards.items cells c.requires.opened ensured.constants h c.requires.serves.count)
 
-pub of_logs-requires-clause-book : goal.of_logs-requires-clause-book
-of_logs-requires-clause-book g c =
-    let end = c.in_ok-book.field-0 in
-    let ensured = c.in_ok-book.ensures in
-    let log = c.in_ok-book_log.ensures in
-    let h = finished_end c.args.hall.before c.args.key.seen end.book end.shards.items ensured.len ensured.ended ensured.stop log.sound
-    log.finished in
-    subst BookRises (sym log.log) (can_be_merged c.args.hall.before end.book end.shards.items h).0
-
-pub of_logs-requires-clause-shards : goal.of_logs-requires-clause-shards
-of_logs-requires-clause-shards g c =
-    let end = c.in_ok-book.field-0 in
-    let ensured = c.in_ok-book.ensures in
-    let log = c.in_ok-book_log.ensures in
-    let h = finished_end c.args.hall.before c.args.key.seen end.book end.shards.items ensured.len ensured.ended ensured.stop log.sound
-    log.finished in
-    subst (All ShardRises) (sym c.in_ok-shard_logs.ensures) (can_be_merged c.args.hall.before end.book end.shards.items h).1
-
 pub gather-requires-clause-cells : goal.gather-requires-clause-cells
 gather-requires-clause-cells g c =
     let end = c.in_ok-book.field-0 in
@@ -57,14 +54,14 @@ gather-requires-clause-cells g c =
     let log = c.in_ok-book_log.ensures in
     let h = finished_end c.args.hall.before c.args.key.seen end.book end.shards.items ensured.len ensured.ended ensured.stop log.sound
     log.finished in
-    let merged = subst (λ (l : List BookEntry). AreMerged l (logs_of end.shards.items) c.in_ok-run_log.run_log.events) log.log
-    (subst (λ (ls : List (List ShardEntry)). AreMerged c.in_ok-book_log.book_log ls c.in_ok-run_log.run_log.events)
-    c.in_ok-shard_logs.ensures c.in_ok-run_log.ensures.events) in
-    let all = races (tree_of c.args.prepared.now.checked.now) c.args.prepared.now.input.now c.args.throttle c.args.hall end.book
-    end.shards.items
-    c.in_ok-run_log.run_log c.requires.opened ensured.constants h merged c.in_ok-run_log.ensures.columns in
+    let tree = tree_of c.args.prepared.now.checked.now in
+    let input = c.args.prepared.now.input.now in
+    let of_hall = log_of_hall end.book end.shards.items in
+    let merged = hall_is_merged c.args.hall.before end.book end.shards.items h in
+    let all = races tree input c.args.throttle c.args.hall end.book end.shards.items of_hall c.requires.opened
+    ensured.constants h merged refl in
     subst (λ (l : List (CellId × Found)). AllPairs (λ (a : CellId × Found) (b : CellId × Found). a.0 ≢ b.0) l)
-    (sym (c.as_slice-3.ensures.value ∙ c.in_ok-found.ensures ∙ ap found_by c.as_slice.ensures.value)) all.cells
+    (sym (c.as_slice-6.ensures.value ∙ c.in_ok-found.ensures ∙ ap found_by c.as_slice.ensures.value)) all.cells
 
 pub gather-requires-clause-instances : goal.gather-requires-clause-instances
 gather-requires-clause-instances g c =
@@ -73,16 +70,110 @@ gather-requires-clause-instances g c =
     let log = c.in_ok-book_log.ensures in
     let h = finished_end c.args.hall.before c.args.key.seen end.book end.shards.items ensured.len ensured.ended ensured.stop log.sound
     log.finished in
-    let merged = subst (λ (l : List BookEntry). AreMerged l (logs_of end.shards.items) c.in_ok-run_log.run_log.events) log.log
-    (subst (λ (ls : List (List ShardEntry)). AreMerged c.in_ok-book_log.book_log ls c.in_ok-run_log.run_log.events)
-    c.in_ok-shard_logs.ensures c.in_ok-run_log.ensures.events) in
-    let all = races (tree_of c.args.prepared.now.checked.now) c.args.prepared.now.input.now c.args.throttle c.args.hall end.book
-    end.shards.items
-    c.in_ok-run_log.run_log c.requires.opened ensured.constants h merged c.in_ok-run_log.ensures.columns in
-    subst (λ (l : List (CellId × Found)). All (λ (f : CellId × Found). IsFoundIn (node_columns c.columns.result.now) f.1) l)
-    (sym (c.as_slice-3.ensures.value ∙ c.in_ok-found.ensures ∙ ap found_by c.as_slice.ensures.value))
+    let tree = tree_of c.args.prepared.now.checked.now in
+    let input = c.args.prepared.now.input.now in
+    let of_hall = log_of_hall end.book end.shards.items in
+    let merged = hall_is_merged c.args.hall.before end.book end.shards.items h in
+    let full : List Column = made_columns (map (λ (e : BookEntry). e.event) end.book.log) in
+    let needed = c.are_columns_needed-needed.result in
+    let columns_are = c.in_ok-columns.ensures
+    ∙ ap (λ (l : List BookEntry). cond needed (made_columns (map (λ (e : BookEntry). e.event) l)) []) (c.as_slice-5.ensures ∙ log.log) in
+    let found = c.as_slice-6.ensures.value ∙ c.in_ok-found.ensures ∙ ap found_by c.as_slice.ensures.value in
+    let none : needed ≡ false → found_by end.shards.items ≡ [] = λ e. sym (c.as_slice-4.ensures.value ∙ c.in_ok-found.ensures
+    ∙ ap found_by c.as_slice.ensures.value) ∙ c.are_columns_needed-needed.ensures.found e in
+    let all = races tree input c.args.throttle c.args.hall end.book end.shards.items of_hall c.requires.opened
+    ensured.constants h merged refl in
+    let full_is = columns_of_book tree input c.args.throttle c.args.hall end.book end.shards.items of_hall c.requires.opened
+    ensured.constants h merged refl in
+    let instances = subst (λ (l : List Column). All (λ (f : CellId × Found). IsFoundIn (node_columns l) f.1) (found_by end.shards.items))
+    (sym full_is) all.instances in
+    subst (λ (l : List (CellId × Found)). All (λ (f : CellId × Found). IsFoundIn (node_columns c.in_ok-columns.columns) f.1) l) (sym found)
     (subst (λ (l : List Column). All (λ (f : CellId × Found). IsFoundIn (node_columns l) f.1) (found_by end.shards.items))
-    (sym c.columns.ensures) all.instances)
+    (sym columns_are) (found_if needed full (found_by end.shards.items) none instances))
+
+pub of_logs-run_log-requires-clause-book : goal.of_logs-run_log-requires-clause-book
+of_logs-run_log-requires-clause-book g c =
+    let end = c.in_ok-book.field-0 in
+    let ensured = c.in_ok-book.ensures in
+    let log = c.in_ok-book_log.ensures in
+    let h = finished_end c.args.hall.before c.args.key.seen end.book end.shards.items ensured.len ensured.ended ensured.stop log.sound
+    log.finished in
+    subst BookRises (sym log.log) (can_be_merged c.args.hall.before end.book end.shards.items h).0
+
+pub of_logs-run_log-requires-clause-shards : goal.of_logs-run_log-requires-clause-shards
+of_logs-run_log-requires-clause-shards g c =
+    let end = c.in_ok-book.field-0 in
+    let ensured = c.in_ok-book.ensures in
+    let log = c.in_ok-book_log.ensures in
+    let h = finished_end c.args.hall.before c.args.key.seen end.book end.shards.items ensured.len ensured.ended ensured.stop log.sound
+    log.finished in
+    subst (All ShardRises) (sym c.in_ok-shard_logs.ensures) (can_be_merged c.args.hall.before end.book end.shards.items h).1
+
+pub least_trap-trap-requires-clause-count : goal.least_trap-trap-requires-clause-count
+least_trap-trap-requires-clause-count g c =
+    let end = c.in_ok-book.field-0 in
+    let ensured = c.in_ok-book.ensures in
+    let log = c.in_ok-book_log.ensures in
+    let h = finished_end c.args.hall.before c.args.key.seen end.book end.shards.items ensured.len ensured.ended ensured.stop log.sound
+    log.finished in
+    let tree = tree_of c.args.prepared.now.checked.now in
+    let input = c.args.prepared.now.input.now in
+    let of_hall = log_of_hall end.book end.shards.items in
+    let merged = hall_is_merged c.args.hall.before end.book end.shards.items h in
+    let full : List Column = made_columns (map (λ (e : BookEntry). e.event) end.book.log) in
+    let needed = c.are_columns_needed-needed.result in
+    let columns_are = c.in_ok-columns.ensures
+    ∙ ap (λ (l : List BookEntry). cond needed (made_columns (map (λ (e : BookEntry). e.event) l)) []) (c.as_slice-5.ensures ∙ log.log) in
+    let small = small_if needed full (subst HasSmallColumns (sym (columns_of_book tree input c.args.throttle c.args.hall end.book end.shards.items of_hall c.requires.opened
+    ensured.constants h merged refl))
+    (small_columns tree input c.args.throttle c.args.hall end.book end.shards.items of_hall c.requires.opened
+    ensured.constants h merged refl c.requires.accepted)) in
+    let seen = c.as_slice-7.ensures ∙ columns_are in
+    subst (λ (l : List Column). length l ≤ 2 ^ 32) (sym seen) small.count
+
+pub least_trap-trap-requires-clause-nonempty : goal.least_trap-trap-requires-clause-nonempty
+least_trap-trap-requires-clause-nonempty g c =
+    let end = c.in_ok-book.field-0 in
+    let ensured = c.in_ok-book.ensures in
+    let log = c.in_ok-book_log.ensures in
+    let h = finished_end c.args.hall.before c.args.key.seen end.book end.shards.items ensured.len ensured.ended ensured.stop log.sound
+    log.finished in
+    let tree = tree_of c.args.prepared.now.checked.now in
+    let input = c.args.prepared.now.input.now in
+    let of_hall = log_of_hall end.book end.shards.items in
+    let merged = hall_is_merged c.args.hall.before end.book end.shards.items h in
+    let full : List Column = made_columns (map (λ (e : BookEntry). e.event) end.book.log) in
+    let needed = c.are_columns_needed-needed.result in
+    let columns_are = c.in_ok-columns.ensures
+    ∙ ap (λ (l : List BookEntry). cond needed (made_columns (map (λ (e : BookEntry). e.event) l)) []) (c.as_slice-5.ensures ∙ log.log) in
+    let small = small_if needed full (subst HasSmallColumns (sym (columns_of_book tree input c.args.throttle c.args.hall end.book end.shards.items of_hall c.requires.opened
+    ensured.constants h merged refl))
+    (small_columns tree input c.args.throttle c.args.hall end.book end.shards.items of_hall c.requires.opened
+    ensured.constants h merged refl c.requires.accepted)) in
+    let seen = c.as_slice-7.ensures ∙ columns_are in
+    subst (λ (l : List Column). All (λ (column : Column). 0 < length column.nodes) l) (sym seen) small.some
+
+pub least_trap-trap-requires-clause-bounded : goal.least_trap-trap-requires-clause-bounded
+least_trap-trap-requires-clause-bounded g c =
+    let end = c.in_ok-book.field-0 in
+    let ensured = c.in_ok-book.ensures in
+    let log = c.in_ok-book_log.ensures in
+    let h = finished_end c.args.hall.before c.args.key.seen end.book end.shards.items ensured.len ensured.ended ensured.stop log.sound
+    log.finished in
+    let tree = tree_of c.args.prepared.now.checked.now in
+    let input = c.args.prepared.now.input.now in
+    let of_hall = log_of_hall end.book end.shards.items in
+    let merged = hall_is_merged c.args.hall.before end.book end.shards.items h in
+    let full : List Column = made_columns (map (λ (e : BookEntry). e.event) end.book.log) in
+    let needed = c.are_columns_needed-needed.result in
+    let columns_are = c.in_ok-columns.ensures
+    ∙ ap (λ (l : List BookEntry). cond needed (made_columns (map (λ (e : BookEntry). e.event) l)) []) (c.as_slice-5.ensures ∙ log.log) in
+    let small = small_if needed full (subst HasSmallColumns (sym (columns_of_book tree input c.args.throttle c.args.hall end.book end.shards.items of_hall c.requires.opened
+    ensured.constants h merged refl))
+    (small_columns tree input c.args.throttle c.args.hall end.book end.shards.items of_hall c.requires.opened
+    ensured.constants h merged refl c.requires.accepted)) in
+    let seen = c.as_slice-7.ensures ∙ columns_are in
+    subst (λ (l : List Column). All (λ (column : Column). length column.nodes ≤ 2 ^ 32) l) (sym seen) small.bounded
 
 pub returns : goal.returns
 returns g c =
@@ -91,25 +182,36 @@ returns g c =
     let log = c.in_ok-book_log.ensures in
     let h = finished_end c.args.hall.before c.args.key.seen end.book end.shards.items ensured.len ensured.ended ensured.stop log.sound
     log.finished in
-    let merged = subst (λ (l : List BookEntry). AreMerged l (logs_of end.shards.items) c.in_ok-run_log.run_log.events) log.log
-    (subst (λ (ls : List (List ShardEntry)). AreMerged c.in_ok-book_log.book_log ls c.in_ok-run_log.run_log.events)
-    c.in_ok-shard_logs.ensures c.in_ok-run_log.ensures.events) in
     let tree = tree_of c.args.prepared.now.checked.now in
     let input = c.args.prepared.now.input.now in
+    let full : List Column = made_columns (map (λ (e : BookEntry). e.event) end.book.log) in
+    let needed = c.are_columns_needed-needed.result in
+    let columns_are = c.in_ok-columns.ensures
+    ∙ ap (λ (l : List BookEntry). cond needed (made_columns (map (λ (e : BookEntry). e.event) l)) []) (c.as_slice-5.ensures ∙ log.log) in
+    let found = c.as_slice-6.ensures.value ∙ c.in_ok-found.ensures ∙ ap found_by c.as_slice.ensures.value in
+    let none : needed ≡ false → found_by end.shards.items ≡ [] = λ e. sym (c.as_slice-4.ensures.value ∙ c.in_ok-found.ensures
+    ∙ ap found_by c.as_slice.ensures.value) ∙ c.are_columns_needed-needed.ensures.found e in
+    let run_log = c.of_logs-run_log.result in
+    let merged = subst (λ (l : List BookEntry). AreMerged l (logs_of end.shards.items) run_log.events) log.log
+    (subst (λ (ls : List (List ShardEntry)). AreMerged c.in_ok-book_log.book_log ls run_log.events)
+    c.in_ok-shard_logs.ensures c.of_logs-run_log.ensures.events) in
+    let full_is = columns_of_book tree input c.args.throttle c.args.hall end.book end.shards.items run_log c.requires.opened
+    ensured.constants h merged c.of_logs-run_log.ensures.columns in
     let before = init_accesses (whole_of tree input) in
     let reports = c.in_ok-reports.reports in
-    let found = c.as_slice-3.ensures.value ∙ c.in_ok-found.ensures ∙ ap found_by c.as_slice.ensures.value in
-    let each = subst (λ (l : List (CellId × Found)). IsPermutation
-    (map (λ (f : CellId × Found). report_found (node_columns c.columns.result.now) f.0 f.1) l) reports) found
-    c.in_ok-reports.ensures.each in
-    let gathered : AreGathered c.in_ok-run_log.run_log (found_by end.shards.items) reports = record {
-      each = subst (λ (l : List Column). IsPermutation
-          (map (λ (f : CellId × Found). report_found (node_columns l) f.0 f.1) (found_by end.shards.items)) reports)
-          c.columns.ensures each;
+    let same = found_map columns_are found ∙ (reports_if needed full (found_by end.shards.items) none
+    ∙ ap (λ (l : List Column). map (λ (f : CellId × Found). report_found (node_columns l) f.0 f.1) (found_by end.shards.items)) full_is) in
+    let gathered : AreGathered run_log (found_by end.shards.items) reports = record {
+      each = subst (λ (l : List Report). IsPermutation l reports) same c.in_ok-reports.ensures.each;
       rise = c.in_ok-reports.ensures.rise;
     } in
+    let untrapped : needed ≡ false → All (λ (k : Column). IsUntrapped k.end) full = λ e. books_without_traps_make_none end.book.log
+    (subst (λ (l : List BookEntry). list_any (λ (b : BookEntry). ends_trapped b.event) l ≡ false) (c.as_slice-3.ensures ∙ log.log)
+    (c.are_columns_needed-needed.ensures.trap e)) in
+    let trap : c.least_trap-trap.result ≡ least_trap 0 run_log.columns = c.least_trap-trap.ensures
+    ∙ (ap (least_trap 0) (c.as_slice-7.ensures ∙ columns_are) ∙ (trap_if needed full untrapped ∙ ap (least_trap 0) full_is)) in
     let state = subst (λ (l : List (List ShardEntry)). IsStateAfter (store_of tree) (before ++ accesses_in_all l) c.replay.new.cells)
     (c.as_slice-2.ensures.value ∙ c.in_ok-shard_logs.ensures) (c.replay.ensures.state (store_of tree) before c.requires.state) in
-    loop_end tree input c.args.throttle c.args.hall end.book end.shards.items c.in_ok-run_log.run_log c.requires.opened ensured.constants h
-    merged c.in_ok-run_log.ensures.columns reports c.replay.new.cells gathered
+    loop_end tree input c.args.throttle c.args.hall end.book end.shards.items run_log c.requires.opened ensured.constants h
+    merged c.of_logs-run_log.ensures.columns reports c.least_trap-trap.result c.replay.new.cells gathered trap
     (serves_still tree c.args.cells c.replay.new.cells c.replay.ensures.shard c.requires.serves) state
