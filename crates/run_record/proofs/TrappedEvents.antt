@@ -68,5 +68,6 @@ columns_untrapped (f ∷ fs) all zero d l = all.0
 columns_untrapped (f ∷ fs) all (suc k) d l = columns_untrapped fs all.1 k d (omega (arith, l))
 
 pub books_without_traps_make_none : (book : List BookEntry) → list_any (λ (b : BookEntry). ends_trapped b.event) book ≡ false
-    → All (λ (c : Column). IsUntrapped c.end) (map column_of_frame (control_from initial_state (map (λ (b : BookEntry). b.event) book)).frames)
+    → All (λ (c : Column). IsUntrapped c.end)
+    (map column_of_frame (control_from initial_state (map (λ (b : BookEntry). b.event) book)).frames)
 books_without_traps_make_none book none = columns_untrapped _ (untrapped_from initial_state book none tt)

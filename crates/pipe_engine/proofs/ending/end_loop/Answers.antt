@@ -1,4 +1,5 @@
-use Rattle.std.proofs.Common.{◌≡◌, ◌≢◌, ◌∙◌, ◌++◌, ◌<◌, ◌≤◌, ◌^◌, [], All, AllPairs, ap, ap₂, cond, false, length, map, refl, subst, sym, List}
+use Rattle.std.proofs.Common.{◌≡◌, ◌≢◌, ◌∙◌, ◌++◌, ◌<◌, ◌≤◌, ◌^◌, [], All, AllPairs, ap, ap₂, cond, false}
+use Rattle.std.proofs.Common.{length, map, refl, subst, sym, List}
 use Rattle.std.specs.List.{list_any}
 use Rattle.std.specs.List.Sorted.{IsPermutation}
 use Rattle.access_history.specs.declared.history.Found.{Found}
@@ -33,7 +34,8 @@ use Rattle.pipe_engine.proofs.ending.end_loop.Goals as goal
 found_map : {columns columns' : List Column} {fs fs' : List (CellId × Found)} → columns ≡ columns' → fs ≡ fs'
     → map (λ (f : CellId × Found). report_found (node_columns columns) f.0 f.1) fs
     ≡ map (λ (f : CellId × Found). report_found (node_columns columns') f.0 f.1) fs'
-found_map e f = ap₂ (λ (l : List Column) (k : List (CellId × Found)). map (λ (x : CellId × Found). report_found (node_columns l) x.0 x.1) k) e f
+found_map e f = ap₂ (λ (l : List Column) (k : List (CellId × Found)). map (λ (x : CellId × Found). report_found (node_columns l) x.0 x.1) k)
+    e f
 
 pub replay-requires-clause-inside : goal.replay-requires-clause-inside
 replay-requires-clause-inside g c =
@@ -124,8 +126,8 @@ least_trap-trap-requires-clause-count g c =
     let needed = c.are_columns_needed-needed.result in
     let columns_are = c.in_ok-columns.ensures
     ∙ ap (λ (l : List BookEntry). cond needed (made_columns (map (λ (e : BookEntry). e.event) l)) []) (c.as_slice-5.ensures ∙ log.log) in
-    let small = small_if needed full (subst HasSmallColumns (sym (columns_of_book tree input c.args.throttle c.args.hall end.book end.shards.items of_hall c.requires.opened
-    ensured.constants h merged refl))
+    let small = small_if needed full (subst HasSmallColumns (sym (columns_of_book tree input c.args.throttle c.args.hall end.book
+    end.shards.items of_hall c.requires.opened ensured.constants h merged refl))
     (small_columns tree input c.args.throttle c.args.hall end.book end.shards.items of_hall c.requires.opened
     ensured.constants h merged refl c.requires.accepted)) in
     let seen = c.as_slice-7.ensures ∙ columns_are in
@@ -146,8 +148,8 @@ least_trap-trap-requires-clause-nonempty g c =
     let needed = c.are_columns_needed-needed.result in
     let columns_are = c.in_ok-columns.ensures
     ∙ ap (λ (l : List BookEntry). cond needed (made_columns (map (λ (e : BookEntry). e.event) l)) []) (c.as_slice-5.ensures ∙ log.log) in
-    let small = small_if needed full (subst HasSmallColumns (sym (columns_of_book tree input c.args.throttle c.args.hall end.book end.shards.items of_hall c.requires.opened
-    ensured.constants h merged refl))
+    let small = small_if needed full (subst HasSmallColumns (sym (columns_of_book tree input c.args.throttle c.args.hall end.book
+    end.shards.items of_hall c.requires.opened ensured.constants h merged refl))
     (small_columns tree input c.args.throttle c.args.hall end.book end.shards.items of_hall c.requires.opened
     ensured.constants h merged refl c.requires.accepted)) in
     let seen = c.as_slice-7.ensures ∙ columns_are in
@@ -168,8 +170,8 @@ least_trap-trap-requires-clause-bounded g c =
     let needed = c.are_columns_needed-needed.result in
     let columns_are = c.in_ok-columns.ensures
     ∙ ap (λ (l : List BookEntry). cond needed (made_columns (map (λ (e : BookEntry). e.event) l)) []) (c.as_slice-5.ensures ∙ log.log) in
-    let small = small_if needed full (subst HasSmallColumns (sym (columns_of_book tree input c.args.throttle c.args.hall end.book end.shards.items of_hall c.requires.opened
-    ensured.constants h merged refl))
+    let small = small_if needed full (subst HasSmallColumns (sym (columns_of_book tree input c.args.throttle c.args.hall end.book
+    end.shards.items of_hall c.requires.opened ensured.constants h merged refl))
     (small_columns tree input c.args.throttle c.args.hall end.book end.shards.items of_hall c.requires.opened
     ensured.constants h merged refl c.requires.accepted)) in
     let seen = c.as_slice-7.ensures ∙ columns_are in
