@@ -9,8 +9,8 @@ measure-requires g c =
     counts_are_few (tree_of c.args.checked.now) c.args.input.now _
     (c.in_ok-columns.ensures ∙ c.in_ok-run.ensures.columns (none_left _ (sym c.is_empty.ensures ∙ c.if-is_empty.true))) c.requires.bounded
 
-pub returns-in_ok-columns : goal.returns-in_ok-columns
-returns-in_ok-columns g c =
+pub returns-then-is_empty : goal.returns-then-is_empty
+returns-then-is_empty g c =
     let none = none_left _ (sym c.is_empty.ensures ∙ c.if-is_empty.true) in
     measures_the_elision (tree_of c.args.checked.now) c.args.input.now _ c.args.workers _ _
     (c.in_ok-columns.ensures ∙ c.in_ok-run.ensures.columns none) (c.in_ok-run.ensures.run.output none) c.measure.ensures
