@@ -36,7 +36,7 @@ append_by true n front bs cs e = ap (λ l. n ∷ l) e
 append_by false n front bs cs e = e
 
 -- the accesses to a cell in two lists
-accesses_to-append : (c : ℕ) (xs ys : List NodeAccess) → accesses_to c (xs ++ ys) ≡ accesses_to c xs ++ accesses_to c ys
+pub accesses_to-append : (c : ℕ) (xs ys : List NodeAccess) → accesses_to c (xs ++ ys) ≡ accesses_to c xs ++ accesses_to c ys
 accesses_to-append c [] ys = refl
 accesses_to-append c (x ∷ xs) ys =
     append_by (eqb (cell_of x) c) (noted_of x) (accesses_to c xs) (accesses_to c ys) (accesses_to c (xs ++ ys))
@@ -53,7 +53,7 @@ skipped_by true n front bs e h = absurd (cc)
 skipped_by false n front bs e h = h
 
 -- all accesses are to the cell
-accesses_to-own : (c : ℕ) (xs : List NodeAccess) → All (λ a. cell_of a ≡ c) xs → accesses_to c xs ≡ noted_all xs
+pub accesses_to-own : (c : ℕ) (xs : List NodeAccess) → All (λ a. cell_of a ≡ c) xs → accesses_to c xs ≡ noted_all xs
 accesses_to-own c [] own = refl
 accesses_to-own c (x ∷ xs) own =
     kept_by (eqb (cell_of x) c) (noted_of x) (accesses_to c xs) (noted_all xs)
@@ -69,7 +69,7 @@ eqb_false_from a b h = go (eqb a b) refl
     go false e = refl
 
 -- all accesses are to other cells
-accesses_to-others : (c : ℕ) (xs : List NodeAccess) → All (λ a. cell_of a ≡ c → ⊥) xs → accesses_to c xs ≡ []
+pub accesses_to-others : (c : ℕ) (xs : List NodeAccess) → All (λ a. cell_of a ≡ c → ⊥) xs → accesses_to c xs ≡ []
 accesses_to-others c [] others = refl
 accesses_to-others c (x ∷ xs) others =
     skipped_by (eqb (cell_of x) c) (noted_of x) (accesses_to c xs) []
@@ -136,7 +136,7 @@ pub record IsProgress (columns : List (List Node)) (xs rest : List NodeAccess) (
   pub all : (c later earlier : ℕ) → IsBelowAll c rest → RacesAt columns (accesses_to c xs) later earlier → HasReport reports c
 
 -- without accesses there is no race
-none_in_none : (columns : List (List Node)) (noted : List NotedAccess) → noted ≡ [] → CellHasNoRace columns noted
+pub none_in_none : (columns : List (List Node)) (noted : List NotedAccess) → noted ≡ [] → CellHasNoRace columns noted
 none_in_none columns noted e later earlier r = let w = r.within in omega (arith, w, ap length e)
 
 -- before the first report

@@ -37,7 +37,7 @@ one_more noted n x P is here before k l = elim (cases_lt k n) [
 ]
 
 -- the fronts after another access
-fronts_joined : (columns : List (List Node)) (noted : List NotedAccess) (n : ℕ) (f : Fronts) (who : NodeId)
+pub fronts_joined : (columns : List (List Node)) (noted : List NotedAccess) (n : ℕ) (f : Fronts) (who : NodeId)
     (kind : AccessKind) (here : ℕ)
     → AreFronts columns noted n f → access_at noted n ≡ record { who = who; kind = kind } → LeadsFrom columns who f.column here
     → AreFronts columns noted (n + 1) (joined_fronts f kind here)

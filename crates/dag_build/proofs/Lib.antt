@@ -1,4 +1,5 @@
 pub mod CellGroups
+pub mod ClearLaws
 pub mod FirstRaceLaws
 pub mod FrontLaws
 pub mod Moves

@@ -1,4 +1,5 @@
 pub mod AccessFronts
+pub mod ClearAccesses
 pub mod Jumps
 pub mod NodeColumns
 pub mod RacingAccesses

@@ -72,6 +72,9 @@ impl Dag {
         requires within { to < length self.now }
         ensures { MovesTo self.now from place to result }
     {
+        if from == to {
+            return place;
+        }
         let columns = self.columns.as_slice();
         let levels = self.levels.as_slice();
         let mut column = from;

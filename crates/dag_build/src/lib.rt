@@ -2,6 +2,7 @@
 //! of accesses.
 #![tactic(auto)]
 
+mod clear;
 pub mod dag;
 mod fronts;
 mod jumps;

@@ -185,16 +185,28 @@ impl Dag {
         Ok(reports)
     }
 
+    // The first races of all accesses, which are sorted by cell for this.
+    fn sorted_races(&self, alloc: Global, accesses: &[NodeAccess]) -> Result<Reports, NoMemory>
+        requires { All (IsAccessOf self.now) accesses.now }
+        ensures { IfOk result (λ reports. AreFirstRaces self.now accesses.now reports) }
+    {
+        let mut sorted = Vec::from_slice(alloc, accesses)?;
+        sorted.sort_by_key(|a| a.access.cell.0)?;
+        self.races_by_cell(alloc, sorted.as_slice())
+    }
+
     /// Returns the determinacy races of the accesses, which instances of the columns must have
     /// made: one report for each cell that has a race, rising by cell. A report names the first
     /// access that conflicts with an earlier access of a parallel instance, and the first such
-    /// earlier access. Returns an error only if memory runs out.
+    /// earlier access. Takes a few look-ups for each access if none races, and otherwise sorts them.
+    /// Returns an error only if memory runs out.
     pub fn races(&self, alloc: Global, accesses: &NodeAccesses) -> Result<Reports, NoMemory>
         requires { All (IsAccessOf self.now) accesses.now }
         ensures { IfOk result (λ reports. AreFirstRaces self.now accesses.now reports) }
     {
-        let mut sorted = Vec::from_slice(alloc, accesses.as_slice())?;
-        sorted.sort_by_key(|a| a.access.cell.0)?;
-        self.races_by_cell(alloc, sorted.as_slice())
+        if self.are_clear(alloc, accesses.as_slice())? {
+            return Ok(ListOf::new(alloc));
+        }
+        self.sorted_races(alloc, accesses.as_slice())
     }
 }

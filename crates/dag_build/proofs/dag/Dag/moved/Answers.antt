@@ -1,5 +1,5 @@
-use Rattle.std.proofs.Common.{arith}
-use Rattle.dag_build.specs.Jumps.{Stays}
+use Rattle.std.proofs.Common.{arith, subst}
+use Rattle.dag_build.specs.Jumps.{MovesTo, Stays}
 use Rattle.dag_build.proofs.Moves.{at_the_end, moves_both, step_at}
 use Rattle.dag_build.proofs.dag.Dag.moved.Goals as goal
 
@@ -17,3 +17,6 @@ pub returns : goal.returns
 returns c =
     at_the_end _ _ _ _ _ _ _ _ (rw (← c.self.view_is, c.as_slice-levels.ensures) c.self.invariant) (omega arith)
     c.loop-k.invariant.0 c.loop-k.invariant.2 c.loop-k.invariant.1
+
+pub returns-then-from-to : goal.returns-then-from-to
+returns-then-from-to c = subst (λ t. MovesTo c.args.self.now c.args.from c.args.place t c.args.place) c.if-from-to.true Stays
