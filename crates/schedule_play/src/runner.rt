@@ -6,6 +6,7 @@ ghost use Rattle.pipe_model.specs.Language.SyntaxTree.{SyntaxTree};
 ghost use Rattle.stage_interp.specs.MachineState.{IsMadeFor};
 
 use frame_book::payload::Payload;
+use heap_value::kept::Kept;
 use order_2d::list_writer::ListWriter;
 use order_2d::two_orders::TwoOrders;
 use pipe_frame::stands::Stands;
@@ -45,8 +46,8 @@ impl PlayedCode for Brand {
 /// The payload of a token in a schedule: a machine for the code of `B`.
 #[derive(Drop)]
 pub struct Runner<B: PlayedCode> {
-    /// The machine.
-    pub machine: Machine,
+    /// The machine, on the heap, so that a token is small.
+    pub machine: Kept<Machine>,
     of: PhantomData<B>,
 }
 
@@ -59,7 +60,7 @@ impl<B: PlayedCode> Runner<B> {
         ensures { IfOk result (λ runner. IsMadeFor B.code runner.machine) }
     {
         Ok(Runner {
-            machine: Machine::new(alloc, code)?,
+            machine: Kept::boxed(alloc, Machine::new(alloc, code)?)?,
             of: PhantomData,
         })
     }
@@ -79,7 +80,7 @@ impl<B: PlayedCode> Stands for Runner<B> {
 
 impl<B: PlayedCode, L: ListWriter + Drop> Payload<L> for Runner<B> {
     fn begin(&mut self, iteration: u32) {
-        self.machine.reset(Part::Pipe, iteration);
+        self.machine.get_mut().reset(Part::Pipe, iteration);
     }
 
     fn started(&mut self, orders: &mut TwoOrders<L>) {

@@ -79,7 +79,8 @@ impl<B: PlayedCode> RunningIteration<B> {
         ensures fields { result.token ≡ fields_of token }
         ensures empty { result.trace ≡ [] }
     {
-        let running = RunningInstance::new(alloc, &mut token.payload.machine, code, input, cells);
+        let machine = token.payload.machine.get_mut();
+        let running = RunningInstance::new(alloc, machine, code, input, cells);
         RunningIteration { token, running }
     }
 
@@ -120,7 +121,7 @@ impl<B: PlayedCode> RunningIteration<B> {
             → IsStateAfter store (before ++ a ∷ []) cells.new) }
         ensures shard { cells.new.shard ≡ cells.old.shard }
     {
-        let machine = &mut self.token.payload.machine;
+        let machine = self.token.payload.machine.get_mut();
         let access = self.running.access(machine, code, input, cells, ticket)?;
         self.token.now = ticket;
         Ok(access)

@@ -2,6 +2,7 @@ use Rattle.std.proofs.Common.{ℕ, subst, sym}
 use Rattle.pipe_frame.specs.Replies.{after_instances}
 use Rattle.pipe_model.specs.Language.Programs.{pipeline_of}
 use Rattle.stage_code.specs.FlatCode.{FlatCode}
+use Rattle.stage_interp.specs.MachineState.{IsMadeFor, MachineState}
 use Rattle.schedule_play.specs.RunningIterations.{IsRunningIteration}
 use Rattle.schedule_play.specs.RunningInstances.{IsUnderWay}
 use Rattle.schedule_play.proofs.running_iteration.RunningIteration.access.Goals as goal
@@ -17,13 +18,17 @@ returns-clause-instance g c = λ tree replies instance.
     let run = c.access.new.machine.run in
     let t = after_instances ((pipeline_of tree input).behaviour old.token.iteration) replies in
     let here = subst (IsRunningIteration code cells tree input replies) (sym c.self.view_is) instance in
-    let before = subst (λ (x : FlatCode). IsUnderWay x served input t old.token.payload.machine.run old.running.trace.items
-    old.running.next) (sym c.requires.code)
-    (subst (λ (n : ℕ). IsUnderWay code n input t old.token.payload.machine.run old.running.trace.items old.running.next)
-    (sym c.requires.cells) here.under_way) in
+    let lent = sym c.get_mut-machine.ensures.value in
+    let under_way = subst (λ (m : MachineState). IsUnderWay code cells input t m.run old.running.trace.items old.running.next) lent
+    here.under_way in
+    let machine = c.get_mut-machine.result.now in
+    let before = subst (λ (x : FlatCode). IsUnderWay x served input t machine.run old.running.trace.items old.running.next)
+    (sym c.requires.code)
+    (subst (λ (n : ℕ). IsUnderWay code n input t machine.run old.running.trace.items old.running.next) (sym c.requires.cells) under_way) in
+    let made = subst (IsMadeFor code) lent here.whole.made in
     let after = c.in_ok-access.ensures.goes_on t before in
     record {
-      whole = record { code_of = here.whole.code_of; made = c.access.ensures.made code here.whole.made; served = here.whole.served };
+      whole = record { code_of = here.whole.code_of; made = c.access.ensures.made code made; served = here.whole.served };
       under_way = subst (λ (n : ℕ). IsUnderWay code n input t run new.trace.items new.next) c.requires.cells
           (subst (λ (x : FlatCode). IsUnderWay x served input t run new.trace.items new.next) c.requires.code after);
     }
