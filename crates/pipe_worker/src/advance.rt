@@ -20,7 +20,7 @@ use std::marker::Brand;
 use std::sync::Wait;
 
 /// Runs the instance of a token over the cells of the hall, and ends it. Returns how the iteration goes
-/// on, and the end of the instance. The token of a next instance is as `advance` of the hall returns it.
+/// on, the end of the instance, and its length. The token of a next instance is as `advance` of the hall returns it.
 pub fn run_and_advance<R: Wait, M: Runs + Drop, H: Hall<M>>(
     alloc: Global,
     rt: &R,
@@ -28,7 +28,7 @@ pub fn run_and_advance<R: Wait, M: Runs + Drop, H: Hall<M>>(
     input: &Numbers,
     hall: &mut H,
     token: FrameToken<M>,
-) -> (Next<M>, StageEnd)
+) -> (Next<M>, StageEnd, u64)
     requires drives { CanDrive M.code (H.named hall.old) code.now input.now }
     requires given { IsGivenToken M.ready_at M.tie (H.named hall.old) token }
     ensures named { H.named hall.new ≡ H.named hall.old }
@@ -36,10 +36,10 @@ pub fn run_and_advance<R: Wait, M: Runs + Drop, H: Hall<M>>(
     ensures token { IfGo result.0 (IsGivenToken M.ready_at M.tie (H.named hall.old)) }
 {
     let lent = LentHall { hall };
-    let (lent, token, trace, end) = run_instance::<R, M, H, Brand>(
+    let (lent, token, trace, end, length) = run_instance::<R, M, H, Brand>(
         alloc, rt, code, input, lent, token,
     );
     let hall = lent.hall;
     let next = hall.advance(rt, token, end, trace);
-    (next, end)
+    (next, end, length)
 }

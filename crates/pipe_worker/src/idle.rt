@@ -19,6 +19,9 @@ const FIRST_SLEEP: u64 = 25;
 
 const LONGEST_SLEEP: u64 = 200;
 
+// The microseconds for which a worker of short instances rests before it steals.
+const REST: u64 = 200;
+
 // How often a worker looks for a task again before it asks the book once more, while its pauses are
 // short and when they are long. The book has a lock, which workers with instances need.
 const SHORT_LOOKS: u32 = 4;
@@ -39,6 +42,8 @@ pub(crate) struct Idle {
     waits: bool,
     // Whether an iteration was left to others when the book was asked last.
     left: bool,
+    // Whether the worker has rested since it found something.
+    rested: bool,
 }
 
 impl Idle {
@@ -52,6 +57,7 @@ impl Idle {
             sleep: Parker::new(),
             waits: false,
             left: false,
+            rested: false,
         }
     }
 
@@ -62,6 +68,20 @@ impl Idle {
         self.micros = FIRST_SLEEP;
         self.waits = false;
         self.left = false;
+        self.rested = false;
+    }
+
+    // Returns whether the worker may steal and ask the book. One that has run only short instances of late
+    // rests first: where instances are short, workers that share them out wait for the book longer than
+    // one needs for all of them.
+    pub fn may_steal(&self, is_short: bool) -> bool {
+        self.rested || !is_short
+    }
+
+    // Rests, once, until the worker has found something again.
+    pub fn rest<R: Wait>(&mut self, rt: &R) {
+        self.rested = true;
+        self.sleep.park_timeout(rt, Duration::from_micros(REST));
     }
 
     // Returns whether the worker may begin an iteration that the book lets begin. The worker of the last

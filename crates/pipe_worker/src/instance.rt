@@ -15,6 +15,7 @@ ghost use Rattle.stage_interp.specs.RemainingBehaviour.{RanInstance, Represents}
 
 use crate::lent::LentHall;
 use crate::memory::{InstanceMemory, RunningInstance};
+use crate::pace::length_of;
 use crate::runs::Runs;
 use heap_value::kept::Kept;
 use pipe_frame::hall::Hall;
@@ -28,25 +29,27 @@ use stage_interp::memory::Memory;
 use std::alloc::Global;
 use std::sync::Wait;
 
-// Runs one stage instance by a machine on the heap.
+// Runs one stage instance by a machine on the heap. Returns its end, and the steps that it has taken.
 fn run_stage_by<M: Memory>(
     machine: &mut Kept<Machine>,
     code: &Code,
     input: &Numbers,
     memory: &mut M,
-) -> StageEnd
+) -> (StageEnd, i64)
     requires before { (t : Behaviour) × Represents code.now (M.served memory.old) input.now machine.old.run t }
     requires bounded { M.served memory.old ≤ most_cell_ids }
     ensures ran { (t : Behaviour) → Represents code.now (M.served memory.old) input.now machine.old.run t
-        → RanInstance code.now (M.served memory.old) input.now t (M.made memory.old) (M.made memory.new) machine.new.run result }
+        → RanInstance code.now (M.served memory.old) input.now t (M.made memory.old) (M.made memory.new) machine.new.run result.0 }
     ensures made { (c : FlatCode) → IsMadeFor c machine.old → IsMadeFor c machine.new }
-    ensures stops { StopsOnly (Some result) (M.stopped memory.new) }
+    ensures stops { StopsOnly (Some result.0) (M.stopped memory.new) }
 {
-    machine.get_mut().run_stage(code, input, memory)
+    let lent = machine.get_mut();
+    let end = lent.run_stage(code, input, memory);
+    (end, lent.steps())
 }
 
 /// Runs the instance of a token over the cells of the hall. Returns the hall, the token, the accesses
-/// of the instance and its end.
+/// of the instance, its end, and its length, as the worker's pace counts it.
 pub fn run_instance<'a, R: Wait, M: Runs + Drop, H: Hall<M>, J: RunningInstance>(
     alloc: Global,
     rt: &R,
@@ -54,7 +57,7 @@ pub fn run_instance<'a, R: Wait, M: Runs + Drop, H: Hall<M>, J: RunningInstance>
     input: &Numbers,
     lent: LentHall<'a, H>,
     mut token: FrameToken<M>,
-) -> (LentHall<'a, H>, FrameToken<M>, Trace, StageEnd)
+) -> (LentHall<'a, H>, FrameToken<M>, Trace, StageEnd, u64)
     requires reference { lent.hall.ghost_name ≡ J.reference }
     requires named { H.named lent.hall.now ≡ J.named }
     requires counts { H.tokens lent.hall.now ≡ J.counts }
@@ -69,8 +72,9 @@ pub fn run_instance<'a, R: Wait, M: Runs + Drop, H: Hall<M>, J: RunningInstance>
 {
     let mut machine = token.payload.take_machine();
     let mut memory = InstanceMemory::<R, M, H, J>::new(alloc, rt, lent, token);
-    let end = run_stage_by(&mut machine, code, input, &mut memory);
+    let (end, steps) = run_stage_by(&mut machine, code, input, &mut memory);
     let (lent, mut token, trace) = memory.finish();
     token.payload.put_machine(machine);
-    (lent, token, trace, end)
+    let length = length_of(steps, trace.len());
+    (lent, token, trace, end, length)
 }

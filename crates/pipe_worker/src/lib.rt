@@ -10,5 +10,6 @@ mod idle;
 pub mod instance;
 pub mod lent;
 pub mod memory;
+mod pace;
 pub mod runs;
 pub mod worker;

@@ -12,6 +12,7 @@ ghost use Rattle.pipe_worker.specs.Workers.{IsSameWorker, ends_of, number_of};
 use crate::advance::run_and_advance;
 use crate::gate::Gate;
 use crate::idle::Idle;
+use crate::pace::Pace;
 use crate::runs::Runs;
 use lazy_enable::look::{Look, StageOutcome, after};
 use pipe_frame::hall::Hall;
@@ -32,6 +33,7 @@ use worker_tasks::work_test::WorkTest;
 pub struct Worker<M: Runs + Drop, Q: WorkTest<M>> {
     alloc: Global,
     tasks: WorkerTasks<M, Q>,
+    pace: Pace,
 }
 
 // What came of a worker's question to the book.
@@ -63,6 +65,7 @@ impl<M: Runs + Drop, Q: WorkTest<M>> Worker<M, Q> {
         Worker {
             alloc,
             tasks: WorkerTasks::new(number, ends),
+            pace: Pace::new(),
         }
     }
 
@@ -159,7 +162,8 @@ impl<M: Runs + Drop, Q: WorkTest<M>> Worker<M, Q> {
         let iteration = token.iteration;
         let index = token.index;
         gate.at(rt, self.tasks.number(), NodeId { iteration, index });
-        let (next, end) = run_and_advance(self.alloc, rt, code, input, hall, token);
+        let (next, end, length) = run_and_advance(self.alloc, rt, code, input, hall, token);
+        self.pace.note(length);
         let next_begins = index == 0 && loop_goes_on(end);
         self.go_on(rt, hall, iteration, next, next_begins)
     }
@@ -297,10 +301,13 @@ impl<M: Runs + Drop, Q: WorkTest<M>> Worker<M, Q> {
         let mut idle = Idle::new();
         let mut looks = 0u32;
         for _ in rt.forever() {
-            if let Some(task) = self.tasks.take(rt) {
+            let steals = idle.may_steal(self.pace.is_short());
+            if let Some(task) = self.tasks.take(rt, steals) {
                 idle.reset();
                 looks = 0;
                 self.perform(rt, code, input, hall, gate, task);
+            } else if !steals {
+                idle.rest(rt);
             } else if looks > 0 {
                 looks -= 1;
                 idle.pause(rt);

@@ -60,15 +60,16 @@ impl<M: Stands + Drop, Q: WorkTest<M>> WorkerTasks<M, Q> {
         None
     }
 
-    /// Takes the last task of the worker's own deque, or else the first one of another worker's.
-    pub fn take<R: Wait>(&mut self, rt: &R) -> Option<Task<M>>
+    /// Takes the last task of the worker's own deque, or else, if the worker `steals`, the first one of
+    /// another worker's.
+    pub fn take<R: Wait>(&mut self, rt: &R, steals: bool) -> Option<Task<M>>
         ensures task { IfSome result Q.meets }
         ensures tokens { TakesTokens Q.weight (tokens_taken result) (owned_ends self.old) (owned_ends self.new) }
         ensures worker { OfSameWorker self.old self.new }
     {
         match self.ends.pop() {
             Some(task) => Some(task),
-            None => self.steal(rt),
+            None => { if steals { self.steal(rt) } else { None } }
         }
     }
 
