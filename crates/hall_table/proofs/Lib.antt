@@ -3,5 +3,6 @@ pub mod ControlPrefixes
 pub mod CallEffects
 pub mod Sharding
 pub mod Steps
+pub mod SeatPlaces
 pub mod Seating
 pub mod Crossing

@@ -9,4 +9,5 @@ pub mod WorkerSeats
 pub mod InstanceSeats
 pub mod Lending
 pub mod SeatAccesses
+pub mod SeatPlaces
 pub mod Openings

@@ -28,9 +28,10 @@ pub trait Carrier: Payload<OmWriter> {
     /// The payload with this seat, or with none.
     ghost with_seat: { Self → Option RunSeat → Self };
 
-    /// Takes the seat out.
-    fn take_seat(&mut self) -> Option<RunSeat>
-        ensures seat { result ≡ seat self.old }
+    /// Takes the seat out, which must be there.
+    fn take_seat(&mut self) -> RunSeat
+        requires there { (r : RunSeat) × (seat self.old ≡ Some r) }
+        ensures seat { seat self.old ≡ Some result }
         ensures payload { self.new ≡ with_seat self.old None };
 
     /// Puts a seat in.

@@ -7,6 +7,7 @@ pub mod locks;
 pub mod opening;
 pub mod rule;
 pub mod run_seat;
+pub mod seat_place;
 pub mod slot;
 pub mod view;
 pub mod witness;

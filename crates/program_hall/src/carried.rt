@@ -5,6 +5,7 @@ ghost use Rattle.std.specs.Prelude.{◌≡◌, IfOk, None};
 use frame_book::payload::Payload;
 use hall_table::carrier::Carrier;
 use hall_table::run_seat::RunSeat;
+use hall_table::seat_place::SeatPlace;
 use heap_value::kept::Kept;
 use om_shared::writer::OmWriter;
 use order_2d::two_orders::TwoOrders;
@@ -46,7 +47,7 @@ pub struct Carried<B: RunCode> {
     /// The machine, unless it was taken out to run.
     pub machine: Option<Kept<Machine>>,
     /// The seat of the instance while the token is out of the book.
-    pub seat: Option<RunSeat>,
+    pub seat: SeatPlace,
     /// The passes to the order lists.
     pub passes: TwoPasses,
     of: PhantomData<B>,
@@ -65,7 +66,7 @@ impl<B: RunCode> Carried<B> {
     {
         Ok(Carried {
             machine: Some(Kept::boxed(alloc, Machine::new(alloc, code)?)?),
-            seat: None,
+            seat: SeatPlace::new(),
             passes,
             of: PhantomData,
         })
@@ -131,12 +132,12 @@ impl<B: RunCode> Carrier for Carried<B> {
 
     ghost with_seat = { λ x s. record x { seat = s } };
 
-    fn take_seat(&mut self) -> Option<RunSeat> {
+    fn take_seat(&mut self) -> RunSeat {
         self.seat.take()
     }
 
     fn put_seat(&mut self, run: RunSeat) {
-        self.seat = Some(run);
+        self.seat.put(run);
     }
 
     fn passes(&mut self) -> &mut TwoPasses {
