@@ -2,7 +2,7 @@
 
 // An instance of fewer steps is short: its calls of the book take longer than it does if other workers
 // make calls too.
-const SHORT_STEPS: u64 = 300;
+const SHORT_STEPS: u64 = 500;
 
 // The steps that take as long as an access.
 const ACCESS_STEPS: u64 = 64;

@@ -92,7 +92,9 @@ pub fn end_after_loop(
     end_with_trap(alloc, machine, prepared, trap, reports, finished, cells)
 }
 
-/// The same, with the trap of the least iteration that trapped in place of the columns.
+/// Ends a program after a run of its loop, of which these are the trap of the least iteration that
+/// trapped, the reports, and the cells. Runs `final` exactly if the run is finished and there is neither
+/// a report nor a trap. Returns an error only if memory runs out; the machine is of no use then.
 pub fn end_with_trap(
     alloc: Global,
     machine: &mut Machine,

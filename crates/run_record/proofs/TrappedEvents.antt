@@ -1,5 +1,6 @@
 -- A book without an event that ends an iteration with a trap makes no column that ends with one.
-use Rattle.std.proofs.Common.{◌≡◌, ℕ, zero, suc, List, [], ◌∷◌, ◌++◌, ◌||◌, Bool, true, false, All, map, refl, arith}
+use Rattle.std.proofs.Common.{◌≡◌, ℕ, zero, suc, List, [], ◌∷◌, ◌++◌, false, All, map, refl, arith}
+use Rattle.std.proofs.lemmas.Bool.{or_parts}
 use Rattle.std.specs.List.{list_any}
 use Rattle.pipe_model.specs.declared.column.Column.{Column}
 use Rattle.pipe_model.specs.declared.event.Event.{Event}
@@ -12,11 +13,6 @@ use Rattle.pipe_model.specs.Runs.ControlParts.{control_from, next_control}
 use Rattle.pipe_model.specs.Runs.RunLogs.{column_of_frame}
 use Rattle.pipe_model.specs.Runs.State.{Frame, State, end_of_status, enter_pending, fresh_frame, initial_state, update_frame, with_action}
 use Rattle.run_record.specs.TrappedEvents.{IsUntrapped, ends_trapped}
-
--- none of two tests holds
-neither : (a b : Bool) → (a || b) ≡ false → (a ≡ false) × (b ≡ false)
-neither true b e = (e, absurd (let z : true ≡ false = e in cc))
-neither false b e = (refl, e)
 
 abbrev IsUntrappedFrame : Frame → Type 0
 IsUntrappedFrame f = IsUntrapped (end_of_status f.status)
@@ -59,7 +55,7 @@ untrapped_from : (s : State) (book : List BookEntry) → list_any (λ (b : BookE
     → AreUntrapped (control_from s (map (λ (b : BookEntry). b.event) book)).frames
 untrapped_from s [] none all = all
 untrapped_from s (b ∷ book) none all =
-    let both = neither (ends_trapped b.event) (list_any (λ (x : BookEntry). ends_trapped x.event) book) none in
+    let both = or_parts (ends_trapped b.event) (list_any (λ (x : BookEntry). ends_trapped x.event) book) none in
     untrapped_from (next_control s b.event) book both.1 (next_untrapped s b.event both.0 all)
 
 columns_untrapped : (fs : List Frame) → AreUntrapped fs → All (λ (c : Column). IsUntrapped c.end) (map column_of_frame fs)
