@@ -27,6 +27,7 @@ loop-access-preserved c =
     let there : AreFronts columns noted (length noted) c.index.result.now =
     subst (AreFronts columns noted (length noted))
     (get_or_default c.extend.new.fronts.items (cell_of access) no_fronts _ w ∙ sym c.index.ensures) here in
-    subst (λ l. AreClear columns l (set c.extend.new.fronts.items (cell_of access) c.in-Some.after)) (sym (take_more accesses s.access-index none c.loop-access-test.true))
+    subst (λ l. AreClear columns l (set c.extend.new.fronts.items (cell_of access) c.in-Some.after))
+    (sym (take_more accesses s.access-index none c.loop-access-test.true))
     (clear_more columns (take s.access-index accesses) s.fronts.items c.extend.new.fronts.items access c.in-Some.after
     s.invariant (c.in-Some.ensures noted there) w c.in_ok-extend.ensures.fronts)
