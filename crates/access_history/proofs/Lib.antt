@@ -2,4 +2,5 @@ pub mod Comparisons
 pub mod FoldedHistories
 pub mod GrownLists
 pub mod NotedAccesses
+pub mod KnownAccesses
 pub mod KnownInstances

@@ -3,6 +3,8 @@ use Rattle.std.specs.Prelude.{◌≡◌, ◌<◌, ℕ, suc, Bool, true, false, O
 use Rattle.access_history.specs.declared.history.History.{History}
 use Rattle.access_history.specs.declared.history.MarkedNode.{MarkedNode}
 use Rattle.access_history.specs.KeptInstances.{AllKept}
+use Rattle.pipe_model.specs.declared.access.AccessKind.{AccessKind}
+use Rattle.pipe_model.specs.declared.access.AccessKind.TheVariants.{Read, Write}
 use Rattle.pipe_model.specs.declared.node.NodeId.{NodeId}
 
 -- y is above x in its column, or in the column to its left at an index of at most the joined one, if that is given
@@ -23,6 +25,11 @@ asks_about joined x (Some y) = not (is_same x y.node) && not (is_known_before jo
 -- an access of x may ask the lists about one of the kept instances
 abbrev pub may_ask : Option ℕ → NodeId → History → Bool
 may_ask joined x h = asks_about joined x h.writer || asks_about joined x h.rightmost || asks_about joined x h.downmost
+
+-- the history after an access of x, if each kept instance is x or known to be before it
+abbrev pub kept_known : History → MarkedNode → AccessKind → History
+kept_known h x Read = record h { rightmost = Some x; downmost = Some x }
+kept_known h x Write = record h { writer = Some x }
 
 -- if y is known to be before x, it is before x in both orders
 abbrev pub AgreeOnKnown : Option ℕ → (NodeId → ℕ) → (NodeId → ℕ) → NodeId → NodeId → Type 0

@@ -3,7 +3,8 @@
 ghost use Rattle.std.specs.Prelude.{◌≡◌, ◌↔◌, ◌++◌, ◌∷◌, [], ℕ, List, IsTrue, IfSome};
 ghost use Rattle.access_history.specs.KeptInstances.{AgreeOn, AgreeOnKept, IsEither, IsHistoryAfter, KeepsAmong, KeptAreIn, earlier_access};
 ghost use Rattle.access_history.specs.KeptInstances.{kept_of, node_of, nothing_kept, report_after};
-ghost use Rattle.access_history.specs.KnownOrder.{AgreeOnKnown, AgreeOnKnownKept, asks_about, is_known_before, is_same, may_ask};
+ghost use Rattle.access_history.specs.KnownOrder.{AgreeOnKnown, AgreeOnKnownKept, asks_about, is_known_before, is_same, kept_known};
+ghost use Rattle.access_history.specs.KnownOrder.{may_ask};
 ghost use Rattle.pipe_model.specs.Orders.AccessHistory.{check_access, is_ordered, later, race_with, updated_history};
 ghost use Rattle.pipe_model.specs.Orders.GrowingLists.{AreIn, KeepsOrder};
 ghost use Rattle.pipe_model.specs.Races.CellRaces.{NotedAccess, noted_access};
@@ -333,6 +334,60 @@ impl History {
             || asks_about(joined, who, &self.downmost)
     }
 
+    // Keeps an access of `who`, which each kept instance is known to precede.
+    fn keep_known(&mut self, who: MarkedNode, kind: AccessKind)
+        ensures { self.new ≡ kept_known self.old who kind }
+    {
+        match kind {
+            AccessKind::Read => {
+                self.rightmost = Some(who);
+                self.downmost = Some(who);
+            }
+            AccessKind::Write => {
+                self.writer = Some(who);
+            }
+        }
+    }
+
+    // Does what `note_joined` does, by questions to the lists where the order is not known.
+    fn note_asking<O: Orders>(
+        &mut self,
+        who: MarkedNode,
+        joined: Option<u32>,
+        kind: AccessKind,
+        orders: &mut O,
+    ) -> Verdict
+        requires kept { KeptAreIn (O.down_first orders.old) (O.right_first orders.old) self.old }
+        requires new { AreIn (O.down_first orders.old) (O.right_first orders.old) who.marks }
+        ensures race { (down right : PlainNodeId → ℕ)
+            → AgreeOnKept (O.down_first orders.old) (O.right_first orders.old) down right who self.old
+            → AgreeOnKnownKept joined down right who.node self.old
+            → earlier_access result ≡ check_access down right (kept_of self.old) who.node kind }
+        ensures kept { (down right : PlainNodeId → ℕ)
+            → AgreeOnKept (O.down_first orders.old) (O.right_first orders.old) down right who self.old
+            → AgreeOnKnownKept joined down right who.node self.old
+            → kept_of self.new ≡ updated_history down right (kept_of self.old) who.node kind }
+        ensures report { self.new.report ≡ report_after self.old.report who.node kind result }
+        ensures each { KeepsAmong self.old who self.new }
+
+        // One step of the fold over the accesses, by any two orders that agree with the lists.
+        ensures step { (down right : PlainNodeId → ℕ)
+            → AgreeOnKept (O.down_first orders.old) (O.right_first orders.old) down right who self.old
+            → AgreeOnKnownKept joined down right who.node self.old
+            → (accesses : List NotedAccess) → IsHistoryAfter down right accesses self.old
+            → IsHistoryAfter down right (accesses ++ noted_access who.node kind ∷ []) self.new }
+
+        ensures in_lists { KeptAreIn (O.down_first orders.new) (O.right_first orders.new) self.new }
+        ensures down { KeepsOrder (O.down_first orders.old) (O.down_first orders.new) }
+        ensures right { KeepsOrder (O.right_first orders.old) (O.right_first orders.new) }
+        ensures unchanged { O.identity orders.new ≡ O.identity orders.old }
+    {
+        let verdict = check(self, &who, joined, kind, orders);
+        self.keep(who, joined, kind, orders);
+        self.report_first(who, kind, verdict);
+        verdict
+    }
+
     /// Does what `note` does, with fewer questions to the lists: none about `who` itself, and a kept
     /// instance above `who` in its column, or in the column to the left at an index of at most `joined`,
     /// if that is given, counts as before `who`. That is right in a run if `joined` is the last index of
@@ -370,10 +425,11 @@ impl History {
         ensures right { KeepsOrder (O.right_first orders.old) (O.right_first orders.new) }
         ensures unchanged { O.identity orders.new ≡ O.identity orders.old }
     {
-        let verdict = check(self, &who, joined, kind, orders);
-        self.keep(who, joined, kind, orders);
-        self.report_first(who, kind, verdict);
-        verdict
+        if self.may_ask(who.node, joined) {
+            return self.note_asking(who, joined, kind, orders);
+        }
+        self.keep_known(who, kind);
+        Verdict::Clean
     }
 
     /// Compares an access with the kept ones, and then keeps it. Returns the first with which it races:
