@@ -107,7 +107,7 @@ impl<'a, B: RunCode> Worker<'a, B> {
         let Some(token) = self.token.take() else {
             return Seen::Refused;
         };
-        let (next, _end) = run_and_advance(alloc, rt, code, input, &mut self.seat, token);
+        let (next, _end, _length) = run_and_advance(alloc, rt, code, input, &mut self.seat, token);
         match next {
             Next::Go(token) => self.hold(token),
             Next::Suspended => Seen::Suspended,

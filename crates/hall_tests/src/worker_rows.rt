@@ -150,7 +150,7 @@ fn push_resumed<J: DrivenHall, R: Wait, M: Runs + Drop, H: Hall<M>>(
     let Begun::Started(token) = hall.begin(rt) else {
         return false;
     };
-    let (next, _end) = run_and_advance(alloc, rt, code, input, hall, token);
+    let (next, _end, _length) = run_and_advance(alloc, rt, code, input, hall, token);
     let Next::Go(token) = next else {
         return false;
     };
