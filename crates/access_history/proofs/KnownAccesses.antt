@@ -1,10 +1,14 @@
 -- An access by an instance that each kept one is, or is known to precede: it races with none, and is kept in place of the readers.
-use Rattle.std.proofs.Common.{◌≡◌, ◌∙◌, ◌<◌, ℕ, ap, ap₂, subst, sym, refl, Option, Some, None, IfSome, Bool, true, false, cond}
+use Rattle.std.proofs.Common.{◌≡◌, ◌∙◌, ◌<◌, ◌++◌, ◌∷◌, [], ℕ, List, ap, ap₂, subst, sym, refl}
+use Rattle.std.proofs.Common.{Option, Some, None, IfSome, Bool, true, false, cond}
 use Rattle.std.proofs.Common.{eqb, ltb, not, ◌&&◌, ◌||◌}
 use Rattle.std.proofs.lemmas.Bool.{and_parts, eq-eqb, eqb-true, lt-ltb, or_parts}
+use Rattle.access_history.proofs.FoldedHistories.{history_pushed}
+use Rattle.access_history.specs.declared.history.Found.{Found}
 use Rattle.access_history.specs.declared.history.History.{History}
 use Rattle.access_history.specs.declared.history.MarkedNode.{MarkedNode}
-use Rattle.access_history.specs.KeptInstances.{kept_of, node_of}
+use Rattle.access_history.specs.declared.history.Verdict.TheVariants.{Clean}
+use Rattle.access_history.specs.KeptInstances.{IsHistoryAfter, kept_of, node_of, report_after}
 use Rattle.access_history.specs.KnownOrder.{AgreeOnKnown, AgreeOnKnownKept, asks_about, is_known_before, is_same, kept_known, may_ask}
 use Rattle.pipe_model.specs.declared.access.AccessKind.{AccessKind}
 use Rattle.pipe_model.specs.declared.access.AccessKind.TheVariants.{Read, Write}
@@ -104,3 +108,15 @@ known_kept joined down right x h Write asks agree = refl
 pub known_report : (x : MarkedNode) (h : History) (kind : AccessKind) → (kept_known h x kind).report ≡ h.report
 known_report x h Read = refl
 known_report x h Write = refl
+
+unreported : (report : Option Found) (x : NodeId) (kind : AccessKind) → report ≡ report_after report x kind Clean
+unreported None x kind = refl
+unreported (Some found) x kind = refl
+
+-- the history after one access more
+pub known_step : (joined : Option ℕ) (down right : NodeId → ℕ) (x : MarkedNode) (h : History) (kind : AccessKind)
+    → may_ask joined x.node h ≡ false → AgreeOnKnownKept joined down right x.node h → (accesses : List NotedAccess)
+    → IsHistoryAfter down right accesses h → IsHistoryAfter down right (accesses ++ noted_access x.node kind ∷ []) (kept_known h x kind)
+known_step joined down right x h kind asks agree accesses before =
+    history_pushed down right accesses h (kept_known h x kind) x.node kind Clean (known_clean joined down right x.node h kind asks agree)
+    (known_kept joined down right x h kind asks agree) (known_report x h kind ∙ unreported h.report x.node kind) before

@@ -1,6 +1,6 @@
 //! The history of a cell.
 
-ghost use Rattle.std.specs.Prelude.{◌≡◌, ◌↔◌, ◌++◌, ◌∷◌, [], ℕ, List, IsTrue, IfSome};
+ghost use Rattle.std.specs.Prelude.{◌≡◌, ◌↔◌, ◌++◌, ◌∷◌, [], ℕ, List, IsTrue, IfSome, false};
 ghost use Rattle.access_history.specs.KeptInstances.{AgreeOn, AgreeOnKept, IsEither, IsHistoryAfter, KeepsAmong, KeptAreIn, earlier_access};
 ghost use Rattle.access_history.specs.KeptInstances.{kept_of, node_of, nothing_kept, report_after};
 ghost use Rattle.access_history.specs.KnownOrder.{AgreeOnKnown, AgreeOnKnownKept, asks_about, is_known_before, is_same, kept_known};
@@ -334,10 +334,17 @@ impl History {
             || asks_about(joined, who, &self.downmost)
     }
 
-    // Keeps an access of `who`, which each kept instance is known to precede.
-    fn keep_known(&mut self, who: MarkedNode, kind: AccessKind)
-        ensures { self.new ≡ kept_known self.old who kind }
+    /// Does what `note_joined` does where it asks nothing (`may_ask`): each kept instance is `who` or
+    /// counts as before it, so the access races with none. Does not allocate.
+    pub fn note_known(&mut self, who: MarkedNode, joined: Option<u32>, kind: AccessKind)
+        requires known { may_ask joined who.node self.old ≡ false }
+        ensures history { self.new ≡ kept_known self.old who kind }
+        ensures each { KeepsAmong self.old who self.new }
+        ensures step { (down right : PlainNodeId → ℕ) → AgreeOnKnownKept joined down right who.node self.old
+            → (accesses : List NotedAccess) → IsHistoryAfter down right accesses self.old
+            → IsHistoryAfter down right (accesses ++ noted_access who.node kind ∷ []) self.new }
     {
+        let _ = joined;
         match kind {
             AccessKind::Read => {
                 self.rightmost = Some(who);
@@ -428,7 +435,7 @@ impl History {
         if self.may_ask(who.node, joined) {
             return self.note_asking(who, joined, kind, orders);
         }
-        self.keep_known(who, kind);
+        self.note_known(who, joined, kind);
         Verdict::Clean
     }
 

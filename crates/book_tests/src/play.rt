@@ -15,7 +15,8 @@ use om_list::om_list::OmList;
 use order_2d::two_orders::TwoOrders;
 use pipe_frame::results::{Begun, Named, Next, Rescue};
 use pipe_frame::token::FrameToken;
-use pipe_model::list::{ListOf, Numbers};
+use pipe_frame::trace::Trace;
+use pipe_model::list::Numbers;
 use pipe_model::memory::NoMemory;
 use pipe_model::stage::StageEnd;
 use pipe_model::ticket::BookLog;
@@ -61,7 +62,6 @@ pub enum Seen {
 /// A book and its tokens, by iteration.
 #[derive(Drop)]
 pub struct Play {
-    alloc: Global,
     book: Book<Plan, OmList>,
     tokens: Vec<Option<FrameToken<Plan>>>,
     /// The ticket of the last event.
@@ -148,7 +148,6 @@ impl Play {
         let tokens = places(alloc, source.iterations + 1)?;
         let book = new_book(alloc, source, throttle)?;
         Ok(Play {
-            alloc,
             book,
             tokens,
             ticket: 0,
@@ -233,7 +232,7 @@ impl Play {
         if !token.payload.ends_by(end, self.book.is_stopped()) {
             return Seen::Refused;
         }
-        let next = self.book.advance(token, end, ListOf::new(self.alloc));
+        let next = self.book.advance(token, end, Trace::new());
         self.ticket = last_ticket(&self.book);
         match next {
             Next::Go(token) => self.hold(token),
@@ -253,7 +252,7 @@ impl Play {
         if !token.payload.ends_by(end, self.book.is_stopped()) {
             return Seen::Refused;
         }
-        let named = self.book.name_next(token, end, ListOf::new(self.alloc));
+        let named = self.book.name_next(token, end, Trace::new());
         self.ticket = last_ticket(&self.book);
         match named {
             Named::Waits => Seen::Waits,

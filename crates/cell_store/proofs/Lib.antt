@@ -1,3 +1,4 @@
 pub mod DeclaredCells
 pub mod WrittenCells
+pub mod CopiedCells
 pub mod FreshShards

@@ -24,7 +24,7 @@ wrote_nothing Read same v h = refl
 wrote_nothing Write true v h = absurd (let e : Write ≡ Read = h refl in cc (e))
 wrote_nothing Write false v h = refl
 
-equal_cells : (c d : ℕ) → (c == d) ≡ true → c ≡ d
+pub equal_cells : (c d : ℕ) → (c == d) ≡ true → c ≡ d
 equal_cells c d h = grind (arith, nat_tests)
 
 -- cell c is not written by the access
@@ -62,7 +62,7 @@ stored_value store before state c x was there own complete e =
     ∙ was.values c there own
 
 -- two cells of a shard with one index are the same
-same_slot : (c d n : ℕ) → c % n ≡ d % n → c / n ≡ d / n → c ≡ d
+pub same_slot : (c d n : ℕ) → c % n ≡ d % n → c / n ≡ d / n → c ≡ d
 same_slot c d n h e = sym (div-add-mod c n) ∙ ap (λ q. n * q + c % n) e ∙ ap (λ r. n * (d / n) + r) h ∙ div-add-mod d n
 
 -- the last of a list with one element more

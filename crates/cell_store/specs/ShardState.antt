@@ -1,7 +1,7 @@
 -- The part of a store that one of several shards keeps: cell c is in the shard of number c % shards.
 use Rattle.std.specs.Prelude.{◌≡◌, ◌≢◌, ◌<◌, ◌%◌, ◌/◌, ℕ, ℤ, pos, List, length, slice_index_or}
 use Rattle.pipe_model.specs.declared.access.Access.{Access}
-use Rattle.pipe_model.specs.Pipelines.Store.{InitialStore, output_of, value_after}
+use Rattle.pipe_model.specs.Pipelines.Store.{InitialStore, output_of, value_after, written}
 
 -- a shard of a program: its number, the number of shards, the number of cells in all shards, and how many numbers the program may emit
 pub record Shard : Type 0 where
@@ -38,3 +38,7 @@ pub record IsStateAfter (store : InitialStore) (accesses : List Access) (state :
   pub limit : state.shard.output_limit ≡ store.output_limit
   pub values : (c : ℕ) → c < state.shard.cells → IsOfShard state.shard c → value_in state c ≡ value_after store accesses c
   pub output : HasOutput state.shard → state.output ≡ output_of store accesses
+
+-- `after` writes to cell c what `here` writes to it, and to each other cell what `before` writes
+abbrev pub IsWrittenAs : ℕ → List Access → List Access → List Access → Type 0
+IsWrittenAs c here before after = (written c after ≡ written c here) × ((d : ℕ) → d ≢ c → written d after ≡ written d before)

@@ -1,7 +1,7 @@
 //! The cells of a shard.
 
 ghost use Rattle.std.specs.Prelude.{◌≡◌, ◌<◌, ◌≤◌, ◌+◌, ◌++◌, ◌∷◌, [], IfOk, List, length, take, vec_capacity};
-ghost use Rattle.cell_store.specs.ShardState.{HasNoOutput, HasOutput, IsOfShard, IsStateAfter};
+ghost use Rattle.cell_store.specs.ShardState.{HasNoOutput, HasOutput, IsOfShard, IsStateAfter, IsWrittenAs};
 ghost use Rattle.pipe_model.specs.Language.CheckingRules.{cell_total, fault_of};
 ghost use Rattle.pipe_model.specs.Language.Programs.{natural, store_of};
 ghost use Rattle.pipe_model.specs.Language.SpellablePrograms.{IsSpellable};
@@ -73,6 +73,18 @@ fn push_within(limit: u32, value: i64, output: &mut Vec<i64>)
     }
 }
 
+// Copies a list of numbers into another one, which has room for it.
+fn copy_numbers(from: &[i64], output: &mut Vec<i64>)
+    requires room { length from.now ≤ vec_capacity output.old }
+    ensures output { output.new.items ≡ from.now }
+    ensures capacity { vec_capacity output.new ≡ vec_capacity output.old }
+{
+    output.clear();
+    for value in from {
+        output.push_reserved(*value);
+    }
+}
+
 impl Cells {
     /// Returns the cells of shard `shard` of `shards`, with their declared values. The shard of the
     /// output reserves memory for as many numbers as the program may emit; no other call allocates.
@@ -132,6 +144,24 @@ impl Cells {
         }
         push_within(self.output_limit, value, &mut self.output);
         self.values[slot] = self.output.len() as i64;
+    }
+
+    /// Takes the value of a cell from other cells of the same program, and the emitted numbers with that
+    /// of the output. If `other` is the state after the accesses `here`, this is then the state after any
+    /// accesses that write to the cell what `here` writes, and to each other cell what was written before.
+    pub fn copy_from(&mut self, other: &Cells, cell: CellId)
+        requires there { cell.0 < self.old.shard.cells }
+        requires own { IsOfShard self.old.shard cell.0 }
+        requires other { IsOfShard other.now.shard cell.0 }
+        requires program { (other.now.shard.cells ≡ self.old.shard.cells) × (other.now.shard.output_limit ≡ self.old.shard.output_limit) }
+        ensures state { (store : InitialStore) (before here after : List Accessed) → IsStateAfter store before self.old
+            → IsStateAfter store here other.now → IsWrittenAs cell.0 here before after → IsStateAfter store after self.new }
+        ensures shard { self.new.shard ≡ self.old.shard }
+    {
+        self.values[slot_of(cell, self.shards)] = other.values[slot_of(cell, other.shards)];
+        if cell == OUTPUT {
+            copy_numbers(other.output.as_slice(), &mut self.output);
+        }
     }
 
     /// Returns the emitted numbers, up to the limit. A shard without the output has none.

@@ -1,5 +1,5 @@
 -- The command of words that the command line accepts, and of words that it refuses.
-use Rattle.std.proofs.Common.{◌≡◌, ◌∙◌, ◌⊎◌, ap, subst, sym, refl, inl, inr, ℕ, List, [], ◌∷◌, length, Bool, true, false, Option, None}
+use Rattle.std.proofs.Common.{◌≡◌, ◌∙◌, ◌⊎◌, ap, subst, refl, inl, inr, List, [], ◌∷◌, length, Bool, true, false, Option, None}
 use Rattle.std.proofs.Common.{option_and_then, if◌then◌else◌}
 use Rattle.std.proofs.Common.{arith}
 use Rattle.std.proofs.lemmas.Bool.Decides.{nat_tests}

@@ -4,7 +4,6 @@
 
 pub mod course;
 pub mod folding;
-pub mod past;
 pub mod places;
 pub mod row;
 pub mod rows;

@@ -5,13 +5,13 @@ ghost use Rattle.std.specs.Prelude.{slice_index_or, pos};
 ghost use Rattle.pipe_model.specs.Runs.State.{is_completed};
 ghost use Rattle.frame_rows.specs.IterationRows.{RowEndedFirst, empty_row, row_counter, suspended_row, with_instance, with_trace};
 
-use crate::past::Past;
+use pipe_frame::past::Past;
 use pipe_frame::token::FrameToken;
+use pipe_frame::trace::Trace;
 use pipe_model::marks::Marks;
 use pipe_model::node::Kind;
 use pipe_model::stage::Counter;
 use pipe_model::status::Status;
-use pipe_model::ticket::Trace;
 use std::marker::Model;
 
 /// The row of an iteration, with room for a number of instances. The numbers and marks of its instances

@@ -1,6 +1,7 @@
 //! Accesses of running instances, by their seats.
 
-ghost use Rattle.std.specs.Prelude.{◌≡◌, ◌<◌, ◌+◌, ◌%◌, ◌∷◌, [], length, Option, Some, None, true, IfSome};
+ghost use Rattle.std.specs.Prelude.{◌≡◌, ◌<◌, ◌+◌, ◌%◌, ◌/◌, ◌∷◌, [], length, Option, Some, None, true, false, IfSome};
+ghost use Rattle.access_history.specs.KnownOrder.{may_ask};
 ghost use Rattle.pipe_model.specs.Language.Programs.{store_of};
 ghost use Rattle.pipe_frame.specs.Ties.{AreElementsOf, AreSeenLists};
 ghost use Rattle.pipe_frame.specs.TokenCounts.{Exchanges};
@@ -13,6 +14,7 @@ ghost use Rattle.hall_table.specs.HallRule.{place, view_of};
 ghost use Rattle.pipe_frame.specs.SeatedTokens.{IsSeated, seated_entries, seated_replies};
 ghost use Rattle.hall_table.specs.WorkerSeats.{IsIdle, StaysIdle, hall_of, name_of};
 ghost use Rattle.hall_shards.specs.Accesses.{IsAsked};
+ghost use Rattle.hall_shards.specs.ShardValues.{history_at};
 ghost use Rattle.hall_table.specs.SeatAccesses.{RunsAs, TraceAfter, now_after, ran, tie_after};
 ghost use Rattle.hall_table.specs.SeatViews.{HallConstants, TheShard};
 ghost use Rattle.hall_table.specs.Steps.{ShardSnapshot, holding};
@@ -32,14 +34,15 @@ use heap_value::kept::Kept;
 use order_2d::two_passes::TwoPasses;
 use pipe_frame::results::Reply;
 use pipe_frame::token::FrameToken;
+use pipe_frame::trace::Trace;
 use pipe_model::access::{Access, AccessKind, CellId};
 use pipe_model::node::NodeId;
-use pipe_model::ticket::{Entry, Trace};
+use pipe_model::ticket::Entry;
 use std::sync::Wait;
 
-// Takes the shard of a cell, for an access of the instance of a seat. If that access may have to ask
-// the order lists before they have labels, the shard is given back, they get their labels, and it is
-// taken again.
+// Takes the shard of a cell, for an access of the instance of a seat. Returns it, and whether that access
+// may have to ask the order lists. If it may, and they have no labels yet, the shard is given back, they
+// get their labels, and it is taken again.
 fn take_shard_of<R: Wait, M: Carrier>(
     rt: &R,
     hall: &Locks<M>,
@@ -47,26 +50,28 @@ fn take_shard_of<R: Wait, M: Carrier>(
     who: NodeId,
     joined: u32,
     cell: CellId,
-) -> Kept<Shard>
+) -> (Kept<Shard>, bool)
     requires own { run.old.table_id ≡ hall.now.table.shared.table_id }
     requires runs { (f : TokenFields) × RunsAs run.old.me f }
     requires cell { cell.0 < length (store_of (hall_of run.old.table_id run.old.me).tree).values }
     ensures own { (run.new.table_id ≡ run.old.table_id) × (run.new.id ≡ run.old.id) }
     ensures taken { run.new.me ≡ (
-      view_of (holding run.old.me.0.it (1 + cell.0 % 16) (TheShard result)),
+      view_of (holding run.old.me.0.it (1 + cell.0 % 16) (TheShard result.0)),
       (place (1 + cell.0 % 16), Slot.Out) ∷ run.old.me.1,
     ) }
-    ensures snapshot { ShardSnapshot run.old.me.0.it (1 + cell.0 % 16) result }
+    ensures snapshot { ShardSnapshot run.old.me.0.it (1 + cell.0 % 16) result.0 }
+    ensures asks { result.1 ≡ false → may_ask (Some joined) who (history_at result.0.histories (cell.0 / 16)) ≡ false }
 {
     let number = cell.0 % SHARDS;
     let mut shard = hall.take_shard(rt, run, number);
     let lent = shard.get_mut();
-    if !lent.lacks_labels(who, joined, cell) {
-        return shard;
+    let asks = lent.may_ask(who, joined, cell);
+    if !asks || lent.has_labels() {
+        return (shard, asks);
     }
     hall.return_shard(run, number, shard);
     settle_beside(rt, hall, run);
-    hall.take_shard(rt, run, number)
+    (hall.take_shard(rt, run, number), true)
 }
 
 // Makes an access in the shard of its cell, for the instance of a seat, unless memory runs out.
@@ -95,9 +100,9 @@ fn access_by<R: Wait, M: Carrier>(
     ensures passes { passes.new ≡ passes.old }
 {
     let number = cell.0 % SHARDS;
-    let mut shard = take_shard_of(rt, hall, run, who.node, joined, cell);
+    let (mut shard, asks) = take_shard_of(rt, hall, run, who.node, joined, cell);
     let lent = shard.get_mut();
-    let done = lent.access(rt, who, joined, now, cell, write, passes, trace);
+    let done = lent.access(rt, who, joined, now, cell, write, asks, passes, trace);
     hall.return_shard(run, number, shard);
     done
 }

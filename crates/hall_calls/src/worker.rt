@@ -35,8 +35,8 @@ use heap_value::kept::Kept;
 use om_shared::writer::OmWriter;
 use pipe_frame::results::{Begun, Next, Rescue};
 use pipe_frame::token::FrameToken;
+use pipe_frame::trace::Trace;
 use pipe_model::stage::StageEnd;
-use pipe_model::ticket::Trace;
 use std::sync::Wait;
 
 // Takes the book, for a worker.

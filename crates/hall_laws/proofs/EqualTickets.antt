@@ -1,5 +1,5 @@
 -- Entries with one ticket are of different logs and of different instances.
-use Rattle.std.proofs.Common.{◌≡◌, ◌∙◌, refl, sym, ap, subst, ℕ, ◌<◌, ◌%◌, List, [], ◌∷◌, ◌++◌, length, Option, Some, None, arith, inl, inr}
+use Rattle.std.proofs.Common.{◌≡◌, ◌∙◌, refl, sym, ap, subst, ℕ, ◌<◌, ◌%◌, List, ◌∷◌, ◌++◌, length, Option, Some, None, arith, inl, inr}
 use Rattle.pipe_model.specs.declared.access.Access.{Access as Cell_access}
 use Rattle.pipe_model.specs.declared.node.NodeId.{NodeId}
 use Rattle.pipe_model.specs.declared.ticket.BookEntry.{BookEntry}

@@ -1,7 +1,5 @@
 -- Accesses in the cells of a shard.
-use Rattle.std.proofs.Common.{◌≡◌, ℕ, IfSome, List, [], ◌∷◌, length, sym, ap, ◌↔◌, subst, arith, Option, Some, None, true, false}
-use Rattle.std.proofs.Common.{Result, Ok, Err, OnOk}
-use Rattle.std.specs.Result.{is_err}
+use Rattle.std.proofs.Common.{◌≡◌, ℕ, IfSome, List, [], ◌∷◌, length, sym, ap, ◌↔◌, subst, arith, Option, Some, None}
 use Rattle.std.proofs.lemmas.List.{length-append}
 use Rattle.pipe_model.specs.declared.access.Access.{Access}
 use Rattle.pipe_model.specs.declared.access.AccessKind.{AccessKind}
@@ -70,11 +68,6 @@ pub kept_grow : (old new : SeenLists) (h : History) → GrowLists old new → Ke
 kept_grow old new h g k = all_kept (λ w. AreIn (down_list old) (right_list old) w.marks)
     (λ w. AreIn (down_list new) (right_list new) w.marks) h
     (λ w a. record { down = g.down.elements w.marks.down_first a.down; right = g.right.elements w.marks.right_first a.right }) k
-
--- what holds after a push if it returns no error
-pub not_err : {A E : Type 0} (P : Type 0) (r : Result A E) → OnOk r P → is_err r ≡ false → P
-not_err P (Ok x) p e = p
-not_err P (Err x) p e = absurd (let z : true ≡ false = e in cc)
 
 -- passes with these identities are of these lists
 pub are_of : (p : SeenLists) (d r : List ℕ) → p.down ≡ d → p.right ≡ r → AreOfLists p d r

@@ -1,6 +1,6 @@
 //! Shards of the cells.
 
-ghost use Rattle.std.specs.Prelude.{◌≡◌, ◌++◌, ◌∷◌, [], ◌+◌, ◌≤◌, ◌<◌, ◌^◌, List, length, max, IfSome, IfNone};
+ghost use Rattle.std.specs.Prelude.{◌≡◌, ◌++◌, ◌∷◌, [], ◌+◌, ◌≤◌, ◌<◌, ◌^◌, ◌/◌, List, length, max, IfSome, IfNone, Some, false};
 ghost use Rattle.hall_shards.specs.Accesses.{CanBegin, IsAsked, IsMadeNow, IsNoted, IsNotedStep};
 ghost use Rattle.hall_shards.specs.Learning.{HasLearned};
 ghost use Rattle.cell_store.specs.ShardState.{IsOfShard, IsStateAfter};
@@ -9,24 +9,27 @@ ghost use Rattle.pipe_model.specs.declared.access.Access.{Access as PlainAccess}
 ghost use Rattle.pipe_frame.specs.Ties.{AreElementsOf};
 ghost use Rattle.hall_shards.specs.ShardValues.{down_list, right_list, history_at};
 ghost use Rattle.access_history.specs.KeptInstances.{KeepsAmong, KeptAreIn};
+ghost use Rattle.access_history.specs.KnownOrder.{may_ask};
 ghost use Rattle.pipe_model.specs.Orders.GrowingLists.{AreIn, KeepsOrder};
 
 use access_history::history::{History, MarkedNode};
 use cell_store::cells::Cells;
 use cell_store::law::other_accesses_change_nothing;
+use cell_store::shard::HALL_SHARDS;
 use frame_book::book::Book;
 use frame_book::payload::Payload;
 use om_shared::writer::OmWriter;
 use order_2d::two_passes::{Asking, TwoPasses};
+use pipe_frame::trace::Trace;
 use pipe_model::access::{Access, AccessKind, CellId};
 use pipe_model::list::ListOf;
 use pipe_model::node::NodeId;
-use pipe_model::ticket::{Entry, ShardEntry, ShardLog, Trace};
+use pipe_model::ticket::{Entry, ShardEntry, ShardLog};
 use std::marker::Model;
 use std::sync::Wait;
 
 /// How many shards a hall has. Cell `c` is in shard `c % 16`.
-pub const SHARDS: u32 = 16;
+pub const SHARDS: u32 = HALL_SHARDS;
 
 // The greatest ticket of an access.
 const LAST_TICKET: u64 = 4611686018427387904;
@@ -103,8 +106,8 @@ fn apply(cells: &mut Cells, access: Access)
     }
 }
 
-// Notes an access in a history. Of kept instances above `who`, and of those of the left column at an
-// index of at most `joined`, the lists are not asked.
+// Notes an access in a history. The lists are not asked about kept instances above `who`, nor about those
+// of the left column at an index of at most `joined`; without `asks`, they are asked nothing.
 fn note_at<R: Wait>(
     rt: &R,
     history: &mut History,
@@ -112,16 +115,22 @@ fn note_at<R: Wait>(
     who: MarkedNode,
     joined: u32,
     kind: AccessKind,
+    asks: bool,
 )
     requires kept { KeptAreIn (down_list passes.old) (right_list passes.old) history.old }
     requires new { AreIn (down_list passes.old) (right_list passes.old) who.marks }
+    requires asks { asks ≡ false → may_ask (Some joined) who.node history.old ≡ false }
     ensures down { KeepsOrder (down_list passes.old) (down_list passes.new) }
     ensures right { KeepsOrder (right_list passes.old) (right_list passes.new) }
     ensures each { KeepsAmong history.old who history.new }
     ensures step { IsNotedStep who joined kind passes.old history.old history.new }
     ensures identities { (passes.new.down ≡ passes.old.down) × (passes.new.right ≡ passes.old.right) }
 {
-    history.note_joined(who, Some(joined), kind, &mut Asking { rt, passes });
+    if asks {
+        history.note_joined(who, Some(joined), kind, &mut Asking { rt, passes });
+    } else {
+        history.note_known(who, Some(joined), kind);
+    }
 }
 
 // Notes an access in the history of its cell.
@@ -133,25 +142,34 @@ fn note_in<R: Wait>(
     who: MarkedNode,
     joined: u32,
     kind: AccessKind,
+    asks: bool,
 )
     requires there { slot < length histories.old.items }
     requires kept { KeptAreIn (down_list passes.old) (right_list passes.old) (history_at histories.old.items slot) }
     requires new { AreIn (down_list passes.old) (right_list passes.old) who.marks }
+    requires asks { asks ≡ false → may_ask (Some joined) who.node (history_at histories.old.items slot) ≡ false }
     ensures noted { IsNoted who joined kind slot passes.old passes.new histories.old.items histories.new.items }
 {
-    note_at(rt, &mut histories[slot], passes, who, joined, kind);
+    note_at(rt, &mut histories[slot], passes, who, joined, kind, asks);
 }
 
 impl Shard {
-    /// Returns whether an access to a cell may have to ask the order lists, which have no labels yet.
-    pub fn lacks_labels(&self, who: NodeId, joined: u32, cell: CellId) -> bool
+    /// Returns whether an access to a cell may have to ask the order lists.
+    pub fn may_ask(&self, who: NodeId, joined: u32, cell: CellId) -> bool
         requires ready { CanBegin self.now cell.0 }
+        ensures { result ≡ may_ask (Some joined) who (history_at self.now.histories (cell.0 / 16)) }
     {
         let slot = (cell.0 / SHARDS) as usize;
-        !self.passes.are_settled() && self.histories[slot].may_ask(who, Some(joined))
+        self.histories[slot].may_ask(who, Some(joined))
+    }
+
+    /// Returns whether the order lists had labels a moment ago. Questions wait until they have.
+    pub fn has_labels(&self) -> bool {
+        self.passes.are_settled()
     }
 
     /// Makes an access, unless memory runs out or the ticket would be above 2^62; then nothing is done.
+    /// `asks` may be false only if `may_ask` is.
     pub fn access<R: Wait>(
         &mut self,
         rt: &R,
@@ -160,12 +178,14 @@ impl Shard {
         now: u64,
         cell: CellId,
         write: Option<i64>,
+        asks: bool,
         passes: &mut TwoPasses,
         trace: &mut Trace,
     ) -> Option<Entry>
         requires ready { CanBegin self.old cell.0 }
         requires lists { (self.old.lists.down ≡ passes.old.down) × (self.old.lists.right ≡ passes.old.right) }
         requires known { AreElementsOf passes.old.down_log passes.old.right_log who.marks }
+        requires asks { asks ≡ false → may_ask (Some joined) who.node (history_at self.old.histories (cell.0 / 16)) ≡ false }
         ensures none { IfNone result ((self.new ≡ self.old) × (trace.new ≡ trace.old)) }
         ensures made { IfSome result (IsMadeNow who joined now cell.0 write self.old self.new trace.old trace.new) }
         ensures passes { passes.new ≡ passes.old }
@@ -180,9 +200,6 @@ impl Shard {
         let access = asked(&self.cells, cell, write);
         let ticket = most + 1;
         let entry = Entry { ticket, access };
-        if trace.push(entry).is_err() {
-            return None;
-        }
         self.passes.meet(passes);
         apply(&mut self.cells, access);
         note_in(
@@ -193,6 +210,7 @@ impl Shard {
             who,
             joined,
             access.kind,
+            asks,
         );
         self.log.push_reserved(ShardEntry {
             ticket,
@@ -200,6 +218,7 @@ impl Shard {
             access,
         });
         self.last = ticket;
+        trace.note(&entry);
         Some(entry)
     }
 

@@ -1,5 +1,5 @@
 -- Accesses by the seats of running instances.
-use Rattle.std.specs.Prelude.{◌≡◌, ℕ, ℤ, List, [], ◌∷◌, ◌++◌, Option, Some, None, ◌+◌, ◌%◌, ◌^◌, ◌<◌, ◌≤◌}
+use Rattle.std.specs.Prelude.{◌≡◌, ℕ, ℤ, List, [], ◌∷◌, ◌++◌, Option, Some, None, ◌%◌, ◌^◌, ◌<◌, ◌≤◌}
 use Rattle.atomic_table.specs.Table.{Me}
 use Rattle.pipe_model.specs.declared.ticket.Entry.{Entry}
 use Rattle.pipe_frame.specs.Ties.{InstanceSeat, Tie}

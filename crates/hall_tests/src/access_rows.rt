@@ -14,9 +14,9 @@ use crate::sources::{PREFIX_SUMS, Prepared, prepare};
 use pipe_frame::hall::Hall;
 use pipe_frame::results::{Begun, Reply};
 use pipe_frame::token::FrameToken;
+use pipe_frame::trace::Trace;
 use pipe_hall::seat::HallSeat;
 use pipe_model::access::{Access, AccessKind, Accesses, CellId};
-use pipe_model::ticket::Trace;
 use program_hall::carried::{Carried, RunCode};
 use std::alloc::Global;
 use std::marker::Brand;
@@ -107,7 +107,6 @@ fn has_reply<'a, R: Wait, B: RunCode>(
 // is none.
 fn have_replies<'a, R: Wait, B: RunCode>(
     rt: &R,
-    alloc: Global,
     cells: u32,
     seat: &mut HallSeat<'a, Carried<B>>,
     token: &mut FrameToken<Carried<B>>,
@@ -117,7 +116,7 @@ fn have_replies<'a, R: Wait, B: RunCode>(
     requires given { IsGivenIn B.code (hall_name seat.old.hall) token.old }
     ensures hall { hall_name seat.new.hall ≡ hall_name seat.old.hall }
 {
-    let mut trace = Trace::new(alloc);
+    let mut trace = Trace::new();
     for one in asked {
         if !has_reply(rt, cells, seat, token, &mut trace, *one) {
             return false;
@@ -129,7 +128,6 @@ fn have_replies<'a, R: Wait, B: RunCode>(
 // Begins iteration 0, and makes the accesses for it.
 fn begins_with<'a, R: Wait, B: RunCode>(
     rt: &R,
-    alloc: Global,
     cells: u32,
     seat: &mut HallSeat<'a, Carried<B>>,
     asked: &[Asked],
@@ -141,7 +139,7 @@ fn begins_with<'a, R: Wait, B: RunCode>(
         return false;
     };
     let mut token = token;
-    let have_replies = have_replies(rt, alloc, cells, seat, &mut token, asked);
+    let have_replies = have_replies(rt, cells, seat, &mut token, asked);
     drop(token);
     have_replies
 }
@@ -164,7 +162,7 @@ fn first_accesses<R: Wait, B: RunCode>(
         return false;
     };
     let mut seat = HallSeat::new(&hall, key);
-    let have_replies = begins_with(rt, alloc, cells, &mut seat, asked);
+    let have_replies = begins_with(rt, cells, &mut seat, asked);
     let key = seat.into_key();
     let have_tickets = close_with_tickets(rt, alloc, hall, key, tickets);
     have_replies && have_tickets

@@ -53,7 +53,6 @@ struct Played {
 
 // Makes a call of one of two workers of a hall.
 fn make<'a, R: Wait, B: RunCode>(
-    alloc: Global,
     rt: &R,
     code: &Code,
     input: &Numbers,
@@ -69,14 +68,13 @@ fn make<'a, R: Wait, B: RunCode>(
     ensures second { IsWorkerOf B.code (hall_name first.old.seat.hall) second.new.seat second.new.token }
 {
     match caller {
-        Caller::First => first.make(alloc, rt, code, input, call),
-        Caller::Second => second.make(alloc, rt, code, input, call),
+        Caller::First => first.make(rt, code, input, call),
+        Caller::Second => second.make(rt, code, input, call),
     }
 }
 
 // Makes the calls up to the first row whose result is another one, which is returned with that result.
 fn play_rows<'a, R: Wait, B: RunCode>(
-    alloc: Global,
     rt: &R,
     code: &Code,
     input: &Numbers,
@@ -91,7 +89,7 @@ fn play_rows<'a, R: Wait, B: RunCode>(
     ensures second { IsWorkerOf B.code (hall_name first.old.seat.hall) second.new.seat second.new.token }
 {
     for (index, (caller, call, seen)) in rows.iter().enumerate() {
-        let got = make(alloc, rt, code, input, first, second, *caller, *call);
+        let got = make(rt, code, input, first, second, *caller, *call);
         if got != *seen {
             return Some((index, got));
         }
@@ -103,7 +101,6 @@ fn play_rows<'a, R: Wait, B: RunCode>(
 // and the seats of the workers, joined.
 fn play_at<'a, R: Wait, B: RunCode>(
     rt: &R,
-    alloc: Global,
     code: &Code,
     input: &Numbers,
     seat: HallSeat<'a, Carried<B>>,
@@ -118,7 +115,7 @@ fn play_at<'a, R: Wait, B: RunCode>(
         token: None,
     };
     let mut first = Worker { seat, token: None };
-    let other = play_rows(alloc, rt, code, input, &mut first, &mut second, rows);
+    let other = play_rows(rt, code, input, &mut first, &mut second, rows);
     let mut seat = first.into_seat();
     seat.join(second.into_seat().into_key());
     (other, seat.into_key())
@@ -160,7 +157,7 @@ fn play<R: Wait, B: RunCode>(
         return None;
     };
     let seat = HallSeat::new(&hall, key);
-    let (other, key) = play_at(rt, alloc, &prepared.code, &prepared.input, seat, rows);
+    let (other, key) = play_at(rt, &prepared.code, &prepared.input, seat, rows);
     close_played(rt, alloc, hall, key, other)
 }
 

@@ -6,9 +6,9 @@ use pipe_frame::hall::Hall;
 use pipe_frame::results::{Begun, Next, Reply, Rescue};
 use pipe_frame::stands::Stands;
 use pipe_frame::token::FrameToken;
+use pipe_frame::trace::Trace;
 use pipe_model::access::CellId;
 use pipe_model::stage::StageEnd;
-use pipe_model::ticket::Trace;
 use std::sync::Wait;
 
 /// How often each call of a hall was made.

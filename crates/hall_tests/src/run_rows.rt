@@ -104,7 +104,6 @@ impl Run {
 // Runs instances on the threads of a run until it is finished or stopped.
 fn work_on<R: Threads + Wait + Sync, B: RunCode + Send>(
     rt: &R,
-    alloc: Global,
     prepared: &Prepared,
     run: Run,
     seat: HallSeat<'_, Carried<B>>,
@@ -113,8 +112,8 @@ fn work_on<R: Threads + Wait + Sync, B: RunCode + Send>(
     ensures hall { hall_name result.hall ≡ hall_name seat.entry.hall }
 {
     let seat = match run {
-        Run::Racing => work_on_two(alloc, rt, &prepared.code, &prepared.input, seat),
-        Run::ManyCells => work_on_four(alloc, rt, &prepared.code, &prepared.input, seat),
+        Run::Racing => work_on_two(rt, &prepared.code, &prepared.input, seat),
+        Run::ManyCells => work_on_four(rt, &prepared.code, &prepared.input, seat),
     };
     seat.into_key()
 }
@@ -167,7 +166,7 @@ fn is_right<R: Threads + Wait + Sync, B: RunCode + Send>(
     let Ok((hall, key)) = open_new::<B>(alloc, prepared, run.throttle()) else {
         return false;
     };
-    let key = work_on(rt, alloc, prepared, run, HallSeat::new(&hall, key));
+    let key = work_on(rt, prepared, run, HallSeat::new(&hall, key));
     let Ok(logs) = close_logs(rt, alloc, hall, key) else {
         return false;
     };

@@ -10,13 +10,11 @@ use pipe_hall::seat::HallSeat;
 use pipe_model::list::Numbers;
 use program_hall::carried::{Carried, RunCode};
 use stage_code::code::Code;
-use std::alloc::Global;
 use std::sync::Wait;
 use std::thread::{Threads, join};
 
 /// Runs instances on two threads until the run is finished or stopped.
 pub fn work_on_two<'a, R: Threads + Wait + Sync, B: RunCode + Send>(
-    alloc: Global,
     rt: &R,
     code: &Code,
     input: &Numbers,
@@ -32,11 +30,11 @@ pub fn work_on_two<'a, R: Threads + Wait + Sync, B: RunCode + Send>(
         move || -> HallKey<Carried<B>>
             requires { CanDrive B.code (hall_name second.hall) code.now input.now }
             ensures { hall_name result.hall ≡ hall_name second.entry.hall }
-        { work(alloc, rt, code, input, second).into_key() },
+        { work(rt, code, input, second).into_key() },
         move || -> HallSeat<Carried<B>>
             requires { CanDrive B.code (hall_name first.hall) code.now input.now }
             ensures { hall_name result.hall ≡ hall_name first.entry.hall }
-        { work(alloc, rt, code, input, first) },
+        { work(rt, code, input, first) },
     );
     let mut seat = seat;
     seat.join(key);
@@ -45,7 +43,6 @@ pub fn work_on_two<'a, R: Threads + Wait + Sync, B: RunCode + Send>(
 
 /// Runs instances on four threads until the run is finished or stopped.
 pub fn work_on_four<'a, R: Threads + Wait + Sync, B: RunCode + Send>(
-    alloc: Global,
     rt: &R,
     code: &Code,
     input: &Numbers,
@@ -61,11 +58,11 @@ pub fn work_on_four<'a, R: Threads + Wait + Sync, B: RunCode + Send>(
         move || -> HallKey<Carried<B>>
             requires { CanDrive B.code (hall_name second.hall) code.now input.now }
             ensures { hall_name result.hall ≡ hall_name second.entry.hall }
-        { work_on_two(alloc, rt, code, input, second).into_key() },
+        { work_on_two(rt, code, input, second).into_key() },
         move || -> HallSeat<Carried<B>>
             requires { CanDrive B.code (hall_name first.hall) code.now input.now }
             ensures { hall_name result.hall ≡ hall_name first.entry.hall }
-        { work_on_two(alloc, rt, code, input, first) },
+        { work_on_two(rt, code, input, first) },
     );
     let mut seat = seat;
     seat.join(key);

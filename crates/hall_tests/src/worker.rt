@@ -15,7 +15,6 @@ use pipe_model::list::Numbers;
 use pipe_worker::advance::run_and_advance;
 use program_hall::carried::{Carried, RunCode};
 use stage_code::code::Code;
-use std::alloc::Global;
 use std::mem;
 use std::sync::Wait;
 use std::thread::yield_now;
@@ -99,7 +98,7 @@ impl<'a, B: RunCode> Worker<'a, B> {
     }
 
     // Runs the instance of the token, and ends it.
-    fn run<R: Wait>(&mut self, alloc: Global, rt: &R, code: &Code, input: &Numbers) -> Seen
+    fn run<R: Wait>(&mut self, rt: &R, code: &Code, input: &Numbers) -> Seen
         requires drives { CanDrive B.code (hall_name self.old.seat.hall) code.now input.now }
         requires given { IsWorkerOf B.code (hall_name self.old.seat.hall) self.old.seat self.old.token }
         ensures { IsWorkerOf B.code (hall_name self.old.seat.hall) self.new.seat self.new.token }
@@ -107,7 +106,7 @@ impl<'a, B: RunCode> Worker<'a, B> {
         let Some(token) = self.token.take() else {
             return Seen::Refused;
         };
-        let (next, _end, _length) = run_and_advance(alloc, rt, code, input, &mut self.seat, token);
+        let (next, _end, _length) = run_and_advance(rt, code, input, &mut self.seat, token);
         match next {
             Next::Go(token) => self.hold(token),
             Next::Suspended => Seen::Suspended,
@@ -126,21 +125,14 @@ impl<'a, B: RunCode> Worker<'a, B> {
     }
 
     /// Makes a call, and returns the result.
-    pub fn make<R: Wait>(
-        &mut self,
-        alloc: Global,
-        rt: &R,
-        code: &Code,
-        input: &Numbers,
-        call: Call,
-    ) -> Seen
+    pub fn make<R: Wait>(&mut self, rt: &R, code: &Code, input: &Numbers, call: Call) -> Seen
         requires drives { CanDrive B.code (hall_name self.old.seat.hall) code.now input.now }
         requires given { IsWorkerOf B.code (hall_name self.old.seat.hall) self.old.seat self.old.token }
         ensures { IsWorkerOf B.code (hall_name self.old.seat.hall) self.new.seat self.new.token }
     {
         match call {
             Call::Begin => self.begin(rt),
-            Call::Run => self.run(alloc, rt, code, input),
+            Call::Run => self.run(rt, code, input),
             Call::CheckRight(iteration) => self.check_right(rt, iteration),
             Call::LeaveReady => self.leave_ready(rt),
             Call::Rescue => self.rescue(rt),
@@ -159,7 +151,6 @@ fn next_call(seen: Seen) -> Call {
 
 /// Runs instances until the run is finished or stopped.
 pub fn work<'a, R: Wait, B: RunCode>(
-    alloc: Global,
     rt: &R,
     code: &Code,
     input: &Numbers,
@@ -171,7 +162,7 @@ pub fn work<'a, R: Wait, B: RunCode>(
     let mut worker = Worker { seat, token: None };
     let mut seen = Seen::Nothing;
     for _ in rt.forever() {
-        seen = worker.make(alloc, rt, code, input, next_call(seen));
+        seen = worker.make(rt, code, input, next_call(seen));
         match seen {
             Seen::Finished | Seen::Stopped => return worker.into_seat(),
             Seen::Nothing => yield_now(),

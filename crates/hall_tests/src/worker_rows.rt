@@ -136,7 +136,6 @@ fn push_begun<J: DrivenHall, R: Wait, M: Runs + Drop, H: Hall<M>>(
 
 // Begins an iteration, runs its instance 0, and pushes the next one. Returns whether there is one.
 fn push_resumed<J: DrivenHall, R: Wait, M: Runs + Drop, H: Hall<M>>(
-    alloc: Global,
     rt: &R,
     code: &Code,
     input: &Numbers,
@@ -150,7 +149,7 @@ fn push_resumed<J: DrivenHall, R: Wait, M: Runs + Drop, H: Hall<M>>(
     let Begun::Started(token) = hall.begin(rt) else {
         return false;
     };
-    let (next, _end, _length) = run_and_advance(alloc, rt, code, input, hall, token);
+    let (next, _end, _length) = run_and_advance(rt, code, input, hall, token);
     let Next::Go(token) = next else {
         return false;
     };
@@ -160,7 +159,6 @@ fn push_resumed<J: DrivenHall, R: Wait, M: Runs + Drop, H: Hall<M>>(
 
 // Begins two iterations, and pushes their next instances. Returns false only if memory runs out.
 fn push_two<J: DrivenHall, R: Wait, M: Runs + Drop, H: Hall<M>>(
-    alloc: Global,
     rt: &R,
     code: &Code,
     input: &Numbers,
@@ -171,12 +169,11 @@ fn push_two<J: DrivenHall, R: Wait, M: Runs + Drop, H: Hall<M>>(
     requires drives { CanDrive M.code J.named code.now input.now }
     ensures named { H.named hall.new ≡ J.named }
 {
-    push_resumed(alloc, rt, code, input, hall, ends) && push_begun(rt, hall, ends)
+    push_resumed(rt, code, input, hall, ends) && push_begun(rt, hall, ends)
 }
 
 // Begins two iterations if there are tasks when the worker starts, and pushes these tasks.
 fn push_tasks<J: DrivenHall, R: Wait, M: Runs + Drop, H: Hall<M>>(
-    alloc: Global,
     rt: &R,
     code: &Code,
     input: &Numbers,
@@ -190,8 +187,8 @@ fn push_tasks<J: DrivenHall, R: Wait, M: Runs + Drop, H: Hall<M>>(
 {
     match tasks {
         Tasks::Nowhere => true,
-        Tasks::InOwnDeque => push_two(alloc, rt, code, input, hall, &mut ends.own),
-        Tasks::InOtherDeque => push_two(alloc, rt, code, input, hall, &mut ends.other),
+        Tasks::InOwnDeque => push_two(rt, code, input, hall, &mut ends.own),
+        Tasks::InOtherDeque => push_two(rt, code, input, hall, &mut ends.other),
     }
 }
 
@@ -208,7 +205,6 @@ fn two_ends<J: DrivenHall, M: Runs + Drop>(alloc: Global) -> Option<TwoEnds<J, M
 
 // Runs a hall by a worker with these ends. Returns whether the worker makes each call this often.
 fn work_with<J: DrivenHall, R: Wait, M: Runs + Drop, H: Hall<M> + Drop>(
-    alloc: Global,
     rt: &R,
     code: &Code,
     input: &Numbers,
@@ -220,7 +216,7 @@ fn work_with<J: DrivenHall, R: Wait, M: Runs + Drop, H: Hall<M> + Drop>(
     requires drives { CanDrive M.code J.named code.now input.now }
 {
     let mut counting = Counting::new(hall);
-    Worker::new(alloc, 0, own).work(rt, code, input, &mut counting, &OpenGate);
+    Worker::new(0, own).work(rt, code, input, &mut counting, &OpenGate);
     counting.has_counted(calls)
 }
 
@@ -242,12 +238,12 @@ fn work_alone<J: DrivenHall, R: Wait, M: Runs + Drop, H: Hall<M> + Drop>(
     let Some(mut ends) = two_ends::<J, M>(alloc) else {
         return false;
     };
-    if !push_tasks(alloc, rt, code, input, &mut hall, &mut ends, tasks) {
+    if !push_tasks(rt, code, input, &mut hall, &mut ends, tasks) {
         drop(ends);
         return false;
     }
     let TwoEnds { own, other } = ends;
-    let are_made = work_with(alloc, rt, code, input, hall, own, calls);
+    let are_made = work_with(rt, code, input, hall, own, calls);
     drop(other);
     are_made
 }

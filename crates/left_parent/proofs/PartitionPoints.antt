@@ -1,5 +1,5 @@
 -- Where numbers that rise stop being at most a number.
-use Rattle.std.proofs.Common.{ℕ, ℤ, ◌≡◌, ◌<◌, ◌≤◌, ◌-◌, pos, ◌<ℤ◌, ◌≤ℤ◌, List, length, get_or, Bool, true, false, arith, inl, inr, ltb}
+use Rattle.std.proofs.Common.{ℕ, ℤ, ◌≡◌, ◌≤◌, ◌-◌, pos, ◌<ℤ◌, ◌≤ℤ◌, List, length, get_or, Bool, true, false, arith, inl, inr, ltb}
 use Rattle.std.proofs.Common.{refl, subst, sym}
 use Rattle.std.proofs.lemmas.Bool.{cases_lt, cases_eq, ltb-false}
 use Rattle.std.specs.Bool.{then_some}

@@ -1,6 +1,6 @@
 pub mod OverRuns
 pub mod JoinedSeats
-pub mod ReplayedLogs
+pub mod CollectedCells
 pub mod LoopEnds
 pub mod NeededColumns
 pub mod EngineRuns

@@ -1,24 +1,22 @@
 -- From the end of a hall to the end of its loop.
-use Rattle.std.proofs.Common.{◌≡◌, ◌∙◌, ap, sym, subst, ℕ, ℤ, ◌%◌, ◌<◌, ◌≤◌, ◌+◌}
-use Rattle.std.proofs.Common.{List, [], ◌++◌, map, All, false, Option, Some, get_or, arith, inl, inr}
-use Rattle.std.proofs.lemmas.Bool.{cases_lt, false≢true}
-use Rattle.std.proofs.lemmas.List.{get_or_default}
+use Rattle.std.proofs.Common.{◌≡◌, ◌∙◌, ap, sym, subst, ℕ, ℤ, ◌<◌, ◌≤◌, ◌+◌}
+use Rattle.std.proofs.Common.{List, ◌++◌, map, All, false, Option, Some}
+use Rattle.std.proofs.lemmas.Bool.{false≢true}
 use Rattle.cell_store.specs.ShardState.{IsStateAfter, ShardState}
 use Rattle.std.specs.Prelude.{is_some, length}
 use Rattle.frame_book.specs.BookStates.{BookState, state_of}
 use Rattle.hall_headline.specs.EndedPrograms.{AreGathered, AreRacesOfLog, IsProgramEnd}
-use Rattle.hall_headline.specs.HallEnds.{IsHallEnd, logs_of}
+use Rattle.hall_headline.specs.HallEnds.{IsHallEnd, IsShardAfterRun, logs_of}
 use Rattle.hall_shards.specs.FoundRaces.{found_by}
-use Rattle.hall_headline.proofs.EndedLogs.{entry_inside, hall_ends_are_runs}
+use Rattle.hall_headline.proofs.EndedLogs.{hall_ends_have_cells_of_runs}
 use Rattle.hall_headline.proofs.EndedPrograms.{hall_ends_are_merged, hall_ends_report_their_races}
-use Rattle.hall_headline.proofs.HallEnds.{has_shard, log_is, log_past, logs_of_hall_ends_can_be_merged, width}
+use Rattle.hall_headline.proofs.HallEnds.{logs_of_hall_ends_can_be_merged}
 use Rattle.hall_laws.specs.ClosedHalls.{IsSoundBook}
 use Rattle.hall_laws.specs.HallPrograms.{whole_in}
 use Rattle.hall_laws.proofs.HallPrograms.{merged_halls_are_program_runs}
 use Rattle.hall_laws.proofs.HallRuns.{finished_books_have_no_token_out}
 use Rattle.pipe_engine.specs.LoopEnds.{IsLoopEnd}
-use Rattle.pipe_engine.specs.ShardAccesses.{AreInside, accesses_in, accesses_in_all}
-use Rattle.pipe_engine.proofs.ReplayedLogs.{AreOfShards, own_log, same_cells}
+use Rattle.pipe_engine.specs.FinalCells.{ArePartsOf, HaveCellsAfter}
 use Rattle.program_hall.specs.OpenedHalls.{IsOpenedAfterInit}
 use Rattle.hall_calls.specs.Closing.{EndedHall, StopIsLast, shard_in}
 use Rattle.hall_table.specs.SeatViews.{HallConstants, constants_of, start_of}
@@ -33,15 +31,11 @@ use Rattle.pipe_model.specs.Language.Programs.{store_of}
 use Rattle.pipe_model.specs.Language.ProgramsOfTrees.{pipeline_after_init, whole_of}
 use Rattle.pipe_model.specs.Language.SyntaxTree.{SyntaxTree, tree_of}
 use Rattle.pipe_model.specs.Pipelines.WholePrograms.{WholeProgram, init_accesses, init_trap, loop_after_init}
-use Rattle.pipe_model.specs.Pipelines.Store.{written}
-use Rattle.pipe_model.specs.Races.DeterminacyRaces.{Among}
-use Rattle.pipe_model.proofs.Members.{among_at, none_among}
 use Rattle.pipe_model.specs.Runs.Run.{IsFinished, Run}
 use Rattle.pipe_model.specs.Runs.RunLogs.{accesses_after, state_after}
 use Rattle.pipe_model.specs.Runs.State.{State, accesses_of}
 use Rattle.pipe_model.specs.Runs.Throttling.{IsThrottled}
 use Rattle.pipe_model.specs.Runs.WholeProgramRuns.{IsFinishedProgramRun, NoLoop, OfLoop, ProgramRun}
-use Rattle.program_laws.specs.DeclaredCells.{cell_count}
 use Rattle.pipe_model.specs.declared.ticket.BookEntry.{BookEntry}
 use Rattle.pipe_model.specs.declared.trap.TrapAt.{TrapAt}
 use Rattle.pipe_model.specs.Language.CheckingRules.{BreaksNoRule}
@@ -51,7 +45,7 @@ use Rattle.run_record.proofs.SortedEntries.{sorted_events_are_merged}
 use Rattle.run_record.specs.SortedEntries.{merged_events}
 use Rattle.serial_elision.specs.ColumnTraps.{least_trap}
 use Rattle.serial_elision.specs.PartRuns.{Serves}
-use Rattle.run_record.specs.MergedLogs.{AreMerged, BookRises, ShardRises, shard_at}
+use Rattle.run_record.specs.MergedLogs.{AreMerged, BookRises, ShardRises}
 use Rattle.run_record.specs.OwnColumns.{made_columns}
 
 -- a hall that `close` has ended, with a finished book
@@ -71,25 +65,6 @@ finished_end before seen b shards count ended stop sound finished = record {
 pub can_be_merged : (before : List Access) (b : BookState) (shards : List ShardValue) → IsFinishedEnd before b shards
     → BookRises b.log × All ShardRises (logs_of shards)
 can_be_merged before b shards h = logs_of_hall_ends_can_be_merged before b shards h.end
-
--- each entry is in the log of the shard of its cell
-entries_are_own : (before : List Access) (b : BookState) (shards : List ShardValue) → IsHallEnd before b shards
-    → AreOfShards 16 0 (logs_of shards)
-entries_are_own before b shards h j e m = elim (cases_lt j 16) [
-  | inl less ↦ (
-      let own = (has_shard before b shards h j less).shard.own e (subst (λ l. Among e l) (log_is before b shards h j less) m) in
-      omega (arith, own))
-  | inr past ↦ absurd (none_among e (subst (λ l. Among e l) (log_past before b shards h j past) m))
-]
-
--- each access is to a cell of the program
-logs_are_inside : (before : List Access) (b : BookState) (shards : List ShardValue) (n : ℕ) → IsHallEnd before b shards
-    → cell_count (tree_of b.program) ≡ n → All (AreInside n) (logs_of shards)
-logs_are_inside before b shards n h is k d within =
-    let log = shard_at (logs_of shards) k in
-    subst (AreInside n) (get_or_default (logs_of shards) k [] d within)
-    (λ i e less. subst (λ m. (get_or log i e).access.cell.0 < m) is
-    (entry_inside before b shards h k (get_or log i e) (among_at log i e less)))
 
 -- a run of a program whose `init` did not trap is one of its loop
 of_loop : (w : WholeProgram) (limit : ℕ) (events : List Event) (s : State) → is_some (init_trap w) ≡ false → ProgramRun w limit events s
@@ -119,13 +94,6 @@ of_book tree input limit hall b h closed =
       no_trap = h.no_trap;
       before_is = h.opened.before_is;
     }
-
--- the logs can be replayed over the cells of the program
-pub can_be_replayed : (tree : SyntaxTree) (input : List ℤ) (limit : ℕ) (hall : HallState) (b : BookState) (shards : List ShardValue) (n : ℕ)
-    → IsOpenedAfterInit tree input limit hall → hall.hall.constants ≡ Some (constants_of b) → IsFinishedEnd hall.before b shards
-    → n ≡ cell_count tree → All (AreInside n) (logs_of shards)
-can_be_replayed tree input limit hall b shards n opened constants h count =
-    logs_are_inside hall.before b shards n h.end (ap cell_count (of_book tree input limit hall b opened constants).tree_is ∙ sym count)
 
 -- the cells of a program are so after more accesses
 pub serves_still : (tree : SyntaxTree) (old new : ShardState) → new.shard ≡ old.shard → Serves tree old → Serves tree new
@@ -159,13 +127,29 @@ module _ (tree : SyntaxTree) (input : List ℤ) (limit : ℕ) (hall : HallState)
   pub races : AreRacesOfLog log (found_by shards)
   races = hall_ends_report_their_races hall.before b shards log program_end (finished_books_have_no_token_out b h.end.book h.finished)
 
-  -- what is written to a cell in the shards is what the run writes to it
-  same_writes : (c : ℕ) → written c (accesses_in_all (logs_of shards)) ≡ written c (accesses_of (accesses_after log.events))
-  same_writes c =
-      let none = finished_books_have_no_token_out b h.end.book h.finished in
-      own_log 16 c 0 (c % 16) (logs_of shards) (entries_are_own hall.before b shards h.end) (omega arith)
-      ∙ ap (λ n. written c (accesses_in (shard_at (logs_of shards) (c % n)))) (sym (width hall.before b shards h.end))
-      ∙ sym ((hall_ends_are_runs hall.before b shards log.events h.end none events).writes c)
+  -- each shard has its cells as they are after the run
+  cells_of : (k : ℕ) → k < 16 → IsShardAfterRun hall.before b log.events k (shard_in shards k).cells
+  cells_of = hall_ends_have_cells_of_runs hall.before b shards log.events h.end
+      (finished_books_have_no_token_out b h.end.book h.finished) events
+
+  pub cells_after : HaveCellsAfter (store_of tree) (init_accesses (whole_of tree input) ++ accesses_of (accesses_after log.events)) shards
+  cells_after k less =
+      subst (λ t. IsStateAfter (store_of t) (init_accesses (whole_of tree input) ++ accesses_of (accesses_after log.events))
+      (shard_in shards k).cells) of.tree_is
+      (subst (λ l. IsStateAfter (store_of (tree_of b.program)) (l ++ accesses_of (accesses_after log.events)) (shard_in shards k).cells)
+      of.before_is (cells_of k less).cells)
+
+  -- the shards are parts of the cells of the program
+  pub parts : (cells : ShardState) (accesses : List Access) → IsStateAfter (store_of tree) accesses cells → ArePartsOf cells.shard shards
+  parts cells accesses state k less =
+      let own = cells_of k less in
+      let after = cells_after k less in
+      record {
+        number = own.number;
+        shards = own.shards;
+        cells = after.cells ∙ sym state.cells;
+        limit = after.limit ∙ sym state.limit;
+      }
 
   -- the run of the loop
   loop_run : (log : RunLog) → IsFinishedProgramRun (whole_of tree input) limit log
@@ -191,7 +175,7 @@ module _ (tree : SyntaxTree) (input : List ℤ) (limit : ℕ) (hall : HallState)
   -- the loop has ended with these reports, this trap and these cells
   pub loop_end : (reports : List Report) (trap : Option TrapAt) (cells : ShardState) → AreGathered log (found_by shards) reports
       → trap ≡ least_trap 0 log.columns → Serves tree cells
-      → IsStateAfter (store_of tree) (init_accesses (whole_of tree input) ++ accesses_in_all (logs_of shards)) cells
+      → IsStateAfter (store_of tree) (init_accesses (whole_of tree input) ++ accesses_of (accesses_after log.events)) cells
       → IsLoopEnd tree input limit (record { run_log = log; reports = reports; trap = trap; cells = cells })
   loop_end reports trap cells gathered trap_is serves state =
       let none = finished_books_have_no_token_out b h.end.book h.finished in
@@ -204,8 +188,7 @@ module _ (tree : SyntaxTree) (input : List ℤ) (limit : ℕ) (hall : HallState)
         after = record {
           run = loop_run log finished;
           columns_are = finished.columns;
-          state = same_cells (store_of tree) (init_accesses (whole_of tree input)) (accesses_in_all (logs_of shards))
-              (accesses_of (accesses_after log.events)) cells same_writes state;
+          state = state;
         };
         serves = serves;
       }

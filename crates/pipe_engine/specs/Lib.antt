@@ -1,4 +1,4 @@
 pub mod SeenRuns
 pub mod LoopEnds
-pub mod ShardAccesses
+pub mod FinalCells
 pub mod EngineRuns

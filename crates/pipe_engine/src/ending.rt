@@ -1,4 +1,4 @@
-//! The end of a loop: the hall is closed, the accesses are made again, and the races are reported.
+//! The end of a loop: the hall is closed, the cells are taken from its shards, and the races are reported.
 
 ghost use Rattle.std.specs.Prelude.{◌≡◌, ℕ, ℤ, [], List, IfOk, cond, false, map};
 ghost use Rattle.std.specs.List.{list_any};
@@ -20,7 +20,7 @@ ghost use Rattle.pipe_model.specs.Pipelines.WholePrograms.{init_accesses};
 ghost use Rattle.pipe_model.specs.Runs.Run.{IsFinished};
 ghost use Rattle.serial_elision.specs.PartRuns.{Serves};
 
-use crate::replay::replay;
+use crate::final_cells::collect;
 use access_history::history::Found;
 use cell_store::cells::Cells;
 use frame_book::book::Book;
@@ -126,13 +126,12 @@ pub(crate) fn end_loop<R: Wait, B: RunCode>(
         (init_accesses (whole_of (tree_of prepared.now.checked.now) prepared.now.input.now)) cells }
     ensures { IfOk result (IsLoopEnd (tree_of prepared.now.checked.now) prepared.now.input.now throttle) }
 {
-    let _ = prepared;
     let _ = throttle;
     let HallEnd { book, shards } = close(rt, alloc, hall, key)?;
     let book_log = finished_log(book)?;
     let found = found_by(alloc, shards.as_slice())?;
+    collect(&mut cells, prepared.checked.cell_count(), shards.as_slice());
     let shard_logs = logs_of(alloc, shards)?;
-    replay(&mut cells, shard_logs.as_slice());
     let needed = are_columns_needed(book_log.as_slice(), found.as_slice());
     let columns = columns_if(alloc, needed, book_log.as_slice())?;
     let reports = gather(alloc, found.as_slice(), &columns)?;

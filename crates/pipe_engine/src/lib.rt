@@ -5,7 +5,7 @@
 #![tactic(auto)]
 
 mod ending;
+mod final_cells;
 pub mod over;
-mod replay;
 pub mod run;
 pub mod workers;

@@ -19,9 +19,9 @@ ghost use Rattle.pipe_model.specs.Language.SyntaxTree.{SyntaxTree};
 use crate::results::{Begun, Next, Reply, Rescue};
 use crate::stands::Stands;
 use crate::token::FrameToken;
+use crate::trace::Trace;
 use pipe_model::access::CellId;
 use pipe_model::stage::StageEnd;
-use pipe_model::ticket::Trace;
 use std::sync::Wait;
 
 /// The scheduler's book and the cells, shared by workers. Each call but `access` looks at the book

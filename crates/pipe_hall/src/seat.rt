@@ -17,9 +17,9 @@ use hall_table::view::View;
 use pipe_frame::hall::Hall;
 use pipe_frame::results::{Begun, Next, Reply, Rescue};
 use pipe_frame::token::FrameToken;
+use pipe_frame::trace::Trace;
 use pipe_model::access::CellId;
 use pipe_model::stage::StageEnd;
-use pipe_model::ticket::Trace;
 use std::marker::Model;
 use std::sync::Wait;
 

@@ -36,9 +36,6 @@ pub struct BookEntry {
     pub event: Event,
 }
 
-/// The accesses of one instance, in order.
-pub type Trace = ListOf<Entry>;
-
 /// The accesses to the cells of one shard, in order.
 pub type ShardLog = ListOf<ShardEntry>;
 

@@ -15,14 +15,12 @@ use pipe_frame::token::FrameToken;
 use pipe_model::list::Numbers;
 use pipe_model::stage::StageEnd;
 use stage_code::code::Code;
-use std::alloc::Global;
 use std::marker::Brand;
 use std::sync::Wait;
 
 /// Runs the instance of a token over the cells of the hall, and ends it. Returns how the iteration goes
 /// on, the end of the instance, and its length. The token of a next instance is as `advance` of the hall returns it.
 pub fn run_and_advance<R: Wait, M: Runs + Drop, H: Hall<M>>(
-    alloc: Global,
     rt: &R,
     code: &Code,
     input: &Numbers,
@@ -37,7 +35,7 @@ pub fn run_and_advance<R: Wait, M: Runs + Drop, H: Hall<M>>(
 {
     let lent = LentHall { hall };
     let (lent, token, trace, end, length) = run_instance::<R, M, H, Brand>(
-        alloc, rt, code, input, lent, token,
+        rt, code, input, lent, token,
     );
     let hall = lent.hall;
     let next = hall.advance(rt, token, end, trace);

@@ -20,13 +20,12 @@ use crate::runs::Runs;
 use heap_value::kept::Kept;
 use pipe_frame::hall::Hall;
 use pipe_frame::token::FrameToken;
+use pipe_frame::trace::Trace;
 use pipe_model::list::Numbers;
 use pipe_model::stage::StageEnd;
-use pipe_model::ticket::Trace;
 use stage_code::code::Code;
 use stage_interp::machine::Machine;
 use stage_interp::memory::Memory;
-use std::alloc::Global;
 use std::sync::Wait;
 
 // Runs one stage instance by a machine on the heap. Returns its end, and the steps that it has taken.
@@ -51,7 +50,6 @@ fn run_stage_by<M: Memory>(
 /// Runs the instance of a token over the cells of the hall. Returns the hall, the token, the accesses
 /// of the instance, its end, and its length, as the worker's pace counts it.
 pub fn run_instance<'a, R: Wait, M: Runs + Drop, H: Hall<M>, J: RunningInstance>(
-    alloc: Global,
     rt: &R,
     code: &Code,
     input: &Numbers,
@@ -71,10 +69,10 @@ pub fn run_instance<'a, R: Wait, M: Runs + Drop, H: Hall<M>, J: RunningInstance>
     ensures advances { MayAdvance M.whole M.ready_at M.tie J.named (H.seen result.0.hall.now) result.1 result.2 result.3 }
 {
     let mut machine = token.payload.take_machine();
-    let mut memory = InstanceMemory::<R, M, H, J>::new(alloc, rt, lent, token);
+    let mut memory = InstanceMemory::<R, M, H, J>::new(rt, lent, token);
     let (end, steps) = run_stage_by(&mut machine, code, input, &mut memory);
-    let (lent, mut token, trace) = memory.finish();
+    let (lent, mut token, trace, accesses) = memory.finish();
     token.payload.put_machine(machine);
-    let length = length_of(steps, trace.len());
+    let length = length_of(steps, accesses);
     (lent, token, trace, end, length)
 }

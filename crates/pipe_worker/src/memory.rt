@@ -11,10 +11,9 @@ use pipe_frame::hall::Hall;
 use pipe_frame::results::Reply;
 use pipe_frame::stands::Stands;
 use pipe_frame::token::FrameToken;
+use pipe_frame::trace::Trace;
 use pipe_model::access::CellId;
-use pipe_model::ticket::Trace;
 use stage_interp::memory::Memory;
-use std::alloc::Global;
 use std::marker::{Brand, Model, PhantomData};
 use std::sync::Wait;
 
@@ -65,6 +64,8 @@ pub struct InstanceMemory<'r, 'a, R: Wait, M: Stands + Drop, H: Hall<M>, J: Runn
     lent: LentHall<'a, H>,
     token: FrameToken<M>,
     trace: Trace,
+    // How many accesses the instance has asked for.
+    count: u64,
     stopped: bool,
     of: PhantomData<J>,
 }
@@ -95,7 +96,7 @@ impl<'r, 'a, R: Wait, M: Stands + Drop, H: Hall<M>, J: RunningInstance> Instance
     J,
 > {
     /// Returns the memory of an instance that has made no access.
-    pub fn new(alloc: Global, rt: &'r R, lent: LentHall<'a, H>, token: FrameToken<M>) -> Self
+    pub fn new(rt: &'r R, lent: LentHall<'a, H>, token: FrameToken<M>) -> Self
         requires reference { lent.hall.ghost_name ≡ J.reference }
         requires named { H.named lent.hall.now ≡ J.named }
         requires counts { H.tokens lent.hall.now ≡ J.counts }
@@ -106,14 +107,15 @@ impl<'r, 'a, R: Wait, M: Stands + Drop, H: Hall<M>, J: RunningInstance> Instance
             rt,
             lent,
             token,
-            trace: Trace::new(alloc),
+            trace: Trace::new(),
+            count: 0,
             stopped: false,
             of: PhantomData,
         }
     }
 
-    /// Returns the hall, the token and the accesses of the instance.
-    pub fn finish(self) -> (LentHall<'a, H>, FrameToken<M>, Trace)
+    /// Returns the hall, the token, the accesses of the instance, and how many it has asked for.
+    pub fn finish(self) -> (LentHall<'a, H>, FrameToken<M>, Trace, u64)
         ensures reference { result.0.hall.ghost_name ≡ J.reference }
         ensures named { H.named result.0.hall.now ≡ J.named }
         ensures held { IsHeld J.named J.iteration J.replies (fields_of result.1) (M.tie result.1.payload) result.2 }
@@ -126,10 +128,11 @@ impl<'r, 'a, R: Wait, M: Stands + Drop, H: Hall<M>, J: RunningInstance> Instance
             lent,
             token,
             trace,
+            count,
             stopped: _,
             of: _,
         } = self;
-        (lent, token, trace)
+        (lent, token, trace, count)
     }
 }
 
@@ -144,6 +147,7 @@ impl<'r, 'a, R: Wait, M: Stands + Drop, H: Hall<M>, J: RunningInstance> Memory
     ghost served = { λ m. cells_of J.named.tree };
 
     fn read(&mut self, cell: CellId) -> Option<i64> {
+        self.count = self.count.saturating_add(1);
         let reply = self
             .lent
             .hall
@@ -162,6 +166,7 @@ impl<'r, 'a, R: Wait, M: Stands + Drop, H: Hall<M>, J: RunningInstance> Memory
     }
 
     fn write(&mut self, cell: CellId, value: i64) -> bool {
+        self.count = self.count.saturating_add(1);
         let reply = self.lent.hall.access(
             self.rt,
             &mut self.token,

@@ -38,8 +38,8 @@ impl Pace {
     }
 }
 
-// Returns the length of an instance that has made so many steps and accesses.
-pub(crate) fn length_of(steps: i64, accesses: usize) -> u64 {
-    let waits = ACCESS_STEPS.saturating_mul(accesses as u64);
+// Returns the length of an instance that has taken `steps` steps and asked for `accesses` accesses.
+pub(crate) fn length_of(steps: i64, accesses: u64) -> u64 {
+    let waits = ACCESS_STEPS.saturating_mul(accesses);
     u64::try_from(steps).unwrap_or(0).saturating_add(waits)
 }

@@ -22,7 +22,6 @@ use pipe_model::list::Numbers;
 use pipe_model::node::NodeId;
 use pipe_model::stage::StageEnd;
 use stage_code::code::Code;
-use std::alloc::Global;
 use std::sync::Wait;
 use work_deques::ends::Ends;
 use worker_tasks::tasks::WorkerTasks;
@@ -31,7 +30,6 @@ use worker_tasks::work_test::WorkTest;
 /// A worker, with its ends of the deques. Workers have numbers from 0, as their deques have.
 #[derive(Drop)]
 pub struct Worker<M: Runs + Drop, Q: WorkTest<M>> {
-    alloc: Global,
     tasks: WorkerTasks<M, Q>,
     pace: Pace,
 }
@@ -58,12 +56,11 @@ fn loop_goes_on(end: StageEnd) -> bool {
 
 impl<M: Runs + Drop, Q: WorkTest<M>> Worker<M, Q> {
     /// Returns the worker with this number.
-    pub fn new(alloc: Global, number: u32, ends: Ends<Task<M>, Q>) -> Self
+    pub fn new(number: u32, ends: Ends<Task<M>, Q>) -> Self
         ensures number { number_of result ≡ number }
         ensures ends { ends_of result ≡ ends }
     {
         Worker {
-            alloc,
             tasks: WorkerTasks::new(number, ends),
             pace: Pace::new(),
         }
@@ -162,7 +159,7 @@ impl<M: Runs + Drop, Q: WorkTest<M>> Worker<M, Q> {
         let iteration = token.iteration;
         let index = token.index;
         gate.at(rt, self.tasks.number(), NodeId { iteration, index });
-        let (next, end, length) = run_and_advance(self.alloc, rt, code, input, hall, token);
+        let (next, end, length) = run_and_advance(rt, code, input, hall, token);
         self.pace.note(length);
         let next_begins = index == 0 && loop_goes_on(end);
         self.go_on(rt, hall, iteration, next, next_begins)

@@ -15,7 +15,7 @@ ghost use Rattle.stage_interp.specs.RemainingBehaviour.{IsCodeOf};
 
 use crate::carried::{Carried, RunCode};
 use frame_book::book::Book;
-use om_shared::writer::{OmWriter, start};
+use om_shared::writer::{OmWriter, start_two};
 use order_2d::two_orders::TwoOrders;
 use order_2d::two_passes::TwoPasses;
 use pipe_hall::hall::{HallKey, HallOf, hall_after};
@@ -47,8 +47,7 @@ fn orders(alloc: Global, capacity: u32) -> Result<(TwoOrders<OmWriter>, TwoPasse
     ensures lists { IfOk result (λ r. (r.1.down ≡ r.0.down.identity) × (r.1.right ≡ r.0.right.identity)) }
     ensures identities { IfOk result (λ r. HaveIdentities r.1) }
 {
-    let (down, down_pass) = start(alloc, capacity)?;
-    let (right, right_pass) = start(alloc, capacity)?;
+    let ((down, down_pass), (right, right_pass)) = start_two(alloc, capacity)?;
     let passes = TwoPasses::new(down_pass, right_pass);
     let mut orders = TwoOrders::new(down, right);
     orders.defer();

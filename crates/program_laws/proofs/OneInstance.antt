@@ -1,5 +1,5 @@
 -- `init` and `final` of an accepted program name no stage, so each is one instance.
-use Rattle.std.proofs.Common.{◌≡◌, ◌∙◌, ap, refl, ℕ, zero, suc, ℤ, false, List, [], ◌++◌, Option, Some, None, ◌+◌}
+use Rattle.std.proofs.Common.{◌≡◌, ◌∙◌, ap, refl, ℕ, zero, suc, ℤ, false, List, [], ◌++◌, Option, Some, None}
 use Rattle.pipe_model.specs.declared.region.Region.TheVariants as regions
 use Rattle.pipe_model.specs.Language.CheckingRules.{Fault, PipeOutside, broken_at, first_fault, has_stages}
 use Rattle.pipe_model.specs.Language.CheckingRules.{limit_fault_or, first_limit_out}

@@ -120,7 +120,7 @@ fn check_on<B: PlayedCode>(
     let mut player = player;
     let stop = first_stop(events);
     let going = &events[..stop];
-    match follow(alloc, &mut player, code, input, going) {
+    match follow(&mut player, code, input, going) {
         Ok(count) => {
             if count < stop {
                 drop(player);

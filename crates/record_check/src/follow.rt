@@ -14,7 +14,6 @@ use schedule_play::player::Player;
 use schedule_play::runner::PlayedCode;
 use schedule_play::turns::Turn;
 use stage_code::code::Code;
-use std::alloc::Global;
 
 // The turn in which an event is made, if it is allowed.
 fn turn_for(event: Event) -> Turn
@@ -39,7 +38,6 @@ fn same_event(a: Event, b: Event) -> bool
 
 /// Makes the events as long as they are allowed, and returns how many are.
 pub fn follow<B: PlayedCode>(
-    alloc: Global,
     player: &mut Player<B>,
     code: &Code,
     input: &Numbers,
@@ -60,7 +58,7 @@ pub fn follow<B: PlayedCode>(
         if !player.has_turn(turn) {
             return Ok(k);
         }
-        player.take_turn(alloc, code, input, turn)?;
+        player.take_turn(code, input, turn)?;
         let made = player.events()[k];
         if !same_event(made, events[k]) {
             return Ok(k);

@@ -3,8 +3,8 @@
 
 ghost use Rattle.std.specs.Prelude.{◌≡◌, []};
 
-use frame_rows::past::Past;
 use order_2d::list_writer::ListWriter;
+use pipe_frame::past::Past;
 use std::marker::Model;
 
 /// A list that nobody asks: only its elements are counted. Contracts see the log of the insertions and

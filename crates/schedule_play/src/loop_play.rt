@@ -94,7 +94,6 @@ fn play_on<B: PlayedCode>(
 {
     let mut player = player;
     let played = play_turns(
-        alloc,
         &mut player,
         code,
         input,

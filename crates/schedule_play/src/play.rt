@@ -9,7 +9,6 @@ use crate::runner::PlayedCode;
 use pipe_model::list::Numbers;
 use pipe_model::memory::NoMemory;
 use stage_code::code::Code;
-use std::alloc::Global;
 
 // Returns choice `turn`; after the last choice the first is used again. Returns 0 if there is none.
 fn choice_at(choices: &[u32], turn: u64) -> u32
@@ -24,7 +23,6 @@ fn choice_at(choices: &[u32], turn: u64) -> u32
 /// Makes at most `turns` events, each by its choice, of a run in which at most `workers` instances run
 /// at a time; fewer if the run is finished before. Returns an error only if memory runs out.
 pub fn play_turns<B: PlayedCode>(
-    alloc: Global,
     player: &mut Player<B>,
     code: &Code,
     input: &Numbers,
@@ -46,7 +44,7 @@ pub fn play_turns<B: PlayedCode>(
         let Some(next) = player.choose(workers, choice) else {
             return Ok(());
         };
-        player.take_turn(alloc, code, input, next)?;
+        player.take_turn(code, input, next)?;
     }
     Ok(())
 }

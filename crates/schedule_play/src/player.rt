@@ -121,7 +121,7 @@ impl<B: PlayedCode> Player<B> {
     }
 
     // The event `Begin` of the next iteration.
-    fn begin(&mut self, alloc: Global, code: &Code, input: &Numbers) -> Result<(), NoMemory>
+    fn begin(&mut self, code: &Code, input: &Numbers) -> Result<(), NoMemory>
         requires code { code.now ≡ B.code }
         requires input { input.now ≡ self.old.book.input }
         requires play { IsPlay B.code B.cells self.old }
@@ -136,20 +136,14 @@ impl<B: PlayedCode> Player<B> {
             unreachable!()
         };
         let iteration = token.iteration;
-        let running = RunningIteration::new(alloc, token, code, input, &self.cells);
+        let running = RunningIteration::new(token, code, input, &self.cells);
         self.running.push_reserved(Some(running));
         self.schedule.begin();
         append(&mut self.events, Event::Begin(iteration))
     }
 
     // The event `Enter` of an iteration.
-    fn enter(
-        &mut self,
-        alloc: Global,
-        code: &Code,
-        input: &Numbers,
-        iteration: u32,
-    ) -> Result<(), NoMemory>
+    fn enter(&mut self, code: &Code, input: &Numbers, iteration: u32) -> Result<(), NoMemory>
         requires code { code.now ≡ B.code }
         requires input { input.now ≡ self.old.book.input }
         requires play { IsPlay B.code B.cells self.old }
@@ -162,7 +156,7 @@ impl<B: PlayedCode> Player<B> {
         let Some(token) = self.book.enter(iteration) else {
             unreachable!()
         };
-        let running = RunningIteration::new(alloc, token, code, input, &self.cells);
+        let running = RunningIteration::new(token, code, input, &self.cells);
         self.running[iteration as usize] = Some(running);
         self.schedule.enter(iteration);
         append(&mut self.events, Event::Enter(iteration))
@@ -195,10 +189,8 @@ impl<B: PlayedCode> Player<B> {
         let Some(running) = &mut self.running[iteration as usize] else {
             unreachable!()
         };
-        match running.access(code, input, &mut self.cells, ticket) {
-            Ok(access) => append(&mut self.events, Event::Access(iteration, access)),
-            Err(refused) => Err(refused),
-        }
+        let made = running.access(code, input, &mut self.cells, ticket);
+        append(&mut self.events, Event::Access(iteration, made))
     }
 
     // The end of the running instance of an iteration.
@@ -221,13 +213,7 @@ impl<B: PlayedCode> Player<B> {
     }
 
     // The next event of an iteration.
-    fn next(
-        &mut self,
-        alloc: Global,
-        code: &Code,
-        input: &Numbers,
-        iteration: u32,
-    ) -> Result<(), NoMemory>
+    fn next(&mut self, code: &Code, input: &Numbers, iteration: u32) -> Result<(), NoMemory>
         requires code { code.now ≡ B.code }
         requires input { input.now ≡ self.old.book.input }
         requires play { IsPlay B.code B.cells self.old }
@@ -238,7 +224,7 @@ impl<B: PlayedCode> Player<B> {
         ensures keeps { IfOk result (λ u. KeepsProgram self.old self.new) }
     {
         let Some(next) = self.next_of_running(iteration) else {
-            return self.enter(alloc, code, input, iteration);
+            return self.enter(code, input, iteration);
         };
         match next {
             NextAction::Access => self.access(code, input, iteration),
@@ -323,13 +309,7 @@ impl<B: PlayedCode> Player<B> {
 
     /// Makes the event of a turn. Returns an error only if memory runs out; the player is of no use
     /// then.
-    pub fn take_turn(
-        &mut self,
-        alloc: Global,
-        code: &Code,
-        input: &Numbers,
-        turn: Turn,
-    ) -> Result<(), NoMemory>
+    pub fn take_turn(&mut self, code: &Code, input: &Numbers, turn: Turn) -> Result<(), NoMemory>
         requires code { code.now ≡ B.code }
         requires input { input.now ≡ self.old.book.input }
         requires play { IsPlay B.code B.cells self.old }
@@ -341,8 +321,8 @@ impl<B: PlayedCode> Player<B> {
         ensures keeps { IfOk result (λ u. KeepsProgram self.old self.new) }
     {
         match turn {
-            Turn::Next(iteration) => self.next(alloc, code, input, iteration),
-            Turn::Begin => self.begin(alloc, code, input),
+            Turn::Next(iteration) => self.next(code, input, iteration),
+            Turn::Begin => self.begin(code, input),
         }
     }
 }

@@ -1,6 +1,6 @@
 //! A stage instance that runs in a schedule, between two of its events.
 
-ghost use Rattle.std.specs.Prelude.{◌≡◌, ◌≢◌, ◌≤◌, ◌++◌, ◌∷◌, [], IfOk, List, OnErr, ℕ};
+ghost use Rattle.std.specs.Prelude.{◌≡◌, ◌≢◌, ◌≤◌, ◌++◌, ◌∷◌, [], List, ℕ};
 ghost use Rattle.cell_store.specs.ShardState.{IsStateAfter};
 ghost use Rattle.pipe_model.specs.declared.access.Access.{Access as Accessed};
 ghost use Rattle.pipe_model.specs.declared.event.Event.TheVariants as events;
@@ -16,14 +16,13 @@ ghost use Rattle.stage_interp.specs.RemainingBehaviour.{Represents};
 
 use crate::instance::{make_access, run_to_access};
 use cell_store::cells::Cells;
+use pipe_frame::trace::Trace;
 use pipe_model::access::Access;
 use pipe_model::list::Numbers;
-use pipe_model::memory::NoMemory;
 use pipe_model::stage::StageEnd;
 use pipe_model::ticket::Entry;
 use stage_code::code::Code;
 use stage_interp::machine::Machine;
-use std::alloc::Global;
 
 /// What a running stage instance does next.
 #[derive(Clone, Copy)]
@@ -53,35 +52,29 @@ fn action_at(rest: StageEnd) -> NextAction
 #[derive(Drop)]
 pub struct RunningInstance {
     /// The accesses that it has made, with their tickets.
-    pub trace: Vec<Entry>,
+    pub trace: Trace,
     /// What it does next.
     pub next: NextAction,
 }
 
 impl RunningInstance {
     /// Begins an instance: runs its machine up to its first event.
-    pub fn new(
-        alloc: Global,
-        machine: &mut Machine,
-        code: &Code,
-        input: &Numbers,
-        cells: &Cells,
-    ) -> Self
+    pub fn new(machine: &mut Machine, code: &Code, input: &Numbers, cells: &Cells) -> Self
         requires before { (t : Behaviour) × Represents code.now cells.now.shard.cells input.now machine.old.run t }
         requires bounded { cells.now.shard.cells ≤ most_cell_ids }
         ensures begun { (t : Behaviour) → Represents code.now cells.now.shard.cells input.now machine.old.run t
             → IsUnderWay code.now cells.now.shard.cells input.now t machine.new.run [] result.next }
-        ensures empty { result.trace.items ≡ [] }
+        ensures empty { result.trace ≡ [] }
         ensures made { (c : FlatCode) → IsMadeFor c machine.old → IsMadeFor c machine.new }
     {
         RunningInstance {
-            trace: Vec::new(alloc),
+            trace: Trace::new(),
             next: action_at(run_to_access(machine, code, input, cells)),
         }
     }
 
     /// Makes the access that is the next event, with this ticket, and runs the machine up to the event
-    /// after it. Returns an error only if memory runs out; then nothing was done.
+    /// after it. Returns the access.
     pub fn access(
         &mut self,
         machine: &mut Machine,
@@ -89,30 +82,26 @@ impl RunningInstance {
         input: &Numbers,
         cells: &mut Cells,
         ticket: u64,
-    ) -> Result<Access, NoMemory>
+    ) -> Access
         requires pending { self.old.next ≡ NextAction.Access }
-        requires before { (t : Behaviour) × IsUnderWay code.now cells.old.shard.cells input.now t machine.old.run self.old.trace.items
+        requires before { (t : Behaviour) × IsUnderWay code.now cells.old.shard.cells input.now t machine.old.run self.old.trace
             self.old.next }
         requires all { HasAllCells cells.old }
         requires bounded { cells.old.shard.cells ≤ most_cell_ids }
-        ensures goes_on { IfOk result (λ a. (t : Behaviour)
-            → IsUnderWay code.now cells.old.shard.cells input.now t machine.old.run self.old.trace.items self.old.next
-            → IsUnderWay code.now cells.old.shard.cells input.now t machine.new.run self.new.trace.items self.new.next) }
-        ensures event { IfOk result (λ a. (t : Behaviour) (p : Pipeline) (before : List Accessed) (i : ℕ)
-            → IsUnderWay code.now cells.old.shard.cells input.now t machine.old.run self.old.trace.items self.old.next
-            → IsStateAfter p.store before cells.old → next_of p before i t self.old.trace.items ≡ events.Access i a) }
-        ensures trace { IfOk result (λ a. self.new.trace.items ≡ self.old.trace.items ++ record { ticket = ticket; access = a } ∷ []) }
-        ensures state { IfOk result (λ a. (store : InitialStore) (before : List Accessed) → IsStateAfter store before cells.old
-            → IsStateAfter store (before ++ a ∷ []) cells.new) }
+        ensures goes_on { (t : Behaviour) → IsUnderWay code.now cells.old.shard.cells input.now t machine.old.run self.old.trace
+            self.old.next → IsUnderWay code.now cells.old.shard.cells input.now t machine.new.run self.new.trace self.new.next }
+        ensures event { (t : Behaviour) (p : Pipeline) (before : List Accessed) (i : ℕ)
+            → IsUnderWay code.now cells.old.shard.cells input.now t machine.old.run self.old.trace self.old.next
+            → IsStateAfter p.store before cells.old → next_of p before i t self.old.trace ≡ events.Access i result }
+        ensures trace { self.new.trace ≡ self.old.trace ++ record { ticket = ticket; access = result } ∷ [] }
+        ensures state { (store : InitialStore) (before : List Accessed) → IsStateAfter store before cells.old
+            → IsStateAfter store (before ++ result ∷ []) cells.new }
         ensures shard { cells.new.shard ≡ cells.old.shard }
         ensures made { (c : FlatCode) → IsMadeFor c machine.old → IsMadeFor c machine.new }
-        ensures none { OnErr result ((machine.new ≡ machine.old) × (cells.new ≡ cells.old) × (self.new.trace.items ≡ self.old.trace.items)
-            × (self.new.next ≡ self.old.next)) }
     {
-        self.trace.reserve(1)?;
         let (access, rest) = make_access(machine, code, input, cells);
-        self.trace.push_reserved(Entry { ticket, access });
+        self.trace.note(&Entry { ticket, access });
         self.next = action_at(rest);
-        Ok(access)
+        access
     }
 }

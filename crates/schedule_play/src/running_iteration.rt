@@ -1,6 +1,6 @@
 //! An iteration that runs in a schedule.
 
-ghost use Rattle.std.specs.Prelude.{◌≡◌, ◌≤◌, ◌++◌, ◌∷◌, [], ℤ, List, IfOk};
+ghost use Rattle.std.specs.Prelude.{◌≡◌, ◌≤◌, ◌++◌, ◌∷◌, [], ℤ, List};
 ghost use Rattle.cell_store.specs.ShardState.{IsStateAfter};
 ghost use Rattle.pipe_frame.specs.CallResults.{NameReturns};
 ghost use Rattle.pipe_frame.specs.Replies.{after_instances};
@@ -30,11 +30,8 @@ use pipe_frame::results::Named;
 use pipe_frame::token::FrameToken;
 use pipe_model::access::Access;
 use pipe_model::list::Numbers;
-use pipe_model::memory::NoMemory;
 use pipe_model::stage::StageEnd;
-use pipe_model::ticket::Trace;
 use stage_code::code::Code;
-use std::alloc::Global;
 use std::marker::Model;
 
 /// A running iteration: the token of its instance, and how far the instance is. Contracts see the
@@ -54,7 +51,7 @@ impl<B: PlayedCode> Model for RunningIteration<B> {
     ghost view = { λ h. record {
       token = fields_of h.token;
       machine = h.token.payload.machine;
-      trace = h.running.trace.items;
+      trace = h.running.trace;
       next = h.running.next;
     } };
 }
@@ -62,7 +59,6 @@ impl<B: PlayedCode> Model for RunningIteration<B> {
 impl<B: PlayedCode> RunningIteration<B> {
     /// Begins the instance of a token: runs its machine up to its first event.
     pub fn new(
-        alloc: Global,
         mut token: FrameToken<Runner<B>>,
         code: &Code,
         input: &Numbers,
@@ -80,7 +76,7 @@ impl<B: PlayedCode> RunningIteration<B> {
         ensures empty { result.trace ≡ [] }
     {
         let machine = token.payload.machine.get_mut();
-        let running = RunningInstance::new(alloc, machine, code, input, cells);
+        let running = RunningInstance::new(machine, code, input, cells);
         RunningIteration { token, running }
     }
 
@@ -92,14 +88,8 @@ impl<B: PlayedCode> RunningIteration<B> {
     }
 
     /// Makes the access that is the instance's next event, with this ticket, which the token then has too.
-    /// Returns an error only if memory runs out.
-    pub fn access(
-        &mut self,
-        code: &Code,
-        input: &Numbers,
-        cells: &mut Cells,
-        ticket: u64,
-    ) -> Result<Access, NoMemory>
+    /// Returns the access.
+    pub fn access(&mut self, code: &Code, input: &Numbers, cells: &mut Cells, ticket: u64) -> Access
         requires code { code.now ≡ B.code }
         requires cells { cells.old.shard.cells ≡ B.cells }
         requires all { HasAllCells cells.old }
@@ -107,24 +97,23 @@ impl<B: PlayedCode> RunningIteration<B> {
         requires pending { self.old.next ≡ NextAction.Access }
         requires instance { (tree : SyntaxTree) × ((replies : List (List ℤ)) × IsRunningIteration B.code B.cells tree input.now replies
             self.old) }
-        ensures instance { IfOk result (λ a. (tree : SyntaxTree) (replies : List (List ℤ))
-            → IsRunningIteration B.code B.cells tree input.now replies self.old
-            → IsRunningIteration B.code B.cells tree input.now replies self.new) }
-        ensures event { IfOk result (λ a. (tree : SyntaxTree) (replies : List (List ℤ)) (p : Pipeline) (before : List Accessed)
+        ensures instance { (tree : SyntaxTree) (replies : List (List ℤ)) → IsRunningIteration B.code B.cells tree input.now replies self.old
+            → IsRunningIteration B.code B.cells tree input.now replies self.new }
+        ensures event { (tree : SyntaxTree) (replies : List (List ℤ)) (p : Pipeline) (before : List Accessed)
             → IsRunningIteration B.code B.cells tree input.now replies self.old → IsStateAfter p.store before cells.old
             → next_of p before self.old.token.iteration (after_instances ((pipeline_of tree input.now).behaviour self.old.token.iteration)
             replies)
-            self.old.trace ≡ events.Access self.old.token.iteration a) }
-        ensures fields { IfOk result (λ a. self.new.token ≡ record self.old.token { now = ticket }) }
-        ensures trace { IfOk result (λ a. self.new.trace ≡ self.old.trace ++ record { ticket = ticket; access = a } ∷ []) }
-        ensures state { IfOk result (λ a. (store : InitialStore) (before : List Accessed) → IsStateAfter store before cells.old
-            → IsStateAfter store (before ++ a ∷ []) cells.new) }
+            self.old.trace ≡ events.Access self.old.token.iteration result }
+        ensures fields { self.new.token ≡ record self.old.token { now = ticket } }
+        ensures trace { self.new.trace ≡ self.old.trace ++ record { ticket = ticket; access = result } ∷ [] }
+        ensures state { (store : InitialStore) (before : List Accessed) → IsStateAfter store before cells.old
+            → IsStateAfter store (before ++ result ∷ []) cells.new }
         ensures shard { cells.new.shard ≡ cells.old.shard }
     {
         let machine = self.token.payload.machine.get_mut();
-        let access = self.running.access(machine, code, input, cells, ticket)?;
+        let access = self.running.access(machine, code, input, cells, ticket);
         self.token.now = ticket;
-        Ok(access)
+        access
     }
 
     /// Ends the instance, which does so next: the event `Advance` or `Finish` of the book.
@@ -137,6 +126,6 @@ impl<B: PlayedCode> RunningIteration<B> {
         ensures returned { NameReturns (state_of book.old) end result }
         ensures book { book.new ≡ after_name_next book.old self.token end self.trace result }
     {
-        book.name_next(self.token, end, Trace::from_vec(self.running.trace))
+        book.name_next(self.token, end, self.running.trace)
     }
 }

@@ -1,13 +1,13 @@
 -- The mark of a fault is one of the program's marks.
-use Rattle.std.proofs.Common.{◌≡◌, ℕ, Bool, true, false, List, [], ◌∷◌, ◌++◌, ◌+◌, ◌<◌, Option, Some, None, if◌then◌else◌, not, length, map}
+use Rattle.std.proofs.Common.{◌≡◌, ℕ, Bool, true, false, List, [], ◌∷◌, ◌++◌, ◌+◌, ◌<◌, Option, Some, None, if◌then◌else◌, length, map}
 use Rattle.std.proofs.Common.{arith, length-append}
 use Rattle.std.proofs.lemmas.List.{length-map}
 use Rattle.pipe_model.specs.declared.region.Region.TheVariants as regions
 use Rattle.pipe_model.specs.Language.Marks.{marks_of, marks_of_cells, marks_of_expression, marks_of_statements, opening}
 use Rattle.pipe_model.specs.Language.SyntaxTree.{SyntaxTree}
 use Rattle.wave_laws.specs.Waves.MarkFlags.{first_true, flags_of_statements}
-use Rattle.wave_laws.specs.Waves.WaveFaults.{BadTest, HasStage, NoRow, RowSet, WaveRefusal, begins_with_row, first_row_set, first_stage}
-use Rattle.wave_laws.specs.Waves.WaveFaults.{is_number, is_stage_word, marks_before_body, row_fault, stage_fault_or, wave_fault}
+use Rattle.wave_laws.specs.Waves.WaveFaults.{BadTest, HasStage, NoRow, RowSet, first_row_set, first_stage}
+use Rattle.wave_laws.specs.Waves.WaveFaults.{marks_before_body, row_fault, stage_fault_or, wave_fault}
 use Rattle.wave_lower.proofs.ProgramFlags.{block_flags, same_length, stage_of}
 
 -- the number of the first flag that is true is within the list

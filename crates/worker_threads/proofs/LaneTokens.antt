@@ -1,13 +1,13 @@
 -- Sums over lanes, their seats and their ends.
-use Rattle.std.proofs.Common.{◌≡◌, ◌≤◌, ◌<◌, ◌+◌, ◌*◌, ◌∙◌, ◌++◌, ◌∷◌, [], ℕ, zero, suc, List, All, get_or, length, map, replicate, sum_by}
-use Rattle.std.proofs.Common.{refl, subst, sym, ap, ap₂, arith}
+use Rattle.std.proofs.Common.{◌≡◌, ◌≤◌, ◌<◌, ◌+◌, ◌∙◌, ◌++◌, ◌∷◌, [], ℕ, zero, suc, List, All, get_or, length, map, sum_by}
+use Rattle.std.proofs.Common.{refl, sym, ap, arith}
 use Rattle.std.proofs.lemmas.List.Folds.{sum_by-replicate}
 use Rattle.std.proofs.lemmas.List.Sums.{sum_by-cons, sum_by-le, sum_by_push}
 use Rattle.pipe_frame.specs.TokenCounts.{TokenCounts}
 use Rattle.pipe_frame.specs.declared.token.Task.{Task}
 use Rattle.worker_threads.specs.Lanes.{ends_in, seat_in}
 use Rattle.worker_threads.specs.TaskNumbers.{tokens_of_number}
-use Rattle.worker_threads.specs.TokensOut.{AreOut, LaneKeeps, NoneIsLost, came, given_by, returned_to, went}
+use Rattle.worker_threads.specs.TokensOut.{AreOut, LaneKeeps, NoneIsLost}
 use Rattle.worker_threads.specs.declared.lanes.Lane.{Lane}
 use Rattle.worker_threads.specs.declared.task_test.TestOf.{TestOf}
 use Rattle.worker_tasks.specs.HeldTokens.{put_by, taken_by}

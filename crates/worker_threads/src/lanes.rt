@@ -54,7 +54,7 @@ pub fn lanes<J: DrivenHall, M: Runs + Drop, H: Hall<M> + Drop>(
         let Some(seat) = seats.pop() else {
             unreachable!()
         };
-        let worker = Worker::new(alloc, lanes.len() as u32, ends);
+        let worker = Worker::new(lanes.len() as u32, ends);
         lanes.push(Lane { worker, seat })?;
     }
     Ok(lanes)

@@ -10,18 +10,16 @@ use Rattle.pipe_model.specs.declared.stage.StageEnd.{StageEnd}
 use Rattle.pipe_model.specs.declared.ticket.Entry.{Entry}
 use Rattle.pipe_model.specs.Runs.Allowed.{MayEnter, LeftHasPassed}
 use Rattle.pipe_model.specs.Pipelines.Behaviour.{Staged}
-use Rattle.pipe_model.specs.Races.Columns.{nodes_at}
 use Rattle.pipe_model.specs.Runs.RunLogs.{state_after}
-use Rattle.pipe_model.specs.Runs.State.{State, Frame, with_action, next_state, own_columns}
+use Rattle.pipe_model.specs.Runs.State.{State, Frame, with_action, next_state}
 use Rattle.pipe_model.specs.declared.status.Status.TheVariants.{Pending}
 use Rattle.pipe_model.specs.Language.SyntaxTree.{SyntaxTree}
 use Rattle.pipe_frame.specs.LeftCounters.{must_read_left}
 use Rattle.pipe_frame.specs.Ties.{Tie}
 use Rattle.pipe_frame.specs.TokenFields.{TokenFields}
 use Rattle.run_laws.proofs.RunStates.Frames.{frame_at_updated}
-use Rattle.run_laws.proofs.RunStates.GrowingColumns.{nodes_at_moved}
 use Rattle.frame_book.specs.BookStates.{BookState, TokenState, Out, Kept, Spent, events_of, state_of, last_ticket, with_events, item_or}
-use Rattle.frame_book.specs.CallEffects.{with_named, with_entered, kept_now, kept_folded, reads_left}
+use Rattle.frame_book.specs.CallEffects.{with_named, with_entered, kept_now, reads_left}
 use Rattle.frame_book.specs.GivenTokens.{IsOutOf}
 use Rattle.frame_book.specs.Invariant.{IsBook}
 use Rattle.frame_book.specs.Tables.{Tables}

@@ -13,7 +13,7 @@ use Rattle.hall_calls.proofs.instance.access_by.Goals as goal
 pub access-done-requires-clause-ready : goal.access-done-requires-clause-ready
 access-done-requires-clause-ready g c =
     let r = c.requires.runs.1 in
-    can_begin_in c.args.run.now.table_id c.args.run.now.me.0.it c.take_shard_of-shard.result c.get_mut-lent.result.now c.args.cell.0
+    can_begin_in c.args.run.now.table_id c.args.run.now.me.0.it c.take_shard_of-shard.result.0 c.get_mut-lent.result.now c.args.cell.0
     r.constants c.take_shard_of-shard.ensures.snapshot r.knows c.requires.cell c.get_mut-lent.ensures.value
 
 pub access-done-requires-clause-lists : goal.access-done-requires-clause-lists
@@ -33,7 +33,7 @@ return_shard-requires-clause-made g c =
     let r = q.1 in
     let x = c.get_mut-lent.result.now in
     let i = 1 + c.args.cell.0 % 16 in
-    let t = lent_shard g.row.M.Denot c.args.run.now.me c.take_shard_of-shard.new.run.me i c.take_shard_of-shard.result x
+    let t = lent_shard g.row.M.Denot c.args.run.now.me c.take_shard_of-shard.new.run.me i c.take_shard_of-shard.result.0 x
     c.get_mut-lent.ensures.value c.take_shard_of-shard.ensures.taken in
     let e = c.access-done.ensures in
     let m1 = c.take_shard_of-shard.new.run.me in
@@ -54,7 +54,7 @@ returns-clause-ran g c =
     let x = c.get_mut-lent.result.now in
     let y = c.access-done.new.self in
     let i = 1 + c.args.cell.0 % 16 in
-    let t = lent_shard g.row.M.Denot c.args.run.now.me c.take_shard_of-shard.new.run.me i c.take_shard_of-shard.result x
+    let t = lent_shard g.row.M.Denot c.args.run.now.me c.take_shard_of-shard.new.run.me i c.take_shard_of-shard.result.0 x
     c.get_mut-lent.ensures.value c.take_shard_of-shard.ensures.taken in
     let e = c.access-done.ensures in
     let v = c.args.run.now.me.0.it in

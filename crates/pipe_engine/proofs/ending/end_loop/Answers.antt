@@ -3,12 +3,11 @@ use Rattle.std.proofs.Common.{length, map, refl, subst, sym, List}
 use Rattle.std.specs.List.{list_any}
 use Rattle.std.specs.List.Sorted.{IsPermutation}
 use Rattle.access_history.specs.declared.history.Found.{Found}
-use Rattle.cell_store.specs.ShardState.{IsStateAfter}
 use Rattle.hall_headline.specs.EndedPrograms.{AreGathered}
 use Rattle.hall_headline.specs.HallEnds.{logs_of}
 use Rattle.hall_shards.specs.FoundRaces.{found_by}
-use Rattle.pipe_engine.proofs.LoopEnds.{can_be_merged, can_be_replayed, columns_of_book, finished_end}
-use Rattle.pipe_engine.proofs.LoopEnds.{hall_is_merged, log_of_hall, loop_end, races, serves_still, small_columns}
+use Rattle.pipe_engine.proofs.LoopEnds.{can_be_merged, cells_after, columns_of_book, finished_end}
+use Rattle.pipe_engine.proofs.LoopEnds.{hall_is_merged, log_of_hall, loop_end, parts, races, serves_still, small_columns}
 use Rattle.pipe_engine.proofs.NeededColumns.{found_if, reports_if, small_if, trap_if}
 use Rattle.program_ends.proofs.RunColumns.{HasSmallColumns}
 use Rattle.pipe_model.specs.declared.report.Report.{Report}
@@ -16,7 +15,9 @@ use Rattle.run_record.proofs.TrappedEvents.{books_without_traps_make_none}
 use Rattle.run_record.specs.OwnColumns.{made_columns}
 use Rattle.run_record.specs.TrappedEvents.{IsUntrapped, ends_trapped}
 use Rattle.serial_elision.specs.ColumnTraps.{least_trap}
-use Rattle.pipe_engine.specs.ShardAccesses.{AreInside, accesses_in_all}
+use Rattle.pipe_engine.specs.FinalCells.{ArePartsOf, HaveCellsAfter}
+use Rattle.pipe_model.specs.Runs.RunLogs.{accesses_after}
+use Rattle.pipe_model.specs.Runs.State.{accesses_of}
 use Rattle.pipe_model.specs.declared.access.CellId.{CellId}
 use Rattle.pipe_model.specs.declared.column.Column.{Column}
 use Rattle.pipe_model.specs.declared.ticket.BookEntry.{BookEntry}
@@ -37,17 +38,29 @@ found_map : {columns columns' : List Column} {fs fs' : List (CellId × Found)} �
 found_map e f = ap₂ (λ (l : List Column) (k : List (CellId × Found)). map (λ (x : CellId × Found). report_found (node_columns l) x.0 x.1) k)
     e f
 
-pub replay-requires-clause-inside : goal.replay-requires-clause-inside
-replay-requires-clause-inside g c =
+pub collect-requires-clause-count : goal.collect-requires-clause-count
+collect-requires-clause-count g c = c.requires.serves.count ∙ sym c.cell_count.ensures.count
+
+pub collect-requires-clause-whole : goal.collect-requires-clause-whole
+collect-requires-clause-whole g c = (c.requires.serves.whole.number, c.requires.serves.whole.shards)
+
+pub collect-requires-clause-all : goal.collect-requires-clause-all
+collect-requires-clause-all g c = ap length c.as_slice-2.ensures.value ∙ c.in_ok-book.ensures.len
+
+pub collect-requires-clause-parts : goal.collect-requires-clause-parts
+collect-requires-clause-parts g c =
     let end = c.in_ok-book.field-0 in
     let ensured = c.in_ok-book.ensures in
     let log = c.in_ok-book_log.ensures in
     let h = finished_end c.args.hall.before c.args.key.seen end.book end.shards.items ensured.len ensured.ended ensured.stop log.sound
     log.finished in
-    let cells = c.args.cells.shard.cells in
-    subst (All (AreInside cells)) (sym (c.as_slice-2.ensures.value ∙ c.in_ok-shard_logs.ensures))
-    (can_be_replayed (tree_of c.args.prepared.now.checked.now) c.args.prepared.now.input.now c.args.throttle c.args.hall end.book
-    end.shards.items cells c.requires.opened ensured.constants h c.requires.serves.count)
+    let tree = tree_of c.args.prepared.now.checked.now in
+    let input = c.args.prepared.now.input.now in
+    let of_hall = log_of_hall end.book end.shards.items in
+    let merged = hall_is_merged c.args.hall.before end.book end.shards.items h in
+    subst (ArePartsOf c.args.cells.shard) (sym c.as_slice-2.ensures.value)
+    (parts tree input c.args.throttle c.args.hall end.book end.shards.items of_hall c.requires.opened ensured.constants h merged refl
+    c.args.cells (init_accesses (whole_of tree input)) c.requires.state)
 
 pub gather-requires-clause-cells : goal.gather-requires-clause-cells
 gather-requires-clause-cells g c =
@@ -212,8 +225,11 @@ returns g c =
     (c.are_columns_needed-needed.ensures.trap e)) in
     let trap : c.least_trap-trap.result ≡ least_trap 0 run_log.columns = c.least_trap-trap.ensures
     ∙ (ap (least_trap 0) (c.as_slice-7.ensures ∙ columns_are) ∙ (trap_if needed full untrapped ∙ ap (least_trap 0) full_is)) in
-    let state = subst (λ (l : List (List ShardEntry)). IsStateAfter (store_of tree) (before ++ accesses_in_all l) c.replay.new.cells)
-    (c.as_slice-2.ensures.value ∙ c.in_ok-shard_logs.ensures) (c.replay.ensures.state (store_of tree) before c.requires.state) in
+    let run = accesses_of (accesses_after run_log.events) in
+    let shards_after = subst (HaveCellsAfter (store_of tree) (before ++ run)) (sym c.as_slice-2.ensures.value)
+    (cells_after tree input c.args.throttle c.args.hall end.book end.shards.items run_log c.requires.opened ensured.constants h merged
+    c.of_logs-run_log.ensures.columns) in
+    let state = c.collect.ensures.state (store_of tree) before run c.requires.state shards_after in
     loop_end tree input c.args.throttle c.args.hall end.book end.shards.items run_log c.requires.opened ensured.constants h
-    merged c.of_logs-run_log.ensures.columns reports c.least_trap-trap.result c.replay.new.cells gathered trap
-    (serves_still tree c.args.cells c.replay.new.cells c.replay.ensures.shard c.requires.serves) state
+    merged c.of_logs-run_log.ensures.columns reports c.least_trap-trap.result c.collect.new.cells gathered trap
+    (serves_still tree c.args.cells c.collect.new.cells c.collect.ensures.shard c.requires.serves) state

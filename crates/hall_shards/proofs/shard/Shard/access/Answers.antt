@@ -5,7 +5,7 @@ use Rattle.access_history.specs.KeptInstances.{KeptAreIn}
 use Rattle.pipe_model.specs.declared.access.Access.{Access}
 use Rattle.pipe_model.specs.Pipelines.Store.{HasReply, InitialStore}
 use Rattle.cell_store.specs.ShardState.{IsStateAfter}
-use Rattle.hall_shards.proofs.ShardAccesses.{not_err, kept_grow, lists_grow, marks_in_lists}
+use Rattle.hall_shards.proofs.ShardAccesses.{kept_grow, lists_grow, marks_in_lists}
 use Rattle.hall_shards.proofs.shard.Shard.access.Goals as goal
 
 pub note_in-requires-clause-kept : goal.note_in-requires-clause-kept
@@ -64,5 +64,5 @@ returns-clause-made g c =
       there = c.requires.ready.there;
       next = ap (λ n. n + 1) (most ∙ ap (λ n. max n c.args.now) last);
       bound = let small = c.if-most-ge-LAST_TICKET.false in omega (arith, small);
-      trace = not_err _ c.push.result c.push.ensures.ok (sym c.is_err-2.ensures.value ∙ c.if-is_err-2.false);
+      trace = c.note.ensures;
     }

@@ -36,8 +36,8 @@ unreachable-requires g c =
     ∙ get_or_default v.running i c.index_mut.result.now None within in
     slot_taken code cells v c.requires.play i c.requires.runs (sym slot ∙ c.in_default.is)
 
-pub access-requires-clause-pending : goal.access-requires-clause-pending
-access-requires-clause-pending g c =
+pub access-made-requires-clause-pending : goal.access-made-requires-clause-pending
+access-made-requires-clause-pending g c =
     let code = g.B.PlayedCode.code in
     let cells = g.B.PlayedCode.cells in
     let v = c.args.self.now in
@@ -48,8 +48,8 @@ access-requires-clause-pending g c =
     ∙ get_or_default v.running i c.index_mut.result.now None within in
     subst (λ o. IfSome o (λ (h : RunningIterationState). h.next ≡ actions.Access)) (sym slot ∙ c.in-Some.is) c.requires.next
 
-pub access-requires-clause-instance : goal.access-requires-clause-instance
-access-requires-clause-instance g c =
+pub access-made-requires-clause-instance : goal.access-made-requires-clause-instance
+access-made-requires-clause-instance g c =
     let code = g.B.PlayedCode.code in
     let cells = g.B.PlayedCode.cells in
     let v = c.args.self.now in
@@ -68,8 +68,8 @@ access-requires-clause-instance g c =
       ),
     )
 
-pub returns-in-Ok-clause-play : goal.returns-in-Ok-clause-play
-returns-in-Ok-clause-play g c =
+pub returns-clause-play : goal.returns-clause-play
+returns-clause-play g c =
     let code = g.B.PlayedCode.code in
     let cells = g.B.PlayedCode.cells in
     let inside = c.self.inside in
@@ -88,18 +88,18 @@ returns-in-Ok-clause-play g c =
     let kept = sym (get_or_default inside.running.items i c.index_mut.result.now None within)
     ∙ sym c.index_mut.ensures.value ∙ c.in-Some.is in
     let input = c.requires.input ∙ ap (λ (x : PlayState). x.book.input) (sym c.self.view_is) in
-    let ensured = c.in-Ok.ensures in
+    let ensured = c.access-made.ensures in
     let ticket = c.len.ensures in
-    let made = access_made code cells w h i runs c.in-Some.running kept c.args.input.now input c.in-Ok.access c.access.new.self
-    c.access.new.cells
-    ensured.instance ensured.event (subst (λ n. c.access.new.self.token ≡ record c.in-Some.running.token { now = n + 1 }) ticket
+    let made = access_made code cells w h i runs c.in-Some.running kept c.args.input.now input c.access-made.result c.access-made.new.self
+    c.access-made.new.cells
+    ensured.instance ensured.event (subst (λ n. c.access-made.new.self.token ≡ record c.in-Some.running.token { now = n + 1 }) ticket
     ensured.fields)
-    (subst (λ n. c.access.new.self.trace ≡ c.in-Some.running.trace ++ record { ticket = n + 1; access = c.in-Ok.access } ∷ [])
+    (subst (λ n. c.access-made.new.self.trace ≡ c.in-Some.running.trace ++ record { ticket = n + 1; access = c.access-made.result } ∷ [])
     ticket ensured.trace) ensured.state ensured.shard in
     map_ok c.append.result c.append.ensures (λ u appended. rw appended made.1)
 
-pub returns-in-Ok-clause-event : goal.returns-in-Ok-clause-event
-returns-in-Ok-clause-event g c = map_ok c.append.result c.append.ensures (λ u appended e next.
+pub returns-clause-event : goal.returns-clause-event
+returns-clause-event g c = map_ok c.append.result c.append.ensures (λ u appended e next.
     let code = g.B.PlayedCode.code in
     let cells = g.B.PlayedCode.cells in
     let inside = c.self.inside in
@@ -118,14 +118,14 @@ returns-in-Ok-clause-event g c = map_ok c.append.result c.append.ensures (λ u a
     let kept = sym (get_or_default inside.running.items i c.index_mut.result.now None within)
     ∙ sym c.index_mut.ensures.value ∙ c.in-Some.is in
     let input = c.requires.input ∙ ap (λ (x : PlayState). x.book.input) (sym c.self.view_is) in
-    let ensured = c.in-Ok.ensures in
+    let ensured = c.access-made.ensures in
     let ticket = c.len.ensures in
-    let made = access_made code cells w h i runs c.in-Some.running kept c.args.input.now input c.in-Ok.access c.access.new.self
-    c.access.new.cells
-    ensured.instance ensured.event (subst (λ n. c.access.new.self.token ≡ record c.in-Some.running.token { now = n + 1 }) ticket
+    let made = access_made code cells w h i runs c.in-Some.running kept c.args.input.now input c.access-made.result c.access-made.new.self
+    c.access-made.new.cells
+    ensured.instance ensured.event (subst (λ n. c.access-made.new.self.token ≡ record c.in-Some.running.token { now = n + 1 }) ticket
     ensured.fields)
-    (subst (λ n. c.access.new.self.trace ≡ c.in-Some.running.trace ++ record { ticket = n + 1; access = c.in-Ok.access } ∷ [])
+    (subst (λ n. c.access-made.new.self.trace ≡ c.in-Some.running.trace ++ record { ticket = n + 1; access = c.access-made.result } ∷ [])
     ticket ensured.trace) ensured.state ensured.shard in
     let there = subst (λ (x : PlayState). next_event (pipeline_played x) (run_state x) i ≡ Some e) (sym c.self.view_is) next in
-    let same : events.Access i c.in-Ok.access ≡ e = (let q = sym made.0 ∙ there in cc) in
+    let same : events.Access i c.access-made.result ≡ e = (let q = sym made.0 ∙ there in cc) in
     appended ∙ (ap (λ x. inside.events ++ x ∷ []) same ∙ ap (λ (x : PlayState). x.events ++ e ∷ []) c.self.view_is))

@@ -1,4 +1,4 @@
-use Rattle.std.proofs.Common.{◌∙◌, ◌++◌, ◌∷◌, [], List, ap, subst, sym}
+use Rattle.std.proofs.Common.{◌++◌, ◌∷◌, [], List, subst, sym}
 use Rattle.pipe_frame.specs.Replies.{accessed}
 use Rattle.pipe_model.specs.declared.ticket.Entry.{Entry}
 use Rattle.pipe_model.specs.Pipelines.Behaviour.{behaviour_after_all}
@@ -13,14 +13,14 @@ returns-clause-goes_on c = λ t under_way.
     let input = c.args.input.now in
     let run = c.args.machine.now.run in
     let now = c.make_access-rest.new.machine.run in
-    let trace = c.args.self.now.trace.items in
+    let trace = c.args.self.now.trace in
     let next = c.args.self.now.next in
     let a = c.make_access-rest.result.0 in
     let e = c.make_access-rest.result.1 in
     let entry : Entry = record { ticket = c.args.ticket; access = a } in
     let ran = c.make_access-rest.ensures.ran (behaviour_after_all t (accessed trace))
     (stopped_here code cells input t run trace next c.requires.pending under_way) in
-    let items = c.push_reserved.ensures.items ∙ ap (λ (l : List Entry). l ++ entry ∷ []) c.in_ok-reserve.ensures.items in
+    let items = c.note.ensures in
     let after = goes_on code cells input t run now trace next e a c.args.ticket under_way ran in
     subst (λ (l : List Entry). IsUnderWay code cells input t now l c.action_at-self.result) (sym items)
     (subst (IsUnderWay code cells input t now (trace ++ entry ∷ [])) (sym c.action_at-self.ensures) after)
@@ -31,7 +31,7 @@ returns-clause-event c = λ t p before i under_way state.
     let cells = c.args.cells.now.shard.cells in
     let input = c.args.input.now in
     let run = c.args.machine.now.run in
-    let trace = c.args.self.now.trace.items in
+    let trace = c.args.self.now.trace in
     let ran = c.make_access-rest.ensures.ran (behaviour_after_all t (accessed trace))
     (stopped_here code cells input t run trace c.args.self.now.next c.requires.pending under_way) in
     access_is_next code cells input t c.make_access-rest.new.machine.run trace c.make_access-rest.result.1 c.make_access-rest.result.0 p

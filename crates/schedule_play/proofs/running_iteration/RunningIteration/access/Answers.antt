@@ -14,21 +14,21 @@ returns-clause-instance g c = λ tree replies instance.
     let served = c.args.cells.now.shard.cells in
     let input = c.args.input.now in
     let old = c.self.inside in
-    let new = c.access.new.self in
-    let run = c.access.new.machine.run in
+    let new = c.access-access.new.self in
+    let run = c.access-access.new.machine.run in
     let t = after_instances ((pipeline_of tree input).behaviour old.token.iteration) replies in
     let here = subst (IsRunningIteration code cells tree input replies) (sym c.self.view_is) instance in
     let lent = sym c.get_mut-machine.ensures.value in
-    let under_way = subst (λ (m : MachineState). IsUnderWay code cells input t m.run old.running.trace.items old.running.next) lent
+    let under_way = subst (λ (m : MachineState). IsUnderWay code cells input t m.run old.running.trace old.running.next) lent
     here.under_way in
     let machine = c.get_mut-machine.result.now in
-    let before = subst (λ (x : FlatCode). IsUnderWay x served input t machine.run old.running.trace.items old.running.next)
+    let before = subst (λ (x : FlatCode). IsUnderWay x served input t machine.run old.running.trace old.running.next)
     (sym c.requires.code)
-    (subst (λ (n : ℕ). IsUnderWay code n input t machine.run old.running.trace.items old.running.next) (sym c.requires.cells) under_way) in
+    (subst (λ (n : ℕ). IsUnderWay code n input t machine.run old.running.trace old.running.next) (sym c.requires.cells) under_way) in
     let made = subst (IsMadeFor code) lent here.whole.made in
-    let after = c.in_ok-access.ensures.goes_on t before in
+    let after = c.access-access.ensures.goes_on t before in
     record {
-      whole = record { code_of = here.whole.code_of; made = c.access.ensures.made code made; served = here.whole.served };
-      under_way = subst (λ (n : ℕ). IsUnderWay code n input t run new.trace.items new.next) c.requires.cells
-          (subst (λ (x : FlatCode). IsUnderWay x served input t run new.trace.items new.next) c.requires.code after);
+      whole = record { code_of = here.whole.code_of; made = c.access-access.ensures.made code made; served = here.whole.served };
+      under_way = subst (λ (n : ℕ). IsUnderWay code n input t run new.trace new.next) c.requires.cells
+          (subst (λ (x : FlatCode). IsUnderWay x served input t run new.trace new.next) c.requires.code after);
     }

@@ -1,13 +1,11 @@
-use Rattle.std.proofs.Common.{◌≡◌, ◌∙◌, ◌++◌, ◌∷◌, [], List, ap, subst, sym}
-use Rattle.pipe_frame.specs.Replies.{IsPerformed, after_instances, replies_of}
-use Rattle.pipe_model.specs.declared.ticket.Entry.{Entry}
+use Rattle.std.proofs.Common.{◌≡◌, ◌∙◌, ap, subst, sym}
+use Rattle.pipe_frame.specs.Replies.{after_instances, replies_of}
 use Rattle.pipe_model.specs.Language.SyntaxTree.{tree_of}
 use Rattle.stage_interp.specs.RemainingBehaviour.{Represents}
 use Rattle.frame_book.specs.BookStates.{pipeline_in, replies_at}
 use Rattle.schedule_play.specs.declared.running_instance.NextAction.TheVariants as actions
 use Rattle.schedule_play.specs.RunningIterations.{RunningIterationState, IsRunningIteration}
 use Rattle.schedule_play.specs.RunningInstances.{IsUnderWay}
-use Rattle.schedule_play.specs.Runners.{IsAtInstance}
 use Rattle.schedule_play.proofs.UnderWay.{after_instances-push, instance_ends}
 use Rattle.schedule_play.proofs.running_iteration.RunningIteration.end.Goals as goal
 
@@ -25,10 +23,10 @@ name_next-requires-clause-performs g c =
     let at : inside.running.next ≡ actions.End c.args.end = ap (λ (h : RunningIterationState). h.next) c.self.view_is ∙ c.requires.ends in
     let t = after_instances ((pipeline_in book).behaviour i) replies in
     let run = inside.token.payload.machine.run in
-    let trace = inside.running.trace.items in
+    let trace = inside.running.trace in
     let under_way = subst (IsUnderWay g.B.PlayedCode.code g.B.PlayedCode.cells book.input t run trace) at instance.under_way in
     let ends = instance_ends g.B.PlayedCode.code g.B.PlayedCode.cells book.input t run trace c.args.end under_way in
-    subst (λ (l : List Entry). IsPerformed (pipeline_in book) i replies l c.args.end) (sym c.from_vec.ensures) ends.performs
+    ends.performs
 
 pub name_next-requires-clause-ready : goal.name_next-requires-clause-ready
 name_next-requires-clause-ready g c = λ names.
@@ -42,14 +40,12 @@ name_next-requires-clause-ready g c = λ names.
     (tree_of book.program) book.input (replies_at book h.token.iteration) h) (sym c.self.view_is) c.requires.instance in
     let at : inside.running.next ≡ actions.End c.args.end = ap (λ (h : RunningIterationState). h.next) c.self.view_is ∙ c.requires.ends in
     let machine = inside.token.payload.machine in
-    let trace = inside.running.trace.items in
+    let trace = inside.running.trace in
     let d = (pipeline_in book).behaviour i in
     let under_way = subst (IsUnderWay code cells book.input (after_instances d replies) machine.run trace) at instance.under_way in
     let ends = instance_ends code cells book.input (after_instances d replies) machine.run trace c.args.end under_way in
-    subst (λ (l : List Entry). IsAtInstance code cells (tree_of book.program) book.input machine i (replies ++ replies_of l ∷ []))
-    (sym c.from_vec.ensures)
-    (record {
+    record {
       whole = instance.whole;
       represents = subst (Represents code cells book.input machine.run) (sym (after_instances-push d replies (replies_of trace)))
           (ends.represents names);
-    })
+    }
