@@ -21,6 +21,7 @@ ghost use Rattle.pipe_frame.specs.StageEndCases.{NamesNextStage};
 ghost use Rattle.pipe_frame.specs.Ties.{KnowsMarks, BelongsTo};
 ghost use Rattle.pipe_frame.specs.TokenFields.{fields_of};
 ghost use Rattle.pipe_frame.specs.ResultTokens.{IfStarted, IfGo, IfNothing, IfToken};
+ghost use Rattle.frame_book.specs.RightNeighbours.{StartsNothing};
 ghost use Rattle.frame_book.specs.BookStates.{HasRisingTickets, actions_at, events_of, state_of, with_events, with_last_raised, left_of};
 ghost use Rattle.frame_book.specs.BookStates.{pipeline_in, replies_at, item_or, last_ticket, IsOut, Spent};
 ghost use Rattle.pipe_frame.specs.Replies.{IsPerformed, accessed, replies_of};
@@ -564,6 +565,20 @@ impl<M: Payload<L>, L: ListWriter + Drop> Book<M, L> {
             return None;
         }
         Some(self.enter_named(iteration))
+    }
+
+    /// Returns whether `check_right` of this iteration would return a token.
+    pub fn right_may_start(&self, iteration: u32) -> bool
+        ensures yes { IsTrue result → ((state_of self.now).stopped ≡ false) × MayEnter (state_of self.now) (iteration + 1) }
+        ensures no { result ≡ false → StartsNothing (state_of self.now) (iteration + 1) }
+    {
+        if self.stopped {
+            return false;
+        }
+        if iteration as usize + 1 >= self.rows.len() {
+            return false;
+        }
+        may_enter(self.rows.as_slice(), iteration + 1)
     }
 
     /// Does `enter` for the right neighbour of an iteration.

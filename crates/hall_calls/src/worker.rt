@@ -13,8 +13,9 @@ ghost use Rattle.pipe_frame.specs.SeatedTokens.{IsGivenToken, IsSeated, seated_e
 ghost use Rattle.pipe_frame.specs.TokenCounts.{Exchanges, tokens_begun, tokens_entered, tokens_next, tokens_rescued};
 ghost use Rattle.pipe_frame.specs.TokenFields.{fields_of};
 ghost use Rattle.pipe_frame.specs.ResultTokens.{IfGo, IfStarted, IfToken};
-ghost use Rattle.frame_book.specs.BookStates.{BookState, events_of};
+ghost use Rattle.frame_book.specs.BookStates.{BookState, events_of, state_of};
 ghost use Rattle.frame_book.specs.GivenTokens.{IsGivenBy};
+ghost use Rattle.frame_book.specs.RightNeighbours.{StartsNothing};
 ghost use Rattle.hall_table.specs.BookCalls.{IsBookCall};
 ghost use Rattle.hall_table.specs.HallRule.{view_of};
 ghost use Rattle.hall_table.specs.SeatViews.{InstanceData, constants_of};
@@ -214,11 +215,23 @@ pub fn leave_ready_at<R: Wait, M: Carrier>(
     hall.return_book(seat, book);
 }
 
-/// Ends the instance of the token.
+// Returns the iteration, if its right neighbour has nothing to start.
+fn barred_right<M: Carrier>(book: &Book<M, OmWriter>, iteration: u32) -> Option<u32>
+    ensures { IfSome result (λ i. StartsNothing (state_of book.now) (i + 1)) }
+{
+    if book.right_may_start(iteration) {
+        return None;
+    }
+    Some(iteration)
+}
+
+/// Ends the instance of the token. Notes its iteration in `barred` if the right neighbour has nothing to
+/// start then: `check_right_at` would return `None` after the events seen.
 pub fn advance_at<R: Wait, M: Carrier>(
     rt: &R,
     hall: &Locks<M>,
     seat: &mut Seat<Slot<M>, View>,
+    barred: &mut Option<u32>,
     mut token: FrameToken<M>,
     end: StageEnd,
     trace: Trace,
@@ -241,7 +254,10 @@ pub fn advance_at<R: Wait, M: Carrier>(
     ensures tokens { Exchanges (tokens_next result) 1 seat.old.me.0.it.tokens seat.new.me.0.it.tokens }
     ensures runs { IfGo result (λ t. IsTokenOf seat.new.me.0.it.seen (fields_of t)) }
     ensures token { IfGo result (IsGivenToken M.ready_at M.tie (hall_of seat.old.table_id seat.old.me)) }
+    ensures barred { IfSome barred.new (λ i. StartsNothing (state_after seat.new.me.0.it.seen) (i + 1)) }
 {
+    let iteration = token.iteration;
+    *barred = None;
     let mut book = take_back(rt, hall, seat, &mut token);
     let lent = book.get_mut();
     let next = lent.advance(token, end, trace);
@@ -249,6 +265,7 @@ pub fn advance_at<R: Wait, M: Carrier>(
     match next {
         Next::Go(token) => Next::Go(return_token(hall, seat, book, token)),
         next => {
+            *barred = barred_right(lent, iteration);
             hall.return_book(seat, book);
             next
         }

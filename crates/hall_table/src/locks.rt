@@ -88,6 +88,9 @@ impl<M: Carrier> Locks<M> {
             × (seat.new.me ≡ (view_of (holding seat.old.me.0.it lock x), (place lock, Slot.Out) ∷ seat.old.me.1))
             × IsSnapshot seat.old.me.0.it lock x }
     {
+        if let Some(value) = self.try_take(seat, lock) {
+            return value;
+        }
         let mut looks = 0u32;
         for _ in rt.forever() {
             if self.seems_free(lock) {

@@ -27,12 +27,16 @@ use std::sync::Wait;
 /// seen, and how many tokens its calls have given and taken back. `access` waits for the lock of one
 /// shard, and asks the order lists without the lock of the book; if it may have to ask them before they
 /// have labels, it first waits for the lock of the book, without a shard, and labels them. The other
-/// calls of `Hall` wait for the lock of the book, once each. An access whose ticket would be above 2^62
-/// is not made, and stops the run as one that runs out of memory does.
+/// calls of `Hall` wait for the lock of the book, once each, but for `check_right`: `advance` looks at the
+/// right neighbour too, and if that has nothing to start, a `check_right` right after it returns `None`
+/// by that look. An access whose ticket would be above 2^62 is not made, and stops the run as one that
+/// runs out of memory does.
 #[derive(Drop)]
 pub struct HallSeat<'a, M: Carrier> {
     hall: &'a HallOf<M>,
     seat: Seat<Slot<M>, View>,
+    // The iteration whose right neighbour has nothing to start, if the last call has seen that.
+    barred: Option<u32>,
 }
 
 impl<'a, M: Carrier> Model for HallSeat<'a, M> {
@@ -40,6 +44,9 @@ impl<'a, M: Carrier> Model for HallSeat<'a, M> {
     ghost use Rattle.pipe_model.specs.contracts.tree.Stmt as stmt;
     ghost use Rattle.std.specs.Coded.{codes};
     ghost use Rattle.std.specs.Prelude.{◌≡◌};
+    ghost use Rattle.std.specs.Prelude.{◌+◌, IfSome};
+    ghost use Rattle.pipe_model.specs.Runs.RunLogs.{state_after};
+    ghost use Rattle.frame_book.specs.RightNeighbours.{StartsNothing};
     ghost use Rattle.hall_table.specs.WorkerSeats.{IsIdle, WorkerSeat};
 
     ghost Value = { WorkerSeat };
@@ -53,7 +60,8 @@ impl<'a, M: Carrier> Model for HallSeat<'a, M> {
       tokens = s.seat.me.0.it.tokens;
     } };
 
-    ghost invariant = { λ s. IsIdle s.seat.me × (s.seat.table_id ≡ s.hall.now.hall.table) };
+    ghost invariant = { λ s. IsIdle s.seat.me × (s.seat.table_id ≡ s.hall.now.hall.table)
+        × IfSome s.barred (λ i. StartsNothing (state_after s.seat.me.0.it.seen) (i + 1)) };
 }
 
 impl<'a, M: Carrier> Hall<M> for HallSeat<'a, M> {
@@ -80,6 +88,7 @@ impl<'a, M: Carrier> Hall<M> for HallSeat<'a, M> {
 
     fn begin<R: Wait>(&mut self, rt: &R) -> Begun<M> {
         let hall = self.hall;
+        self.barred = None;
         begin_at(rt, &hall.locks, &mut self.seat)
     }
 
@@ -107,16 +116,29 @@ impl<'a, M: Carrier> Hall<M> for HallSeat<'a, M> {
         ensures runs { IfGo result (λ t. IsTokenOf self.new.seen (fields_of t)) }
     {
         let hall = self.hall;
-        advance_at(rt, &hall.locks, &mut self.seat, token, end, trace)
+        advance_at(
+            rt,
+            &hall.locks,
+            &mut self.seat,
+            &mut self.barred,
+            token,
+            end,
+            trace,
+        )
     }
 
     fn check_right<R: Wait>(&mut self, rt: &R, iteration: u32) -> Option<FrameToken<M>> {
+        if self.barred == Some(iteration) {
+            return None;
+        }
         let hall = self.hall;
+        self.barred = None;
         check_right_at(rt, &hall.locks, &mut self.seat, iteration)
     }
 
     fn rescue<R: Wait>(&mut self, rt: &R) -> Rescue<M> {
         let hall = self.hall;
+        self.barred = None;
         rescue_at(rt, &hall.locks, &mut self.seat)
     }
 
@@ -131,6 +153,7 @@ impl<'a, M: Carrier> Hall<M> for HallSeat<'a, M> {
         ensures seen_runs { ControlRun (hall_name self.new.hall).limit self.new.seen (state_after self.new.seen) }
     {
         let hall = self.hall;
+        self.barred = None;
         leave_ready_at(rt, &hall.locks, &mut self.seat, token);
     }
 
@@ -143,6 +166,7 @@ impl<'a, M: Carrier> Hall<M> for HallSeat<'a, M> {
         write: Option<i64>,
     ) -> Reply {
         let hall = self.hall;
+        self.barred = None;
         access_at(rt, &hall.locks, &mut self.seat, token, trace, cell, write)
     }
 }
@@ -154,14 +178,18 @@ impl<'a, M: Carrier> HallSeat<'a, M> {
         ensures { result ≡ key }
     {
         let HallKey { seat } = key;
-        HallSeat { hall, seat }
+        HallSeat {
+            hall,
+            seat,
+            barred: None,
+        }
     }
 
     /// Returns the seat without its hall.
     pub fn into_key(self) -> HallKey<M>
         ensures { result ≡ self.entry }
     {
-        let HallSeat { hall: _, seat } = self;
+        let HallSeat { seat, .. } = self;
         HallKey { seat }
     }
 
@@ -171,9 +199,14 @@ impl<'a, M: Carrier> HallSeat<'a, M> {
         ensures new { result ≡ record self.old { tokens = no_tokens } }
     {
         let hall = self.hall;
+        self.barred = None;
         let shared = &hall.locks.table.shared;
         let seat = shared.split_seat::<SplitsWorker>(&mut self.seat);
-        HallSeat { hall, seat }
+        HallSeat {
+            hall,
+            seat,
+            barred: None,
+        }
     }
 
     /// Takes in the seat of a worker of the same hall that has nothing to do any more. It has then
@@ -187,6 +220,7 @@ impl<'a, M: Carrier> HallSeat<'a, M> {
     {
         let HallKey { seat } = other;
         let hall = self.hall;
+        self.barred = None;
         let shared = &hall.locks.table.shared;
         shared.join_seat::<JoinsWorker>(&mut self.seat, seat);
         shared.load::<Meets>(&mut self.seat, 0);

@@ -1,5 +1,6 @@
 -- The instance has ended; its iteration goes on at once, or not.
-use Rattle.std.proofs.Common.{◌≡◌, ◌∙◌, ◌++◌, ◌∷◌, [], sym, ap, subst, refl, Some}
+use Rattle.std.proofs.Common.{◌≡◌, ◌∙◌, ◌+◌, ◌++◌, ◌∷◌, [], IfSome, sym, ap, subst, refl, Some}
+use Rattle.pipe_model.specs.Runs.RunLogs.{state_after}
 use Rattle.pipe_model.specs.Runs.StageEnds.{stage_end_events}
 use Rattle.pipe_model.specs.declared.event.Event.TheVariants.{Enter}
 use Rattle.pipe_frame.specs.CallResults.{AdvanceReturns, advance_events}
@@ -10,10 +11,12 @@ use Rattle.frame_book.specs.GivenTokens.{IsOutOf}
 use Rattle.pipe_frame.specs.declared.results.Next.TheVariants as nexts
 use Rattle.pipe_frame.specs.declared.token.FrameToken.{FrameToken}
 use Rattle.frame_book.specs.BookStates.{HasRisingTickets, Out, events_of, state_of}
+use Rattle.frame_book.specs.RightNeighbours.{StartsNothing}
 use Rattle.hall_table.specs.SeatViews.{constants_of}
 use Rattle.hall_calls.proofs.BookCalls.{stopped_later}
 use Rattle.hall_calls.proofs.EndingCalls.{enters_not_stopped, goes_on}
-use Rattle.hall_calls.proofs.TakenBooks.{advanced, ended_without, hall_is, knows_after, lent_with, none_goes, runs_after, sees, stays_idle}
+use Rattle.hall_calls.proofs.TakenBooks.{advanced, ended_without, hall_is, knows_after, lent_with}
+use Rattle.hall_calls.proofs.TakenBooks.{none_goes, runs_after, seen_after, sees, stays_idle}
 use Rattle.pipe_frame.specs.TokenCounts.{Exchanges}
 use Rattle.hall_calls.proofs.TokenMoves.{none_next, token_returned, token_given_and_returned}
 use Rattle.hall_calls.proofs.worker.advance_at.Goals as goal
@@ -117,6 +120,8 @@ returns-in_default g c =
           (token_returned g.row.M.Denot m n z b x t.0 t.1 c.return_book.ensures.given);
       runs = none_goes r _ c.in_default.not-Go;
       token = none_goes r _ c.in_default.not-Go;
+      barred = subst (λ es. IfSome c.barred_right.result (λ i. StartsNothing (state_after es) (i + 1)))
+          (sym (seen_after g.row.M.Denot m n b (Some t.0) t.1 z x _ c.return_book.ensures.given)) c.barred_right.ensures;
     }
 
 pub returns-in-Go-clause-tokens : goal.returns-in-Go-clause-tokens

@@ -42,4 +42,5 @@ invariant_of-self g c =
           (ap (λ (k : ViewAndSlots g.row.M.Denot). k.0.it.run) e.2 ∙ i.run)
           (ap (λ (k : ViewAndSlots g.row.M.Denot). k.0.it.held) e.2 ∙ i.held) (ap (λ (k : ViewAndSlots g.row.M.Denot). k.1) e.2 ∙ i.slots),
       q.0 ∙ (e.0 ∙ c.self.invariant.1),
+      tt,
     )

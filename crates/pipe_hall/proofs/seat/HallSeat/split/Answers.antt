@@ -15,9 +15,9 @@ split_seat-seat-requires g c =
 pub invariant_of-self : goal.invariant_of-self
 invariant_of-self g c =
     let e = c.split_seat-seat.ensures in
-    (idle_after _ c.self.inside.seat.me e.2 c.self.invariant.0, e.0 ∙ c.self.invariant.1)
+    (idle_after _ c.self.inside.seat.me e.2 c.self.invariant.0, e.0 ∙ c.self.invariant.1, tt)
 
 pub invariant_of-result : goal.invariant_of-result
 invariant_of-result g c =
     let e = c.split_seat-seat.ensures in
-    (idle_after _ _ e.4 (idle_copy g.row.M.Denot c.self.inside.seat.me c.self.invariant.0), e.3 ∙ c.self.invariant.1)
+    (idle_after _ _ e.4 (idle_copy g.row.M.Denot c.self.inside.seat.me c.self.invariant.0), e.3 ∙ c.self.invariant.1, tt)
