@@ -1,6 +1,5 @@
 pub mod TicketLog
 pub mod BookStates
-pub mod RightNeighbours
 pub mod CallEffects
 pub mod GivenTokens
 pub mod Tables

@@ -1,7 +1,7 @@
 //! The book, and its calls.
 
 ghost use Rattle.std.specs.Prelude.{◌≡◌, ◌≢◌, ◌↔◌, ◌+◌, ◌-◌, ◌*◌, ◌<◌, ◌≤◌, ◌^◌, [], ◌∷◌, ◌++◌, true, false, IsTrue, None, cond, ◌||◌};
-ghost use Rattle.std.specs.Prelude.{length, All, IfOk, IfSome, ℕ};
+ghost use Rattle.std.specs.Prelude.{length, All, IfNone, IfOk, IfSome, ℕ};
 ghost use Rattle.pipe_model.specs.Runs.Allowed.{IsRunning, LeftHasPassed, MayBegin, MayEnter};
 ghost use Rattle.pipe_model.specs.Runs.Run.{IsFinished};
 ghost use Rattle.pipe_model.specs.Pipelines.Behaviour.{Performs, Staged, Ended, closes_at_once};
@@ -16,12 +16,11 @@ ghost use Rattle.pipe_model.specs.Language.SyntaxTree.{tree_of};
 ghost use Rattle.pipe_model.specs.declared.event.Event.TheVariants as events;
 ghost use Rattle.pipe_model.specs.Runs.State.{frame_at};
 ghost use Rattle.pipe_frame.specs.CallResults.{resume_events, BeginReturns, AdvanceReturns, NameReturns, EnterReturns, RescueReturns};
-ghost use Rattle.pipe_frame.specs.CallResults.{CanGoOn};
+ghost use Rattle.pipe_frame.specs.CallResults.{CanGoOn, StartsNothing};
 ghost use Rattle.pipe_frame.specs.StageEndCases.{NamesNextStage};
 ghost use Rattle.pipe_frame.specs.Ties.{KnowsMarks, BelongsTo};
 ghost use Rattle.pipe_frame.specs.TokenFields.{fields_of};
 ghost use Rattle.pipe_frame.specs.ResultTokens.{IfStarted, IfGo, IfNothing, IfToken};
-ghost use Rattle.frame_book.specs.RightNeighbours.{StartsNothing};
 ghost use Rattle.frame_book.specs.BookStates.{HasRisingTickets, actions_at, events_of, state_of, with_events, with_last_raised, left_of};
 ghost use Rattle.frame_book.specs.BookStates.{pipeline_in, replies_at, item_or, last_ticket, IsOut, Spent};
 ghost use Rattle.pipe_frame.specs.Replies.{IsPerformed, accessed, replies_of};
@@ -78,11 +77,11 @@ pub struct Book<M: Payload<L>, L: ListWriter + Drop> {
     // What each call changes comes first, close together: with several threads each of its cache lines
     // comes from the thread that called before.
     ledger: Tickets,
-    rows: Vec<Iteration<M>>,
     reads: u64,
     closed: bool,
     stopped: bool,
     orders: TwoOrders<L>,
+    rows: Vec<Iteration<M>>,
     places: Places,
     // In order. Some may have ended; `rescue` drops those.
     alive: Vec<u32>,
@@ -558,13 +557,32 @@ impl<M: Payload<L>, L: ListWriter + Drop> Book<M, L> {
         ensures now { IfSome result (λ t. t.now ≡ last_ticket self.new.log) }
         ensures folded { IfSome result (λ t. t.folded ≡ kept_folded (item_or Spent self.old.tokens iteration)) }
     {
-        if self.stopped {
-            return None;
-        }
-        if !may_enter(self.rows.as_slice(), iteration) {
+        if !self.may_start(iteration) {
             return None;
         }
         Some(self.enter_named(iteration))
+    }
+
+    // Returns whether `enter` of this iteration would return a token.
+    fn may_start(&self, iteration: u32) -> bool
+        ensures yes { IsTrue result → ((state_of self.now).stopped ≡ false) × MayEnter (state_of self.now) iteration }
+        ensures no { result ≡ false → StartsNothing (state_of self.now) iteration }
+    {
+        if self.stopped {
+            return false;
+        }
+        may_enter(self.rows.as_slice(), iteration)
+    }
+
+    // Returns the right neighbour of an iteration, if it has begun.
+    fn right_of(&self, iteration: u32) -> Option<u32>
+        ensures some { IfSome result (λ right. right ≡ iteration + 1) }
+        ensures none { IfNone result (MayEnter (state_of self.now) (iteration + 1) → ⊥) }
+    {
+        if iteration as usize + 1 >= self.rows.len() {
+            return None;
+        }
+        Some(iteration + 1)
     }
 
     /// Returns whether `check_right` of this iteration would return a token.
@@ -572,13 +590,10 @@ impl<M: Payload<L>, L: ListWriter + Drop> Book<M, L> {
         ensures yes { IsTrue result → ((state_of self.now).stopped ≡ false) × MayEnter (state_of self.now) (iteration + 1) }
         ensures no { result ≡ false → StartsNothing (state_of self.now) (iteration + 1) }
     {
-        if self.stopped {
-            return false;
+        match self.right_of(iteration) {
+            Some(right) => self.may_start(right),
+            None => false,
         }
-        if iteration as usize + 1 >= self.rows.len() {
-            return false;
-        }
-        may_enter(self.rows.as_slice(), iteration + 1)
     }
 
     /// Does `enter` for the right neighbour of an iteration.
@@ -589,10 +604,8 @@ impl<M: Payload<L>, L: ListWriter + Drop> Book<M, L> {
         ensures now { IfSome result (λ t. t.now ≡ last_ticket self.new.log) }
         ensures folded { IfSome result (λ t. t.folded ≡ kept_folded (item_or Spent self.old.tokens (iteration + 1))) }
     {
-        if iteration as usize + 1 >= self.rows.len() {
-            return None;
-        }
-        self.enter(iteration + 1)
+        let right = self.right_of(iteration)?;
+        self.enter(right)
     }
 
     /// Returns the first that holds: the run was stopped; it is finished; the token of the least

@@ -15,7 +15,7 @@ ghost use Rattle.pipe_frame.specs.TokenFields.{fields_of};
 ghost use Rattle.pipe_frame.specs.ResultTokens.{IfGo, IfStarted, IfToken};
 ghost use Rattle.frame_book.specs.BookStates.{BookState, events_of, state_of};
 ghost use Rattle.frame_book.specs.GivenTokens.{IsGivenBy};
-ghost use Rattle.frame_book.specs.RightNeighbours.{StartsNothing};
+ghost use Rattle.pipe_frame.specs.CallResults.{StartsNothing};
 ghost use Rattle.hall_table.specs.BookCalls.{IsBookCall};
 ghost use Rattle.hall_table.specs.HallRule.{view_of};
 ghost use Rattle.hall_table.specs.SeatViews.{InstanceData, constants_of};

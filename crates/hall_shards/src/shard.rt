@@ -1,6 +1,6 @@
 //! Shards of the cells.
 
-ghost use Rattle.std.specs.Prelude.{◌≡◌, ◌++◌, ◌∷◌, [], ◌+◌, ◌≤◌, ◌<◌, ◌^◌, ◌/◌, List, length, max, IfSome, IfNone, Some, false};
+ghost use Rattle.std.specs.Prelude.{◌≡◌, ◌++◌, ◌∷◌, [], ◌+◌, ◌≤◌, ◌<◌, ◌^◌, ◌/◌, List, length, max, IfSome, IfNone, Some, false, IsTrue, vec_capacity};
 ghost use Rattle.hall_shards.specs.Accesses.{CanBegin, IsAsked, IsMadeNow, IsNoted, IsNotedStep};
 ghost use Rattle.hall_shards.specs.Learning.{HasLearned};
 ghost use Rattle.cell_store.specs.ShardState.{IsOfShard, IsStateAfter};
@@ -30,6 +30,13 @@ use std::sync::Wait;
 
 /// How many shards a hall has. Cell `c` is in shard `c % 16`.
 pub const SHARDS: u32 = HALL_SHARDS;
+
+// A log with room for this number of entries, 64 KB, grows by at least `LONG_LOG` entries, 8 MB. When a
+// larger block of memory grows, the system moves its pages, and for that all threads have to wait. What
+// is not written to takes no memory.
+const SHORT_LOG: usize = 2048;
+
+const LONG_LOG: usize = 262144;
 
 // The greatest ticket of an access.
 const LAST_TICKET: u64 = 4611686018427387904;
@@ -65,6 +72,20 @@ impl Model for Shard {
 
     // The number of the cell of each history is a `u32`.
     ghost invariant = { λ s. s.number + 16 * length s.histories.items ≤ 2 ^ 32 };
+}
+
+// Makes room in a log for one more entry. Returns `false` only if memory runs out.
+fn make_room(log: &mut Vec<ShardEntry>) -> bool
+    ensures items { log.new.items ≡ log.old.items }
+    ensures room { IsTrue result → length log.new.items < vec_capacity log.new }
+{
+    if log.len() < log.capacity() {
+        return true;
+    }
+    if log.len() >= SHORT_LOG && log.reserve(LONG_LOG).is_ok() {
+        return true;
+    }
+    log.reserve(1).is_ok()
 }
 
 // The access that is asked for.
@@ -194,7 +215,7 @@ impl Shard {
         if most >= LAST_TICKET {
             return None;
         }
-        if self.log.reserve(1).is_err() {
+        if !make_room(&mut self.log) {
             return None;
         }
         let access = asked(&self.cells, cell, write);

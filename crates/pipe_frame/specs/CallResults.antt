@@ -63,8 +63,12 @@ NameReturns s end named.Waits = (s.stopped ≡ false) × NamesNextStage end
 
 -- ---- `enter` of iteration i, which is `check_right` of the iteration to its left
 
+-- nothing of iteration i can start: the run was stopped, or the iteration has named no stage that it may enter
+abbrev pub StartsNothing : State → ℕ → Type 0
+StartsNothing s i = (s.stopped ≡ true) ⊎ (MayEnter s i → ⊥)
+
 abbrev pub EnterReturns : {M : Type 0} → State → ℕ → Option (FrameToken M) → Type 0
-EnterReturns s i None = (s.stopped ≡ true) ⊎ (MayEnter s i → ⊥)
+EnterReturns s i None = StartsNothing s i
 EnterReturns s i (Some t) = (s.stopped ≡ false) × MayEnter s i × (t.iteration ≡ i) × (t.index ≡ length (nodes_at (own_columns s) i))
 
 abbrev pub enter_events : {M : Type 0} → Option (FrameToken M) → List Event

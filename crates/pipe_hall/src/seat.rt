@@ -46,7 +46,7 @@ impl<'a, M: Carrier> Model for HallSeat<'a, M> {
     ghost use Rattle.std.specs.Prelude.{◌≡◌};
     ghost use Rattle.std.specs.Prelude.{◌+◌, IfSome};
     ghost use Rattle.pipe_model.specs.Runs.RunLogs.{state_after};
-    ghost use Rattle.frame_book.specs.RightNeighbours.{StartsNothing};
+    ghost use Rattle.pipe_frame.specs.CallResults.{StartsNothing};
     ghost use Rattle.hall_table.specs.WorkerSeats.{IsIdle, WorkerSeat};
 
     ghost Value = { WorkerSeat };

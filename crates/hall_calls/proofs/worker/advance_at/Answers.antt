@@ -3,7 +3,7 @@ use Rattle.std.proofs.Common.{◌≡◌, ◌∙◌, ◌+◌, ◌++◌, ◌∷◌
 use Rattle.pipe_model.specs.Runs.RunLogs.{state_after}
 use Rattle.pipe_model.specs.Runs.StageEnds.{stage_end_events}
 use Rattle.pipe_model.specs.declared.event.Event.TheVariants.{Enter}
-use Rattle.pipe_frame.specs.CallResults.{AdvanceReturns, advance_events}
+use Rattle.pipe_frame.specs.CallResults.{AdvanceReturns, StartsNothing, advance_events}
 use Rattle.pipe_frame.specs.HallViews.{Sees}
 use Rattle.pipe_frame.specs.SeatedTokens.{IsGivenToken}
 use Rattle.pipe_frame.specs.TokenFields.{TokenFields, fields_of}
@@ -11,7 +11,6 @@ use Rattle.frame_book.specs.GivenTokens.{IsOutOf}
 use Rattle.pipe_frame.specs.declared.results.Next.TheVariants as nexts
 use Rattle.pipe_frame.specs.declared.token.FrameToken.{FrameToken}
 use Rattle.frame_book.specs.BookStates.{HasRisingTickets, Out, events_of, state_of}
-use Rattle.frame_book.specs.RightNeighbours.{StartsNothing}
 use Rattle.hall_table.specs.SeatViews.{constants_of}
 use Rattle.hall_calls.proofs.BookCalls.{stopped_later}
 use Rattle.hall_calls.proofs.EndingCalls.{enters_not_stopped, goes_on}

@@ -53,7 +53,7 @@ returns-clause-made g c =
             node = c.args.who.node;
             access =
                 a;
-          } ∷ []) (c.reserve.ensures.items ∙ ap (λ (y : ShardValue). y.log) view);
+          } ∷ []) (c.make_room.ensures.items ∙ ap (λ (y : ShardValue). y.log) view);
           last = refl;
           noted = subst (λ z. IsNoted c.args.who c.args.joined a.kind (z / 16) met c.note_in.new.passes c.args.self.now.histories
               c.note_in.new.histories.items) (sym c.asked-access.ensures.cell)
