@@ -1,6 +1,7 @@
 //! Shards of the cells.
 
-ghost use Rattle.std.specs.Prelude.{◌≡◌, ◌++◌, ◌∷◌, [], ◌+◌, ◌≤◌, ◌<◌, ◌^◌, ◌/◌, List, length, max, IfSome, IfNone, Some, false, IsTrue, vec_capacity};
+ghost use Rattle.std.specs.Prelude.{◌≡◌, ◌++◌, ◌∷◌, [], ◌+◌, ◌≤◌, ◌<◌, ◌^◌, ◌/◌, List, length, max, IfSome, IfNone, Some, false};
+ghost use Rattle.std.specs.Prelude.{IsTrue, vec_capacity};
 ghost use Rattle.hall_shards.specs.Accesses.{CanBegin, IsAsked, IsMadeNow, IsNoted, IsNotedStep};
 ghost use Rattle.hall_shards.specs.Learning.{HasLearned};
 ghost use Rattle.cell_store.specs.ShardState.{IsOfShard, IsStateAfter};
