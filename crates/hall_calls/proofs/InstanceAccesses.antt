@@ -13,7 +13,8 @@ use Rattle.access_history.specs.declared.history.MarkedNode.{MarkedNode}
 use Rattle.hall_table.specs.SeatViews.{HallConstants, InstanceData, SeatView, TheShard, constants_of}
 use Rattle.hall_shards.specs.ShardValues.{ShardValue, down_list, right_list}
 use Rattle.hall_table.specs.Logs.{entry_of}
-use Rattle.hall_table.specs.Steps.{ShardSnapshot, ViewAndSlots, after_entries, after_log, after_shard, holding}
+use Rattle.hall_table.specs.Steps.{ShardSnapshot, ViewAndSlots, after_entries, after_log, after_shard, having, holding}
+use Rattle.atomic_table.specs.Table.{rest}
 use Rattle.atomic_table.specs.Seated.{TableId}
 use Rattle.hall_table.specs.HallRule.{place, view_of}
 use Rattle.pipe_frame.specs.SeatedTokens.{IsSeated, entries_of_seat, replies_of_seat}
@@ -24,8 +25,10 @@ use Rattle.hall_table.specs.declared.run_seat.RunSeat.{RunSeat}
 use Rattle.pipe_frame.specs.HallViews.{IsSameInstance, SameSeat, identities_of}
 use Rattle.hall_table.specs.SeatAccesses.{TraceAfter, now_after, ran, run_more, seat_done, seat_more, tie_after, MadeBy}
 use Rattle.hall_table.specs.declared.view.View.{View}
+use Rattle.hall_table.specs.declared.slot.Slot.{Slot}
 use Rattle.hall_table.specs.declared.slot.Slot.TheVariants as slots
-use Rattle.hall_table.proofs.Seating.{is_badge, instance_badge, lent_shard}
+use Rattle.hall_table.proofs.Seating.{is_badge, instance_badge}
+use Rattle.hall_calls.proofs.LentSlots.{lent_value, only_value, there}
 use Rattle.hall_table.proofs.Sharding.{run_accessed}
 use Rattle.hall_shards.specs.Accesses.{CanBegin, IsMade, IsMadeNow, next_ticket}
 use Rattle.hall_shards.proofs.ShardAccesses.{all_kept}
@@ -93,15 +96,41 @@ view_again v i x held =
     let none = sym held in
     λ j. record { constants = v.constants; seen = v.seen; met = v.met; run = run_same v.run x.log j; held = none j; tokens = v.tokens }
 
-module _ (M : Type 0) (m n : ViewAndSlots M) (i : ℕ) (x y : ShardValue) (none_held : m.0.it.held ≡ []) (none_out : m.1 ≡ []) (lent : y ≡ x)
-    (taken : n ≡ (view_of (holding m.0.it i (TheShard x)), (place i, slots.Out) ∷ m.1)) where
-  pub given_back : (z : ViewAndSlots M)
-      → ((w : ShardValue) → n.0.it.held ≡ (i, TheShard w) ∷ [] → z ≡ (view_of (after_shard n.0.it w y), [])) → z ≡ m
-  given_back z given =
-      let t = lent_shard M m n i x y lent taken in
-      given y (ap (λ (k : ViewAndSlots M). k.0.it.held) t ∙ ap (λ hs. (i, TheShard y) ∷ hs) none_held)
-      ∙ (ap (λ (k : ViewAndSlots M). (view_of (after_shard k.0.it y y), [])) t
-      ∙ (ap (λ v. (view_of v, [])) (view_again m.0.it i y none_held) ∙ ap (λ cs. (m.0, cs)) (sym none_out)))
+pub same_shard : {M : Type 0} (x y : ShardValue) → ◌≡◌ {A = Slot M} (slots.Shard x) (slots.Shard y) → x ≡ y
+same_shard x y e = cc
+
+-- ---- a seat that has taken nothing else has taken a shard
+
+module _ (M : Type 0) (m n : ViewAndSlots M) (i : ℕ) (x : ShardValue) (none_out : m.1 ≡ []) (taken : n ≡ having m i (TheShard x)) where
+  only : n.1 ≡ (place i, slots.Shard x) ∷ []
+  only = ap (λ (k : ViewAndSlots M). k.1) taken ∙ ap (λ cs. (place i, slots.Shard x) ∷ cs) none_out
+
+  pub shard_there : (s : Slot M) × (n.1 ≡ (place i, s) ∷ rest n.1)
+  shard_there = there M n (place i) (slots.Shard x) only
+
+  pub lent_shard : (s : Slot M) → n.1 ≡ (place i, s) ∷ rest n.1 → s ≡ slots.Shard x
+  lent_shard s e = lent_value M n (place i) (slots.Shard x) only s e
+
+  -- it is lent
+  pub shard_is : (s : Slot M) (y : ShardValue) → n.1 ≡ (place i, s) ∷ rest n.1 → s ≡ slots.Shard y → y ≡ x
+  shard_is s y e f = same_shard {M = M} y x (sym f ∙ lent_shard s e)
+
+  pub in_slot : (y : ShardValue) → ◌≡◌ {A = List (ℕ × Slot M)} ((place i, slots.Shard y) ∷ rest n.1) ((place i, slots.Shard y) ∷ [])
+  in_slot y = only_value M n (place i) (slots.Shard x) only (slots.Shard y)
+
+  pub holds_only : m.0.it.held ≡ [] → n.0.it.held ≡ (i, TheShard x) ∷ []
+  holds_only e = ap (λ (k : ViewAndSlots M). k.0.it.held) taken ∙ ap (λ hs. (i, TheShard x) ∷ hs) e
+
+  -- nothing was written to it
+  pub still_taken : (y : ShardValue) → y ≡ x → ◌≡◌ {A = ViewAndSlots M} (n.0, (place i, slots.Shard y) ∷ rest n.1) (having m i (TheShard x))
+  still_taken y e =
+      ap (λ (z : ShardValue). (n.0, (place i, slots.Shard z) ∷ rest n.1)) e ∙ (ap (λ cs. (n.0, cs)) (in_slot x ∙ sym only) ∙ taken)
+
+  -- and it is given back as it was
+  pub given_back : m.0.it.held ≡ [] → (z : ViewAndSlots M) → z ≡ (view_of (after_shard n.0.it x x), []) → z ≡ m
+  given_back none_held z given =
+      given ∙ (ap (λ (k : ViewAndSlots M). (view_of (after_shard k.0.it x x), [])) taken
+      ∙ (ap (λ v. (view_of v, [])) (view_again m.0.it i x none_held) ∙ ap (λ cs. (m.0, cs)) (sym none_out)))
 
 module _ (who : MarkedNode) (f : TokenFields) (is : who ≡ record { node = at f.iteration f.index; marks = f.marks }) (now joined c : ℕ)
     (same_now : now ≡ f.now) (same_joined : joined ≡ f.joined) (write : Option ℤ) (x y : ShardValue) (old new : List Entry) where

@@ -11,3 +11,4 @@ pub mod Freeing
 pub mod FirstTables
 pub mod TokenMoves
 pub mod Crossing
+mod LentSlots

@@ -1,5 +1,5 @@
 -- A worker that has taken the book, and gives it back after a call.
-use Rattle.std.proofs.Common.{◌≡◌, List, [], ◌∷◌, ◌++◌, refl, sym, ap, ap₂, ◌∙◌, subst, Option, Some, None, append-nil}
+use Rattle.std.proofs.Common.{◌≡◌, ℕ, List, [], ◌∷◌, ◌++◌, refl, sym, ap, ap₂, ◌∙◌, subst, Option, Some, None, append-nil}
 use Rattle.atomic_table.specs.Seated.{TableId}
 use Rattle.pipe_model.specs.declared.event.Event.{Event}
 use Rattle.pipe_model.specs.declared.stage.StageEnd.{StageEnd}
@@ -26,10 +26,13 @@ use Rattle.frame_book.specs.CallEffects.{after_advance, after_begin, after_rescu
 use Rattle.hall_table.specs.BookCalls.{IsBookCall}
 use Rattle.hall_table.specs.HallRule.{view_of}
 use Rattle.hall_table.specs.SeatViews.{HallConstants, InstanceData, TheBook, constants_of}
-use Rattle.hall_table.specs.Steps.{BookSnapshot, ViewAndSlots, after_book, holding, worker_seat}
+use Rattle.hall_table.specs.Steps.{BookSnapshot, ViewAndSlots, after_book, having, worker_seat}
+use Rattle.hall_table.specs.declared.slot.Slot.{Slot}
+use Rattle.atomic_table.specs.Table.{rest}
 use Rattle.hall_table.specs.WorkerSeats.{HasTaken, HoldsBook, IsDataOf, IsIdle, StaysIdle, counts_with, hall_of, name_of}
 use Rattle.hall_table.specs.declared.slot.Slot.TheVariants as slots
 use Rattle.hall_calls.proofs.BookCalls.{events_stamped, unchanged_call}
+use Rattle.hall_calls.proofs.LentSlots.{lent_value, only_value, there}
 use Rattle.hall_calls.proofs.EndingCalls.{ends_not_stopped, finishes, holds_back, waits_not_stopped}
 
 -- ---- the book is taken
@@ -39,14 +42,14 @@ module _ (M : Type 0) (m k n : ViewAndSlots M) (b : BookState) (back : Option In
     (constants : k.0.it.constants ≡ m.0.it.constants) (seen : k.0.it.seen ≡ m.0.it.seen) (held : k.0.it.held ≡ m.0.it.held)
     (empty : k.1 ≡ m.1) (run : k.0.it.run ≡ back)
     (counts : k.0.it.tokens ≡ counts_with back m.0.it.tokens)
-    (taken : n ≡ (view_of (holding k.0.it 0 (TheBook b)), (0, slots.Out) ∷ k.1)) (shot : BookSnapshot k.0.it 0 b) where
+    (taken : n ≡ having k 0 (TheBook b)) (shot : BookSnapshot k.0.it 0 b) where
   knew : m.0.it.constants ≡ Some (constants_of b)
   knew = idle.knows ∙ ap (λ x. Some x) (shot.constants idle.constants (constants ∙ idle.knows))
 
   pub has_taken : HasTaken m n b back
   has_taken = record {
     holds = record {
-      slots = ap (λ (x : ViewAndSlots M). x.1) taken ∙ ap (λ cs. (0, slots.Out) ∷ cs) (empty ∙ idle.slots);
+      slots = ap (λ (x : ViewAndSlots M). x.1) taken ∙ ap (λ cs. (0, slots.Book b) ∷ cs) (empty ∙ idle.slots);
       held = ap (λ (x : ViewAndSlots M). x.0.it.held) taken ∙ ap (λ hs. (0, TheBook b) ∷ hs) (held ∙ idle.held);
       run = ap (λ (x : ViewAndSlots M). x.0.it.run) taken ∙ run;
     };
@@ -59,26 +62,51 @@ module _ (M : Type 0) (m k n : ViewAndSlots M) (b : BookState) (back : Option In
     traces = shot.traces;
   }
 
--- by a further worker's seat, to which it is lent
-module _ (M : Type 0) (m k n : ViewAndSlots M) (b x : BookState) where
-  pub holds_beside : k ≡ (view_of (worker_seat m.0.it), []) → n ≡ (view_of (holding k.0.it 0 (TheBook b)), (0, slots.Out) ∷ k.1)
-      → x ≡ b → HoldsBook n x None
-  holds_beside split taken same = record {
-    slots = ap (λ (y : ViewAndSlots M). y.1) taken ∙ ap (λ (y : ViewAndSlots M). (0, slots.Out) ∷ y.1) split;
-    held = ap (λ (y : ViewAndSlots M). y.0.it.held) taken
-        ∙ (ap (λ (y : ViewAndSlots M). (0, TheBook b) ∷ y.0.it.held) split ∙ ap (λ z. (0, TheBook z) ∷ []) (sym same));
+-- by a further worker's seat
+module _ (M : Type 0) (m k n : ViewAndSlots M) (b : BookState) where
+  pub holds_beside : k ≡ (view_of (worker_seat m.0.it), []) → n ≡ having k 0 (TheBook b) → HoldsBook n b b None
+  holds_beside split taken = record {
+    slots = ap (λ (y : ViewAndSlots M). y.1) taken ∙ ap (λ (y : ViewAndSlots M). (0, slots.Book b) ∷ y.1) split;
+    held = ap (λ (y : ViewAndSlots M). y.0.it.held) taken ∙ ap (λ (y : ViewAndSlots M). (0, TheBook b) ∷ y.0.it.held) split;
     run = ap (λ (y : ViewAndSlots M). y.0.it.run) taken ∙ ap (λ (y : ViewAndSlots M). y.0.it.run) split;
   }
 
--- ---- the book is lent by what keeps it
+-- ---- the book is lent by the slot where it lies
 
-module _ (M : Type 0) (m n : ViewAndSlots M) (b x : BookState) where
-  pub lent_of : (back : Option InstanceData) → x ≡ b → HasTaken m n b back → HasTaken m n x back
-  lent_of back e h = subst (λ y. HasTaken m n y back) (sym e) h
+pub same_book : {M : Type 0} (b c : BookState) → ◌≡◌ {A = Slot M} (slots.Book b) (slots.Book c) → b ≡ c
+same_book b c e = cc
 
-  pub lent_with : (f : TokenFields) (t : Tie) → x ≡ b → (d : InstanceData) × HasTaken m n b (Some d) × IsDataOf b f t d
+pub same_slot : (M : Type 0) (n : ViewAndSlots M) (b c : BookState) → n.1 ≡ (0, slots.Book b) ∷ [] → n.1 ≡ (0, slots.Book c) ∷ [] → b ≡ c
+same_slot M n b c e f =
+    same_book {M = M} b c (lent_value M n 0 (slots.Book c) f (slots.Book b) (e ∙ sym (only_value M n 0 (slots.Book c) f (slots.Book b))))
+
+module _ (M : Type 0) (n : ViewAndSlots M) {b : BookState} {back : Option InstanceData} (h : HoldsBook n b b back) where
+  pub slot_there : (s : Slot M) × (n.1 ≡ (0, s) ∷ rest n.1)
+  slot_there = there M n 0 (slots.Book b) h.slots
+
+  pub book_is : (s : Slot M) → n.1 ≡ (0, s) ∷ rest n.1 → s ≡ slots.Book b
+  book_is s e = lent_value M n 0 (slots.Book b) h.slots s e
+
+  -- what a call has made of it lies in the slot then
+  pub in_slot : (c : BookState) → ◌≡◌ {A = List (ℕ × Slot M)} ((0, slots.Book c) ∷ rest n.1) ((0, slots.Book c) ∷ [])
+  in_slot c = only_value M n 0 (slots.Book b) h.slots (slots.Book c)
+
+  pub holds_call : (c : BookState) → HoldsBook {M = M} (n.0, (0, slots.Book c) ∷ rest n.1) b c back
+  holds_call c = record { slots = in_slot c; held = h.held; run = h.run }
+
+  pub lent_is : (s : Slot M) (x : BookState) → n.1 ≡ (0, s) ∷ rest n.1 → s ≡ slots.Book x → x ≡ b
+  lent_is s x e f = same_book x b (sym f ∙ book_is s e)
+
+module _ (M : Type 0) (m n : ViewAndSlots M) (s : Slot M) (x : BookState) where
+  pub lent_of : n.1 ≡ (0, s) ∷ rest n.1 → s ≡ slots.Book x → (b : BookState) × HasTaken m n b None → HasTaken m n x None
+  lent_of e f t = subst (λ y. HasTaken m n y None) (sym (lent_is M n t.1.holds s x e f)) t.1
+
+  pub lent_with : (f : TokenFields) (t : Tie) → n.1 ≡ (0, s) ∷ rest n.1 → s ≡ slots.Book x
+      → (b : BookState) × (d : InstanceData) × HasTaken m n b (Some d) × IsDataOf b f t d
       → (d : InstanceData) × HasTaken m n x (Some d) × IsDataOf x f t d
-  lent_with f t e h = (h.0, subst (λ y. HasTaken m n y (Some h.0)) (sym e) h.1, subst (λ y. IsDataOf y f t h.0) (sym e) h.2)
+  lent_with f t e g k =
+      let same = sym (lent_is M n k.2.holds s x e g) in
+      (k.1, subst (λ y. HasTaken m n y (Some k.1)) same k.2, subst (λ y. IsDataOf y f t k.1) same k.3)
 
 -- ---- the book is given back
 

@@ -50,12 +50,13 @@ fn take_all<R: Wait, M: Carrier>(
     ensures holds { HoldsAll seat.new.me.0.it.held result (shard_in shards.new.items) }
     ensures seen { seat.new.me.0.it.seen ≡ seat.old.me.0.it.seen }
 {
-    let book = hall.take_book(rt, seat);
+    hall.take_book(rt, seat);
+    let book = hall.book_out(seat);
     for k in 0..SHARDS {
-        let shard = hall.take_shard(rt, seat, k);
-        shards.push_reserved(shard.into_inner());
+        hall.take_shard(rt, seat, k);
+        shards.push_reserved(hall.shard_out(seat, k));
     }
-    book.into_inner()
+    book
 }
 
 // Frees the table. Who has taken everything has the book and the shards of the rule.

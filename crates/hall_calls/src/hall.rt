@@ -21,7 +21,6 @@ use hall_table::locks::{Locks, STRIDE};
 use hall_table::opening::Opening;
 use hall_table::slot::Slot;
 use hall_table::view::View;
-use heap_value::kept::Kept;
 use om_shared::writer::OmWriter;
 use order_2d::two_passes::TwoPasses;
 use pipe_check::checked::Checked;
@@ -119,8 +118,7 @@ fn add_shards<M: Carrier>(
 {
     for number in 0..SHARDS {
         let shard = Shard::new(alloc, checked, number, before, passes.split()?)?;
-        let kept = Kept::boxed(alloc, shard)?;
-        push_slot(slots, Slot::Shard(kept));
+        push_slot(slots, Slot::Shard(shard));
     }
     Ok(())
 }
@@ -130,14 +128,13 @@ fn book_slots<M: Carrier>(alloc: Global, book: Book<M, OmWriter>) -> Result<Vec<
     ensures items { IfOk result (λ slots. slots.items ≡ spaced (Slot.Book book)) }
     ensures room { IfOk result (λ slots. vec_capacity slots ≡ width) }
 {
-    let kept = Kept::boxed(alloc, book)?;
     match Vec::with_capacity(alloc, FREE.len()) {
         Ok(mut slots) => {
-            push_slot(&mut slots, Slot::Book(kept));
+            push_slot(&mut slots, Slot::Book(book));
             Ok(slots)
         }
         Err(_) => {
-            drop(kept);
+            drop(book);
             Err(NoMemory)
         }
     }

@@ -10,27 +10,27 @@ ghost use Rattle.pipe_model.specs.Races.Columns.{at};
 ghost use Rattle.std.specs.Prelude.{List, ℕ, ℤ};
 ghost use Rattle.pipe_model.specs.Language.SyntaxTree.{SyntaxTree};
 ghost use Rattle.pipe_model.specs.declared.ticket.Entry.{Entry};
-ghost use Rattle.hall_table.specs.HallRule.{place, view_of};
+ghost use Rattle.hall_table.specs.HallRule.{view_of};
 ghost use Rattle.pipe_frame.specs.SeatedTokens.{IsSeated, seated_entries, seated_replies};
 ghost use Rattle.hall_table.specs.WorkerSeats.{IsIdle, StaysIdle, hall_of, name_of};
 ghost use Rattle.hall_shards.specs.Accesses.{IsAsked};
 ghost use Rattle.hall_shards.specs.ShardValues.{history_at};
 ghost use Rattle.hall_table.specs.SeatAccesses.{RunsAs, TraceAfter, now_after, ran, tie_after};
 ghost use Rattle.hall_table.specs.SeatViews.{HallConstants, TheShard};
-ghost use Rattle.hall_table.specs.Steps.{ShardSnapshot, holding};
+ghost use Rattle.hall_shards.specs.ShardValues.{ShardValue};
+ghost use Rattle.hall_table.specs.Steps.{ShardSnapshot, having};
 ghost use Rattle.pipe_frame.specs.HallViews.{AccessReturns, BeginsWith, IsSameInstance, OneMoreEntry};
 ghost use Rattle.pipe_model.specs.Runs.RunLogs.{state_after};
 
 use crate::worker::{settle_beside, stop_at, take_seat_of};
 use access_history::history::MarkedNode;
 use atomic_table::Seat;
-use hall_shards::shard::{SHARDS, Shard};
+use hall_shards::shard::SHARDS;
 use hall_table::carrier::Carrier;
-use hall_table::locks::Locks;
+use hall_table::locks::{Locks, STRIDE};
 use hall_table::run_seat::RunSeat;
 use hall_table::slot::Slot;
 use hall_table::view::View;
-use heap_value::kept::Kept;
 use order_2d::two_passes::TwoPasses;
 use pipe_frame::results::Reply;
 use pipe_frame::token::FrameToken;
@@ -40,9 +40,9 @@ use pipe_model::node::NodeId;
 use pipe_model::ticket::Entry;
 use std::sync::Wait;
 
-// Takes the shard of a cell, for an access of the instance of a seat. Returns it, and whether that access
-// may have to ask the order lists. If it may, and they have no labels yet, the shard is given back, they
-// get their labels, and it is taken again.
+// Takes the shard of a cell, for an access of the instance of a seat. Returns whether that access may
+// have to ask the order lists. If it may, and they have no labels yet, the shard is given back, they get
+// their labels, and it is taken again.
 fn take_shard_of<R: Wait, M: Carrier>(
     rt: &R,
     hall: &Locks<M>,
@@ -50,28 +50,30 @@ fn take_shard_of<R: Wait, M: Carrier>(
     who: NodeId,
     joined: u32,
     cell: CellId,
-) -> (Kept<Shard>, bool)
+) -> bool
     requires own { run.old.table_id ≡ hall.now.table.shared.table_id }
     requires runs { (f : TokenFields) × RunsAs run.old.me f }
     requires cell { cell.0 < length (store_of (hall_of run.old.table_id run.old.me).tree).values }
     ensures own { (run.new.table_id ≡ run.old.table_id) × (run.new.id ≡ run.old.id) }
-    ensures taken { run.new.me ≡ (
-      view_of (holding run.old.me.0.it (1 + cell.0 % 16) (TheShard result.0)),
-      (place (1 + cell.0 % 16), Slot.Out) ∷ run.old.me.1,
-    ) }
-    ensures snapshot { ShardSnapshot run.old.me.0.it (1 + cell.0 % 16) result.0 }
-    ensures asks { result.1 ≡ false → may_ask (Some joined) who (history_at result.0.histories (cell.0 / 16)) ≡ false }
+    ensures taken { (x : ShardValue) × (run.new.me ≡ having run.old.me (1 + cell.0 % 16) (TheShard x))
+        × ShardSnapshot run.old.me.0.it (1 + cell.0 % 16) x
+        × (result ≡ false → may_ask (Some joined) who (history_at x.histories (cell.0 / 16)) ≡ false) }
 {
     let number = cell.0 % SHARDS;
-    let mut shard = hall.take_shard(rt, run, number);
-    let lent = shard.get_mut();
+    hall.take_shard(rt, run, number);
+    let slot = run.slot_mut(&hall.table.shared, STRIDE * (1 + number as usize));
+    let lent = slot.shard_mut();
     let asks = lent.may_ask(who, joined, cell);
-    if !asks || lent.has_labels() {
-        return (shard, asks);
+    if !asks {
+        return false;
     }
-    hall.return_shard(run, number, shard);
+    if lent.has_labels() {
+        return true;
+    }
+    hall.return_shard(run, number);
     settle_beside(rt, hall, run);
-    (hall.take_shard(rt, run, number), true)
+    hall.take_shard(rt, run, number);
+    true
 }
 
 // Makes an access in the shard of its cell, for the instance of a seat, unless memory runs out.
@@ -100,10 +102,11 @@ fn access_by<R: Wait, M: Carrier>(
     ensures passes { passes.new ≡ passes.old }
 {
     let number = cell.0 % SHARDS;
-    let (mut shard, asks) = take_shard_of(rt, hall, run, who.node, joined, cell);
-    let lent = shard.get_mut();
+    let asks = take_shard_of(rt, hall, run, who.node, joined, cell);
+    let slot = run.slot_mut(&hall.table.shared, STRIDE * (1 + number as usize));
+    let lent = slot.shard_mut();
     let done = lent.access(rt, who, joined, now, cell, write, asks, passes, trace);
-    hall.return_shard(run, number, shard);
+    hall.return_shard(run, number);
     done
 }
 

@@ -32,7 +32,6 @@ use hall_table::rule::SplitsWorker;
 use hall_table::run_seat::RunSeat;
 use hall_table::slot::Slot;
 use hall_table::view::View;
-use heap_value::kept::Kept;
 use om_shared::writer::OmWriter;
 use pipe_frame::results::{Begun, Next, Rescue};
 use pipe_frame::token::FrameToken;
@@ -41,17 +40,13 @@ use pipe_model::stage::StageEnd;
 use std::sync::Wait;
 
 // Takes the book, for a worker.
-fn take_book<R: Wait, M: Carrier>(
-    rt: &R,
-    hall: &Locks<M>,
-    seat: &mut Seat<Slot<M>, View>,
-) -> Kept<Book<M, OmWriter>>
+fn take_book<R: Wait, M: Carrier>(rt: &R, hall: &Locks<M>, seat: &mut Seat<Slot<M>, View>)
     requires own { seat.old.table_id ≡ hall.now.table.shared.table_id }
     requires idle { IsIdle seat.old.me }
     ensures own { seat.new.table_id ≡ seat.old.table_id }
-    ensures taken { HasTaken seat.old.me seat.new.me result None }
+    ensures taken { (b : BookState) × HasTaken seat.old.me seat.new.me b None }
 {
-    hall.take_book(rt, seat)
+    hall.take_book(rt, seat);
 }
 
 // Takes the seat out of a payload that has one.
@@ -69,39 +64,38 @@ fn take_back<R: Wait, M: Carrier>(
     hall: &Locks<M>,
     seat: &mut Seat<Slot<M>, View>,
     token: &mut FrameToken<M>,
-) -> Kept<Book<M, OmWriter>>
+)
     requires own { seat.old.table_id ≡ hall.now.table.shared.table_id }
     requires idle { IsIdle seat.old.me }
     requires out { IsSeated (hall_of seat.old.table_id seat.old.me) (fields_of token.old) (M.tie token.old.payload) }
     ensures own { seat.new.table_id ≡ seat.old.table_id }
-    ensures taken { (d : InstanceData) × HasTaken seat.old.me seat.new.me result (Some d) × IsDataOf result (fields_of token.old)
-        (M.tie token.old.payload) d }
+    ensures taken { (b : BookState) × (d : InstanceData) × HasTaken seat.old.me seat.new.me b (Some d)
+        × IsDataOf b (fields_of token.old) (M.tie token.old.payload) d }
     ensures token { token.new ≡ record token.old { payload = M.with_seat token.old.payload None } }
 {
     let run = take_seat_of(&mut token.payload);
     hall.join_instance(seat, run);
-    hall.take_book(rt, seat)
+    hall.take_book(rt, seat);
 }
 
 // Gives the book back beside a token that it has given.
 fn return_token<M: Carrier>(
     hall: &Locks<M>,
     seat: &mut Seat<Slot<M>, View>,
-    book: Kept<Book<M, OmWriter>>,
     token: FrameToken<M>,
 ) -> FrameToken<M>
     requires own { seat.old.table_id ≡ hall.now.table.shared.table_id }
-    requires call { (b : BookState) × (back : Option InstanceData) × HoldsBook seat.old.me b back
-        × IsBookCall b back book (Some (new_instance book (fields_of token))) }
-    requires constants { seat.old.me.0.it.constants ≡ Some (constants_of book) }
-    requires token { IsGivenBy M.ready_at M.tie book token }
+    requires call { (b : BookState) × (c : BookState) × (back : Option InstanceData) × HoldsBook seat.old.me b c back
+        × IsBookCall b back c (Some (new_instance c (fields_of token))) × (seat.old.me.0.it.constants ≡ Some (constants_of c))
+        × IsGivenBy M.ready_at M.tie c token }
     ensures own { seat.new.table_id ≡ seat.old.table_id }
-    ensures given { seat.new.me ≡ (view_of (without_run (after_book seat.old.me.0.it book None)), []) }
+    ensures given { (c : BookState) → seat.old.me.1 ≡ (0, SlotOf.Book c) ∷ []
+        → seat.new.me ≡ (view_of (without_run (after_book seat.old.me.0.it c None)), []) }
     ensures same { (r : RunSeat) × (result ≡ record token { payload = M.with_seat token.payload (Some r) }) }
     ensures token { IsGivenToken M.ready_at M.tie (hall_of seat.old.table_id seat.old.me) result }
-    ensures runs { IsTokenOf (events_of book.log) (fields_of result) }
+    ensures runs { (c : BookState) → seat.old.me.1 ≡ (0, SlotOf.Book c) ∷ [] → IsTokenOf (events_of c.log) (fields_of result) }
 {
-    hall.return_book_and_token(seat, book, token)
+    hall.return_book_and_token(seat, token)
 }
 
 /// Begins the next iteration, for a worker with this seat.
@@ -120,14 +114,15 @@ pub fn begin_at<R: Wait, M: Carrier>(
     ensures runs { IfStarted result (λ t. IsTokenOf seat.new.me.0.it.seen (fields_of t)) }
     ensures token { IfStarted result (IsGivenToken M.ready_at M.tie (hall_of seat.old.table_id seat.old.me)) }
 {
-    let mut book = take_book(rt, hall, seat);
-    let lent = book.get_mut();
+    take_book(rt, hall, seat);
+    let slot = seat.slot_mut(&hall.table.shared, 0);
+    let lent = slot.book_mut();
     let begun = lent.begin();
     let _ = lent.entries();
     match begun {
-        Begun::Started(token) => Begun::Started(return_token(hall, seat, book, token)),
+        Begun::Started(token) => Begun::Started(return_token(hall, seat, token)),
         begun => {
-            hall.return_book(seat, book);
+            hall.return_book(seat);
             begun
         }
     }
@@ -149,14 +144,15 @@ pub fn check_right_at<R: Wait, M: Carrier>(
     ensures runs { IfSome result (λ t. IsTokenOf seat.new.me.0.it.seen (fields_of t)) }
     ensures token { IfSome result (IsGivenToken M.ready_at M.tie (hall_of seat.old.table_id seat.old.me)) }
 {
-    let mut book = take_book(rt, hall, seat);
-    let lent = book.get_mut();
+    take_book(rt, hall, seat);
+    let slot = seat.slot_mut(&hall.table.shared, 0);
+    let lent = slot.book_mut();
     let entered = lent.check_right(iteration);
     let _ = lent.entries();
     match entered {
-        Some(token) => Some(return_token(hall, seat, book, token)),
+        Some(token) => Some(return_token(hall, seat, token)),
         None => {
-            hall.return_book(seat, book);
+            hall.return_book(seat);
             None
         }
     }
@@ -177,14 +173,15 @@ pub fn rescue_at<R: Wait, M: Carrier>(
     ensures runs { IfToken result (λ t. IsTokenOf seat.new.me.0.it.seen (fields_of t)) }
     ensures token { IfToken result (IsGivenToken M.ready_at M.tie (hall_of seat.old.table_id seat.old.me)) }
 {
-    let mut book = take_book(rt, hall, seat);
-    let lent = book.get_mut();
+    take_book(rt, hall, seat);
+    let slot = seat.slot_mut(&hall.table.shared, 0);
+    let lent = slot.book_mut();
     let found = lent.rescue();
     let _ = lent.entries();
     match found {
-        Rescue::Token(token) => Rescue::Token(return_token(hall, seat, book, token)),
+        Rescue::Token(token) => Rescue::Token(return_token(hall, seat, token)),
         found => {
-            hall.return_book(seat, book);
+            hall.return_book(seat);
             found
         }
     }
@@ -208,11 +205,12 @@ pub fn leave_ready_at<R: Wait, M: Carrier>(
     ensures sees { Sees seat.old.me.0.it.seen seat.new.me.0.it.seen [] (λ s. Unit {0}) }
     ensures tokens { Exchanges 0 1 seat.old.me.0.it.tokens seat.new.me.0.it.tokens }
 {
-    let mut book = take_back(rt, hall, seat, &mut token);
-    let lent = book.get_mut();
+    take_back(rt, hall, seat, &mut token);
+    let slot = seat.slot_mut(&hall.table.shared, 0);
+    let lent = slot.book_mut();
     lent.leave_ready(token);
     let _ = lent.entries();
-    hall.return_book(seat, book);
+    hall.return_book(seat);
 }
 
 // Returns the iteration, if its right neighbour has nothing to start.
@@ -258,15 +256,16 @@ pub fn advance_at<R: Wait, M: Carrier>(
 {
     let iteration = token.iteration;
     *barred = None;
-    let mut book = take_back(rt, hall, seat, &mut token);
-    let lent = book.get_mut();
+    take_back(rt, hall, seat, &mut token);
+    let slot = seat.slot_mut(&hall.table.shared, 0);
+    let lent = slot.book_mut();
     let next = lent.advance(token, end, trace);
     let _ = lent.entries();
     match next {
-        Next::Go(token) => Next::Go(return_token(hall, seat, book, token)),
+        Next::Go(token) => Next::Go(return_token(hall, seat, token)),
         next => {
             *barred = barred_right(lent, iteration);
-            hall.return_book(seat, book);
+            hall.return_book(seat);
             next
         }
     }
@@ -282,11 +281,12 @@ pub(crate) fn stop_at<R: Wait, M: Carrier>(rt: &R, hall: &Locks<M>, seat: &mut S
     ensures stopped { (state_after seat.new.me.0.it.seen).stopped ≡ true }
     ensures tokens { seat.new.me.0.it.tokens ≡ seat.old.me.0.it.tokens }
 {
-    let mut book = take_book(rt, hall, seat);
-    let lent = book.get_mut();
+    take_book(rt, hall, seat);
+    let slot = seat.slot_mut(&hall.table.shared, 0);
+    let lent = slot.book_mut();
     lent.stop();
     let _ = lent.entries();
-    hall.return_book(seat, book);
+    hall.return_book(seat);
 }
 
 // Has the order lists labelled, by a seat that is split off for this: the given seat, of a worker or of
@@ -301,8 +301,9 @@ pub(crate) fn settle_beside<R: Wait, M: Carrier>(
     ensures unchanged { seat.new.me ≡ seat.old.me }
 {
     let mut own = hall.table.shared.split_seat::<SplitsWorker>(seat);
-    let mut book = hall.take_book(rt, &mut own);
-    let lent = book.get_mut();
+    hall.take_book(rt, &mut own);
+    let slot = own.slot_mut(&hall.table.shared, 0);
+    let lent = slot.book_mut();
     lent.settle_orders();
-    hall.return_book(&mut own, book);
+    hall.return_book(&mut own);
 }

@@ -19,7 +19,6 @@ use Rattle.frame_rows.proofs.row.Iteration.TheSendSync as rows
 use Rattle.frame_book.specs.contracts.book.Book as Book
 use Rattle.frame_book.specs.contracts.book.Book.TheInside as BookFields
 use Rattle.frame_book.specs.declared.payload.Payload as Payload
-use Rattle.heap_value.proofs.kept.Kept.TheSendSync as kept
 use Rattle.hall_shards.proofs.shard.Shard.TheSendSync as shards
 use Rattle.hall_table.specs.contracts.locks.Locks as Locks
 use Rattle.hall_table.specs.contracts.slot.Slot as Slot
@@ -39,7 +38,7 @@ witness : (T : RattleType) → IsSend (Witness.the_row T)
 witness T = view_send (WitnessFields.the_row T) _ _ _ _ (declared_send (WitnessFields.the_type T) (search (std.crosses, sendable) depth 20))
 
 pub slot : (M : RattleType) (g : Stands.Ghosts M.Denot) → IsSend M → IsSend (Slot.the_row M g)
-slot M g s = variants_send (Slot.enum M g) (search (kept.the_send, book, writers.the_send, shards.the_send, witness, sendable) depth 20)
+slot M g s = variants_send (Slot.enum M g) (search (book, writers.the_send, shards.the_send, witness, sendable) depth 20)
 
 module _ (M : RattleType) (c : Carrier.Ghosts M.Denot) (p : Payload.Ghosts M.Denot OmWriter) (g : Stands.Ghosts M.Denot)
     (s : IsSend M) where

@@ -7,9 +7,9 @@ use Rattle.frame_book.specs.BookStates.{BookState}
 use Rattle.pipe_frame.specs.declared.token.FrameToken.{FrameToken}
 use Rattle.hall_table.specs.SeatViews.{HallConstants, InstanceData, SeatView, SlotValue, TheBook, TheShard}
 use Rattle.hall_shards.specs.ShardValues.{ShardValue}
-use Rattle.hall_table.specs.HallRule.{place, slot_of, view_of}
+use Rattle.hall_table.specs.HallRule.{slot_of}
 use Rattle.hall_table.specs.InstanceSeats.{is_instance_badge, is_instance_view}
-use Rattle.hall_table.specs.Steps.{ViewAndSlots, IsSnapshot, holding}
+use Rattle.hall_table.specs.Steps.{BookSnapshot, ViewAndSlots, IsSnapshot, having}
 use Rattle.hall_table.specs.declared.view.View.{View}
 use Rattle.hall_table.specs.declared.slot.Slot.{Slot}
 use Rattle.hall_table.specs.declared.slot.Slot.TheVariants as slots
@@ -19,20 +19,6 @@ module _ (M : Type 0) where
   pub held_slot : (m : ViewAndSlots M) (v : View) (i : ℕ) (y : Slot M) (cs : List (ℕ × Slot M)) → m ≡ (v, (i, y) ∷ cs)
       → (old : Slot M) × (m.1 ≡ (i, old) ∷ rest m.1)
   held_slot m v i y cs e = (y, ap (λ (k : ViewAndSlots M). k.1) e ∙ sym (ap (λ (k : ViewAndSlots M). (i, y) ∷ rest k.1) e))
-
-  -- the value of the slot that was taken last is exchanged for another one
-  pub exchanged_value : (m n k : ViewAndSlots M) (v : View) (i : ℕ) (y z w : Slot M) → n ≡ (v, (i, y) ∷ m.1) → n.1 ≡ (i, z) ∷ rest n.1
-      → k ≡ (n.0, (i, w) ∷ rest n.1)
-      → (z ≡ y) × (k ≡ (v, (i, w) ∷ m.1))
-  exchanged_value m n k v i y z w e f g =
-      let h : (i, z) ∷ rest n.1 ≡ (i, y) ∷ m.1 = sym f ∙ ap (λ (q : ViewAndSlots M). q.1) e in
-      let p : (i, z) ≡ (i, y) = cc in
-      (ap (λ (q : ℕ × Slot M). q.1) p, g ∙ ap (λ (q : ViewAndSlots M). (q.0, (i, w) ∷ rest q.1)) e)
-
-  -- a seat whose only slot has another value
-  pub other_value : (m n : ViewAndSlots M) (i : ℕ) (x y : Slot M) → m.1 ≡ (i, x) ∷ [] → n ≡ (m.0, (i, y) ∷ rest m.1)
-      → n ≡ (m.0, (i, y) ∷ [])
-  other_value m n i x y e f = f ∙ ap (λ (cs : List (ℕ × Slot M)). (m.0, (i, y) ∷ rest cs)) e
 
   -- a token whose payload got a seat
   pub seated : (with : M → Option RunSeat → M) (t u : FrameToken M) (p : M) (r : RunSeat) (z : TableId) (v : View)
@@ -47,11 +33,11 @@ module _ (M : Type 0) where
     b,
   )
 
-  -- a shard that was taken, and is lent
-  pub lent_shard : (m n : ViewAndSlots M) (i : ℕ) (x y : ShardValue) → y ≡ x
-      → n ≡ (view_of (holding m.0.it i (TheShard x)), (place i, slots.Out) ∷ m.1)
-      → n ≡ (view_of (holding m.0.it i (TheShard y)), (place i, slots.Out) ∷ m.1)
-  lent_shard m n i x y e t = t ∙ ap (λ (z : ShardValue). (view_of (holding m.0.it i (TheShard z)), (place i, slots.Out) ∷ m.1)) (sym e)
+  -- what lock 0 protects is a book
+  pub taken_book : (m n : ViewAndSlots M) (x : SlotValue) → n ≡ having m 0 x → IsSnapshot m.0.it 0 x
+      → (b : BookState) × (n ≡ having m 0 (TheBook b)) × BookSnapshot m.0.it 0 b
+  taken_book m n (TheBook b) e h = (b, e, h)
+  taken_book m n (TheShard y) e h = (let q = h.slot in absurd (omega (arith, q)))
 
   -- a slot's value is a book, or a shard
   pub book_value : (x : SlotValue) (b : BookState) → ◌≡◌ {A = Slot M} (slots.Book b) (slot_of x) → x ≡ TheBook b

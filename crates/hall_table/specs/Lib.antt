@@ -11,3 +11,4 @@ pub mod Lending
 pub mod SeatAccesses
 pub mod SeatPlaces
 pub mod Openings
+pub mod LentValues

@@ -37,6 +37,10 @@ constants_after v (TheShard x) = v.constants
 abbrev pub holding : SeatView → ℕ → SlotValue → SeatView
 holding v i x = record v { constants = constants_after v x; held = (i, x) ∷ v.held }
 
+-- the seat has lock i, whose value lies in its slot
+abbrev pub having : {M : Type 0} → ViewAndSlots M → ℕ → SlotValue → ViewAndSlots M
+having m i x = (view_of (holding m.0.it i x), (place i, slot_of x) ∷ m.1)
+
 -- a shard beside a book and seats of the time when it was taken
 pub record ShardSnapshot (v : SeatView) (i : ℕ) (x : ShardValue) : Type 0 where
   pub before : List Access
@@ -65,7 +69,7 @@ IsSnapshot v i (TheShard x) = ShardSnapshot v i x
 
 -- the value of lock i was taken, or the lock was taken already
 abbrev pub takes_value : {M : Type 0} → ℕ → ViewAndSlots M → ℕ → ViewAndSlots M → Type 0
-takes_value {M} i m r n = (r ≡ 0 → (x : SlotValue) × (n ≡ (view_of (holding m.0.it i x), (place i, slot_of x) ∷ m.1))
+takes_value {M} i m r n = (r ≡ 0 → (x : SlotValue) × (n ≡ having m i x)
     × IsSnapshot m.0.it i x) × (r ≢ 0 → n ≡ m)
 
 abbrev pub takes_slot : {M : Type 0} → Step (Slot M) → ViewAndSlots M → ℕ → ViewAndSlots M → Type 0

@@ -79,9 +79,9 @@ pub record StaysIdle {S : Type 0} (m n : Me S View) : Type 0 where
   pub idle : IsIdle n
   pub constants : n.0.it.constants ≡ m.0.it.constants
 
--- the seat has taken the book, and belongs to the running instance `back`, if there is one
-pub record HoldsBook {M : Type 0} (m : ViewAndSlots M) (b : BookState) (back : Option InstanceData) : Type 0 where
-  pub slots : m.1 ≡ (0, slots.Out) ∷ []
+-- the seat has taken the book when it was b, in its slot it is c now, and the seat belongs to the running instance `back`, if there is one
+pub record HoldsBook {M : Type 0} (m : ViewAndSlots M) (b c : BookState) (back : Option InstanceData) : Type 0 where
+  pub slots : m.1 ≡ (0, slots.Book c) ∷ []
   pub held : m.0.it.held ≡ (0, TheBook b) ∷ []
   pub run : m.0.it.run ≡ back
 
@@ -92,7 +92,7 @@ counts_with (Some d) c = one_returned c
 
 -- an idle seat has taken the book; `back` is the instance whose seat it has taken in before that, if there is one
 pub record HasTaken {M : Type 0} (m n : ViewAndSlots M) (b : BookState) (back : Option InstanceData) : Type 0 where
-  pub holds : HoldsBook n b back
+  pub holds : HoldsBook n b b back
   pub knew : m.0.it.constants ≡ Some (constants_of b)
   pub knows : n.0.it.constants ≡ Some (constants_of b)
   pub seen : BeginsWith (events_of b.log) m.0.it.seen

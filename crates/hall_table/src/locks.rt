@@ -9,7 +9,18 @@ ghost use Rattle.hall_shards.specs.ShardValues.{ShardValue};
 ghost use Rattle.hall_table.specs.HallRule.{place, slot_of, view_of, width};
 ghost use Rattle.hall_table.specs.WorkerSeats.{HoldsBook};
 ghost use Rattle.hall_table.specs.InstanceSeats.{badge_view};
-ghost use Rattle.hall_table.specs.Steps.{BookSnapshot, ShardSnapshot, IsSnapshot, after_book, after_shard, holding, new_instance, run_seat};
+ghost use Rattle.std.specs.Prelude.{IsTrue, false};
+ghost use Rattle.hall_table.specs.Steps.{
+  having,
+  BookSnapshot,
+  ShardSnapshot,
+  IsSnapshot,
+  after_book,
+  after_shard,
+  holding,
+  new_instance,
+  run_seat,
+};
 ghost use Rattle.hall_table.specs.Steps.{with_run, without_run};
 ghost use Rattle.hall_table.specs.BookCalls.{IsBookCall};
 ghost use Rattle.hall_table.specs.SeatAccesses.{MadeBy};
@@ -28,7 +39,6 @@ use crate::witness::Witness;
 use atomic_table::Seat;
 use frame_book::book::Book;
 use hall_shards::shard::Shard;
-use heap_value::kept::Kept;
 use om_shared::writer::OmWriter;
 use pipe_frame::token::FrameToken;
 use std::sync::Wait;
@@ -44,8 +54,8 @@ pub struct Locks<M: Carrier> {
 
 /// How many words the words of two locks are apart, and how many slots their slots: lock `k` is the
 /// word at index `STRIDE * k`, and its value is in the slot at that index. Eight words have 64 bytes,
-/// and eight slots have 128, so each lock and each slot is on a cache line of its own, and threads
-/// that take different locks do not wait for each other's cache lines.
+/// so each lock is on a cache line of its own, and threads that take different locks do not wait for
+/// each other's cache lines.
 pub const STRIDE: usize = 8;
 
 // How often a thread looks at a lock that is taken before it gives the processor to others between its
@@ -61,41 +71,36 @@ fn pause(looks: u32) {
 }
 
 impl<M: Carrier> Locks<M> {
-    // Takes the value of a lock, if nobody has taken it.
-    fn try_take(&self, seat: &mut Seat<Slot<M>, View>, lock: usize) -> Option<Slot<M>>
+    // Takes a lock, if nobody has taken it. Its value is the seat's then, and stays in its slot.
+    fn try_take(&self, seat: &mut Seat<Slot<M>, View>, lock: usize) -> bool
         requires own { seat.old.table_id ≡ self.now.table.shared.table_id }
         requires lock { lock < 17 }
         ensures own { (seat.new.table_id ≡ seat.old.table_id) × (seat.new.id ≡ seat.old.id) }
-        ensures some { IfSome result (λ y. (x : SlotValue) × (y ≡ slot_of x)
-            × (seat.new.me ≡ (view_of (holding seat.old.me.0.it lock x), (place lock, Slot.Out) ∷ seat.old.me.1))
-            × IsSnapshot seat.old.me.0.it lock x) }
-        ensures none { IfNone result (seat.new.me ≡ seat.old.me) }
+        ensures taken { IsTrue result → (x : SlotValue) × (seat.new.me ≡ having seat.old.me lock x) × IsSnapshot seat.old.me.0.it lock x }
+        ensures none { result ≡ false → seat.new.me ≡ seat.old.me }
     {
         let shared = &self.table.shared;
-        let slot = STRIDE * lock;
-        if shared.swap::<TakesSlot>(seat, slot, 1) != 0 {
-            return None;
+        if shared.swap::<TakesSlot>(seat, STRIDE * lock, 1) != 0 {
+            return false;
         }
-        Some(shared.exchange(seat, slot, Slot::Out))
+        true
     }
 
-    // Takes the value of a lock, as soon as nobody has taken it.
-    fn take<R: Wait>(&self, rt: &R, seat: &mut Seat<Slot<M>, View>, lock: usize) -> Slot<M>
+    // Takes a lock, as soon as nobody has taken it.
+    fn take<R: Wait>(&self, rt: &R, seat: &mut Seat<Slot<M>, View>, lock: usize)
         requires own { seat.old.table_id ≡ self.now.table.shared.table_id }
         requires lock { lock < 17 }
         ensures own { (seat.new.table_id ≡ seat.old.table_id) × (seat.new.id ≡ seat.old.id) }
-        ensures taken { (x : SlotValue) × (result ≡ slot_of x)
-            × (seat.new.me ≡ (view_of (holding seat.old.me.0.it lock x), (place lock, Slot.Out) ∷ seat.old.me.1))
-            × IsSnapshot seat.old.me.0.it lock x }
+        ensures taken { (x : SlotValue) × (seat.new.me ≡ having seat.old.me lock x) × IsSnapshot seat.old.me.0.it lock x }
     {
-        if let Some(value) = self.try_take(seat, lock) {
-            return value;
+        if self.try_take(seat, lock) {
+            return;
         }
         let mut looks = 0u32;
         for _ in rt.forever() {
             if self.seems_free(lock) {
-                if let Some(value) = self.try_take(seat, lock) {
-                    return value;
+                if self.try_take(seat, lock) {
+                    return;
                 }
             }
             looks = looks.saturating_add(1);
@@ -112,18 +117,24 @@ impl<M: Carrier> Locks<M> {
         self.table.shared.peek(STRIDE * lock) == 0
     }
 
-    /// Takes the book.
-    pub fn take_book<R: Wait>(
-        &self,
-        rt: &R,
-        seat: &mut Seat<Slot<M>, View>,
-    ) -> Kept<Book<M, OmWriter>>
+    /// Takes the book, which stays in its slot.
+    pub fn take_book<R: Wait>(&self, rt: &R, seat: &mut Seat<Slot<M>, View>)
         requires own { seat.old.table_id ≡ self.now.table.shared.table_id }
         ensures own { (seat.new.table_id ≡ seat.old.table_id) × (seat.new.id ≡ seat.old.id) }
-        ensures taken { seat.new.me ≡ (view_of (holding seat.old.me.0.it 0 (TheBook result)), (0, Slot.Out) ∷ seat.old.me.1) }
-        ensures snapshot { BookSnapshot seat.old.me.0.it 0 result }
+        ensures taken { (b : BookState) × (seat.new.me ≡ having seat.old.me 0 (TheBook b)) × BookSnapshot seat.old.me.0.it 0 b }
     {
-        match self.take(rt, seat, 0) {
+        self.take(rt, seat, 0);
+    }
+
+    /// Takes the book that the seat has out of its slot.
+    pub fn book_out(&self, seat: &mut Seat<Slot<M>, View>) -> Book<M, OmWriter>
+        requires own { seat.old.table_id ≡ self.now.table.shared.table_id }
+        requires taken { (b : BookState) × (seat.old.me.1 ≡ (0, Slot.Book b) ∷ rest seat.old.me.1) }
+        ensures own { (seat.new.table_id ≡ seat.old.table_id) × (seat.new.id ≡ seat.old.id) }
+        ensures view { seat.new.me.0 ≡ seat.old.me.0 }
+        ensures book { seat.old.me.1 ≡ (0, Slot.Book result) ∷ rest seat.old.me.1 }
+    {
+        match self.table.shared.exchange(seat, 0, Slot::Out) {
             Slot::Book(book) => book,
             Slot::Shard(_) => unreachable!(),
             Slot::Token(_) => unreachable!(),
@@ -131,23 +142,28 @@ impl<M: Carrier> Locks<M> {
         }
     }
 
-    /// Takes a shard.
-    pub fn take_shard<R: Wait>(
-        &self,
-        rt: &R,
-        seat: &mut Seat<Slot<M>, View>,
-        number: u32,
-    ) -> Kept<Shard>
+    /// Takes a shard, which stays in its slot.
+    pub fn take_shard<R: Wait>(&self, rt: &R, seat: &mut Seat<Slot<M>, View>, number: u32)
         requires own { seat.old.table_id ≡ self.now.table.shared.table_id }
         requires there { number < 16 }
         ensures own { (seat.new.table_id ≡ seat.old.table_id) × (seat.new.id ≡ seat.old.id) }
-        ensures taken { seat.new.me ≡ (
-          view_of (holding seat.old.me.0.it (1 + number) (TheShard result)),
-          (place (1 + number), Slot.Out) ∷ seat.old.me.1,
-        ) }
-        ensures snapshot { ShardSnapshot seat.old.me.0.it (1 + number) result }
+        ensures taken { (x : ShardValue) × (seat.new.me ≡ having seat.old.me (1 + number) (TheShard x))
+            × ShardSnapshot seat.old.me.0.it (1 + number) x }
     {
-        match self.take(rt, seat, 1 + number as usize) {
+        self.take(rt, seat, 1 + number as usize);
+    }
+
+    /// Takes the shard that the seat has out of its slot.
+    pub fn shard_out(&self, seat: &mut Seat<Slot<M>, View>, number: u32) -> Shard
+        requires own { seat.old.table_id ≡ self.now.table.shared.table_id }
+        requires there { number < 16 }
+        requires taken { (x : ShardValue) × (seat.old.me.1 ≡ (place (1 + number), Slot.Shard x) ∷ rest seat.old.me.1) }
+        ensures own { (seat.new.table_id ≡ seat.old.table_id) × (seat.new.id ≡ seat.old.id) }
+        ensures view { seat.new.me.0 ≡ seat.old.me.0 }
+        ensures shard { seat.old.me.1 ≡ (place (1 + number), Slot.Shard result) ∷ rest seat.old.me.1 }
+    {
+        let slot = STRIDE * (1 + number as usize);
+        match self.table.shared.exchange(seat, slot, Slot::Out) {
             Slot::Book(_) => unreachable!(),
             Slot::Shard(shard) => shard,
             Slot::Token(_) => unreachable!(),
@@ -156,36 +172,36 @@ impl<M: Carrier> Locks<M> {
     }
 
     /// Gives the book back.
-    pub fn return_book(&self, seat: &mut Seat<Slot<M>, View>, book: Kept<Book<M, OmWriter>>)
+    pub fn return_book(&self, seat: &mut Seat<Slot<M>, View>)
         requires own { seat.old.table_id ≡ self.now.table.shared.table_id }
-        requires call { (b : BookState) × (back : Option InstanceData) × HoldsBook seat.old.me b back × IsBookCall b back book None }
+        requires call { (b : BookState) × (c : BookState) × (back : Option InstanceData) × HoldsBook seat.old.me b c back
+            × IsBookCall b back c None }
         ensures own { (seat.new.table_id ≡ seat.old.table_id) × (seat.new.id ≡ seat.old.id) }
-        ensures given { seat.new.me ≡ (view_of (after_book seat.old.me.0.it book None), []) }
+        ensures given { (c : BookState) → seat.old.me.1 ≡ (0, Slot.Book c) ∷ []
+            → seat.new.me ≡ (view_of (after_book seat.old.me.0.it c None), []) }
     {
-        let shared = &self.table.shared;
-        drop(shared.exchange(seat, 0, Slot::Book(book)));
-        shared.store::<ReturnsBook>(seat, 0, 0);
+        self.table.shared.store::<ReturnsBook>(seat, 0, 0);
     }
 
     /// Gives the book back beside a token that it has given out, whose payload gets a seat.
     pub fn return_book_and_token(
         &self,
         seat: &mut Seat<Slot<M>, View>,
-        book: Kept<Book<M, OmWriter>>,
         mut token: FrameToken<M>,
     ) -> FrameToken<M>
         requires own { seat.old.table_id ≡ self.now.table.shared.table_id }
-        requires call { (b : BookState) × (back : Option InstanceData) × HoldsBook seat.old.me b back
-            × IsBookCall b back book (Some (new_instance book (fields_of token))) }
+        requires call { (b : BookState) × (c : BookState) × (back : Option InstanceData) × HoldsBook seat.old.me b c back
+            × IsBookCall b back c (Some (new_instance c (fields_of token))) }
         requires constants { (a : HallConstants) × (seat.old.me.0.it.constants ≡ Some a) }
         ensures own { (seat.new.table_id ≡ seat.old.table_id) × (seat.new.id ≡ seat.old.id) }
-        ensures given { seat.new.me ≡ (view_of (without_run (after_book seat.old.me.0.it book None)), []) }
-        ensures token { (r : RunSeat) × (result ≡ record token { payload = M.with_seat token.payload (Some r) })
+        ensures given { (c : BookState) → seat.old.me.1 ≡ (0, Slot.Book c) ∷ []
+            → seat.new.me ≡ (view_of (without_run (after_book seat.old.me.0.it c None)), []) }
+        ensures token { (c : BookState) → seat.old.me.1 ≡ (0, Slot.Book c) ∷ []
+            → (r : RunSeat) × (result ≡ record token { payload = M.with_seat token.payload (Some r) })
             × (r.badge.table_id ≡ seat.old.table_id) × (r.badge.views ≡ view_of
-            (run_seat (after_book seat.old.me.0.it book (Some (new_instance book (fields_of token))))) ∷ []) }
+            (run_seat (after_book seat.old.me.0.it c (Some (new_instance c (fields_of token))))) ∷ []) }
     {
         let shared = &self.table.shared;
-        drop(shared.exchange(seat, 0, Slot::Book(book)));
         let witness = Witness::of(&token);
         self.return_beside(seat, &Slot::Token(witness));
         let run = shared.split_seat::<SplitsInstance>(seat);
@@ -223,19 +239,18 @@ impl<M: Carrier> Locks<M> {
     }
 
     /// Gives a shard back.
-    pub fn return_shard(&self, seat: &mut Seat<Slot<M>, View>, number: u32, shard: Kept<Shard>)
+    pub fn return_shard(&self, seat: &mut Seat<Slot<M>, View>, number: u32)
         requires own { seat.old.table_id ≡ self.now.table.shared.table_id }
         requires there { number < 16 }
-        requires made { (x : ShardValue) × (seat.old.me.1 ≡ (place (1 + number), Slot.Out) ∷ [])
+        requires made { (x : ShardValue) × (y : ShardValue) × (seat.old.me.1 ≡ (place (1 + number), Slot.Shard y) ∷ [])
             × (seat.old.me.0.it.held ≡ (1 + number, TheShard x) ∷ [])
-            × ((shard ≡ x) ⊎ ((d : InstanceData) × (seat.old.me.0.it.run ≡ Some d) × MadeBy d number x shard)) }
+            × ((y ≡ x) ⊎ ((d : InstanceData) × (seat.old.me.0.it.run ≡ Some d) × MadeBy d number x y)) }
         ensures own { (seat.new.table_id ≡ seat.old.table_id) × (seat.new.id ≡ seat.old.id) }
-        ensures given { (x : ShardValue) → seat.old.me.0.it.held ≡ (1 + number, TheShard x) ∷ []
-            → seat.new.me ≡ (view_of (after_shard seat.old.me.0.it x shard), []) }
+        ensures given { (x : ShardValue) (y : ShardValue) → seat.old.me.0.it.held ≡ (1 + number, TheShard x) ∷ []
+            → seat.old.me.1 ≡ (place (1 + number), Slot.Shard y) ∷ []
+            → seat.new.me ≡ (view_of (after_shard seat.old.me.0.it x y), []) }
     {
-        let shared = &self.table.shared;
-        let slot = STRIDE * (1 + number as usize);
-        drop(shared.exchange(seat, slot, Slot::Shard(shard)));
-        shared.store::<ReturnsShard>(seat, slot, 0);
+        let word = STRIDE * (1 + number as usize);
+        self.table.shared.store::<ReturnsShard>(seat, word, 0);
     }
 }

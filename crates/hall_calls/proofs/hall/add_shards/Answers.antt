@@ -1,9 +1,8 @@
 -- The shards are appended one after the other.
-use Rattle.std.proofs.Common.{◌++◌, ◌∷◌, [], ◌∙◌, length, arith, ap, subst, sym, append_assoc}
+use Rattle.std.proofs.Common.{◌++◌, ◌∷◌, [], ◌∙◌, length, arith, ap, sym, append_assoc}
 use Rattle.std.proofs.lemmas.List.{length-append}
 use Rattle.pipe_model.specs.Language.SyntaxTree.{tree_of}
 use Rattle.hall_calls.specs.NewShards.{IsNewShard, shard_slots, spaced}
-use Rattle.hall_shards.specs.ShardValues.{ShardValue}
 use Rattle.hall_table.specs.declared.slot.Slot.TheVariants as slots
 use Rattle.hall_calls.proofs.FirstTables.{new_more, shard_more}
 use Rattle.hall_calls.proofs.hall.add_shards.Goals as goal
@@ -12,7 +11,7 @@ pub loop-number-preserved : goal.loop-number-preserved
 loop-number-preserved g c =
     let i = c.loop-number.invariant in
     let s = i.shards in
-    let x = c.in_ok-kept.kept in
+    let x = c.in_ok-shard.shard in
     let e = c.in_ok-shard.ensures in
     let p = c.push_slot.ensures in
     let init = c.args.slots.now.items in
@@ -31,8 +30,6 @@ loop-number-preserved g c =
             ∙ (append_assoc init (shard_slots s.0) (spaced (slots.Shard x)) ∙ ap (λ l. init ++ l) (sym (shard_more g.row.M.Denot s.0 x)))),
         (let n = length-append s.0 (x ∷ []) in let l = s.2 in omega (arith, n, l)),
         new_more (IsNewShard c.args.before.now (tree_of c.args.checked.now) c.args.passes.now) s.0 x c.loop-number.number s.2 s.3
-            (subst (λ (y : ShardValue). IsNewShard c.args.before.now (tree_of c.args.checked.now) c.args.passes.now c.loop-number.number y)
-            (sym c.in_ok-kept.ensures)
             (record {
               number = e.number;
               part = e.part;
@@ -43,6 +40,6 @@ loop-number-preserved g c =
               last =
                   e.last;
               lists = lists;
-            })),
+            }),
       );
     }

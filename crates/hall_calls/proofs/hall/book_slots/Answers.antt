@@ -1,5 +1,4 @@
 use Rattle.std.proofs.Common.{◌++◌, ◌∙◌, List, ap}
-use Rattle.frame_book.specs.BookStates.{BookState}
 use Rattle.hall_calls.specs.NewShards.{spaced}
 use Rattle.hall_table.specs.declared.slot.Slot.{Slot}
 use Rattle.hall_table.specs.declared.slot.Slot.TheVariants as slots
@@ -7,5 +6,4 @@ use Rattle.hall_calls.proofs.hall.book_slots.Goals as goal
 
 pub returns-in-Ok-clause-items : goal.returns-in-Ok-clause-items
 returns-in-Ok-clause-items g c =
-    c.push_slot.ensures.items ∙ (ap (λ (l : List (Slot g.row.M.Denot)). l ++ spaced (slots.Book c.in_ok-kept.kept)) c.in-Ok.ensures.items
-    ∙ ap (λ (k : BookState). spaced (slots.Book k)) c.in_ok-kept.ensures)
+    c.push_slot.ensures.items ∙ ap (λ (l : List (Slot g.row.M.Denot)). l ++ spaced (slots.Book c.args.book)) c.in-Ok.ensures.items

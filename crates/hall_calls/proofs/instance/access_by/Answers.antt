@@ -1,29 +1,61 @@
-use Rattle.std.proofs.Common.{◌≡◌, ◌+◌, ◌%◌, ◌∙◌, subst, sym, ap, [], ◌∷◌, refl, Some, inl, inr, ⊎_elim}
+use Rattle.std.proofs.Common.{◌≡◌, ◌+◌, ◌%◌, ◌/◌, ◌∙◌, false, subst, sym, ap, [], ◌∷◌, refl, Some, inl, inr, ⊎_elim}
 use Rattle.pipe_frame.specs.Ties.{AreSeenLists, HallName}
 use Rattle.hall_table.specs.SeatViews.{SeatView, TheShard}
 use Rattle.hall_table.specs.SeatAccesses.{MadeBy}
-use Rattle.hall_table.specs.HallRule.{place, view_of}
+use Rattle.hall_table.specs.HallRule.{view_of}
 use Rattle.hall_table.specs.WorkerSeats.{name_of}
 use Rattle.hall_table.specs.Steps.{ShardSnapshot, ViewAndSlots, after_shard, after_log}
-use Rattle.hall_table.specs.declared.slot.Slot.TheVariants as slots
-use Rattle.hall_table.proofs.Seating.{lent_shard}
 use Rattle.hall_calls.proofs.InstanceAccesses.{can_begin_in, same_lists, either_made, run_done, trace_done}
+use Rattle.hall_calls.proofs.InstanceAccesses.{holds_only, in_slot, lent_shard, shard_is, shard_there}
+use Rattle.hall_shards.specs.ShardValues.{ShardValue, history_at}
+use Rattle.access_history.specs.KnownOrder.{may_ask}
 use Rattle.hall_calls.proofs.instance.access_by.Goals as goal
+
+pub slot_mut-slot-requires : goal.slot_mut-slot-requires
+slot_mut-slot-requires g c =
+    let t = c.take_shard_of-asks.ensures.taken in (
+      c.take_shard_of-asks.ensures.own.0 ∙ c.requires.own,
+      shard_there g.row.M.Denot c.args.run.now.me c.take_shard_of-asks.new.run.me (1 + c.args.cell.0 % 16) t.0 c.requires.runs.1.slots t.1,
+    )
+
+pub shard_mut-lent-requires : goal.shard_mut-lent-requires
+shard_mut-lent-requires g c = let t = c.take_shard_of-asks.ensures.taken in record {
+  there = (
+    t.0,
+    lent_shard g.row.M.Denot c.args.run.now.me c.take_shard_of-asks.new.run.me (1 + c.args.cell.0 % 16) t.0 c.requires.runs.1.slots t.1
+        c.slot_mut-slot.result.now c.slot_mut-slot.ensures.value,
+  );
+}
+
+pub access-done-requires-clause-asks : goal.access-done-requires-clause-asks
+access-done-requires-clause-asks g c =
+    let r = c.requires.runs.1 in
+    let t = c.take_shard_of-asks.ensures.taken in
+    let same = shard_is g.row.M.Denot c.args.run.now.me c.take_shard_of-asks.new.run.me (1 + c.args.cell.0 % 16) t.0 r.slots t.1
+    c.slot_mut-slot.result.now c.shard_mut-lent.result.now c.slot_mut-slot.ensures.value c.shard_mut-lent.ensures.value in
+    λ e. subst (λ (z : ShardValue). may_ask (Some c.args.joined) c.args.who.node (history_at z.histories (c.args.cell.0 / 16)) ≡ false)
+    (sym same) (t.3 e)
 
 pub access-done-requires-clause-ready : goal.access-done-requires-clause-ready
 access-done-requires-clause-ready g c =
     let r = c.requires.runs.1 in
-    can_begin_in c.args.run.now.table_id c.args.run.now.me.0.it c.take_shard_of-shard.result.0 c.get_mut-lent.result.now c.args.cell.0
-    r.constants c.take_shard_of-shard.ensures.snapshot r.knows c.requires.cell c.get_mut-lent.ensures.value
+    let t = c.take_shard_of-asks.ensures.taken in
+    let same = shard_is g.row.M.Denot c.args.run.now.me c.take_shard_of-asks.new.run.me (1 + c.args.cell.0 % 16) t.0 r.slots t.1
+    c.slot_mut-slot.result.now c.shard_mut-lent.result.now c.slot_mut-slot.ensures.value c.shard_mut-lent.ensures.value in
+    can_begin_in c.args.run.now.table_id c.args.run.now.me.0.it t.0 c.shard_mut-lent.result.now c.args.cell.0
+    r.constants t.2 r.knows c.requires.cell same
 
 pub access-done-requires-clause-lists : goal.access-done-requires-clause-lists
 access-done-requires-clause-lists g c =
     let r = c.requires.runs.1 in
     let z = c.args.run.now.table_id in
     let v = c.args.run.now.me.0.it in
-    let x = c.get_mut-lent.result.now in
+    let x = c.shard_mut-lent.result.now in
     let i = 1 + c.args.cell.0 % 16 in
-    let snapshot = subst (ShardSnapshot v i) (sym c.get_mut-lent.ensures.value) c.take_shard_of-shard.ensures.snapshot in
+    let t = c.take_shard_of-asks.ensures.taken in
+    let same = shard_is g.row.M.Denot c.args.run.now.me c.take_shard_of-asks.new.run.me i t.0 r.slots t.1
+    c.slot_mut-slot.result.now x c.slot_mut-slot.ensures.value c.shard_mut-lent.ensures.value in
+    let snapshot = subst (ShardSnapshot v i) (sym same) t.2 in
     same_lists v i x r.constants c.args.passes.now snapshot r.knows
     (subst (λ (x : HallName). AreSeenLists (Some c.args.passes.now) x.lists.down x.lists.right) (ap (name_of z) r.knows) c.requires.lists)
 
@@ -31,19 +63,23 @@ pub return_shard-requires-clause-made : goal.return_shard-requires-clause-made
 return_shard-requires-clause-made g c =
     let q = c.requires.runs in
     let r = q.1 in
-    let x = c.get_mut-lent.result.now in
+    let m = c.args.run.now.me in
+    let n = c.take_shard_of-asks.new.run.me in
     let i = 1 + c.args.cell.0 % 16 in
-    let t = lent_shard g.row.M.Denot c.args.run.now.me c.take_shard_of-shard.new.run.me i c.take_shard_of-shard.result.0 x
-    c.get_mut-lent.ensures.value c.take_shard_of-shard.ensures.taken in
+    let t = c.take_shard_of-asks.ensures.taken in
+    let x = c.shard_mut-lent.result.now in
+    let y = c.access-done.new.self in
+    let same = shard_is g.row.M.Denot m n i t.0 r.slots t.1 c.slot_mut-slot.result.now x c.slot_mut-slot.ensures.value
+    c.shard_mut-lent.ensures.value in
     let e = c.access-done.ensures in
-    let m1 = c.take_shard_of-shard.new.run.me in
-    let run_is : m1.0.it.run ≡ Some r.run_data = ap (λ (k : ViewAndSlots g.row.M.Denot). k.0.it.run) t ∙ r.run_is in (
+    let run_is : n.0.it.run ≡ Some r.run_data = ap (λ (k : ViewAndSlots g.row.M.Denot). k.0.it.run) t.1 ∙ r.run_is in (
       x,
-      ap (λ (k : ViewAndSlots g.row.M.Denot). k.1) t ∙ ap (λ cs. (place i, slots.Out) ∷ cs) r.slots,
-      ap (λ (k : ViewAndSlots g.row.M.Denot). k.0.it.held) t ∙ ap (λ hs. (i, TheShard x) ∷ hs) r.held,
-      ⊎_elim (λ (s : c.access-done.new.self ≡ x). inl s)
-          (λ (s : MadeBy r.run_data (c.args.cell.0 % 16) x c.access-done.new.self). inr (r.run_data, run_is, s))
-          (either_made c.args.who q.0 q.2 c.args.now c.args.joined c.args.cell.0 q.3 q.4 c.args.write x c.access-done.new.self
+      y,
+      in_slot g.row.M.Denot m n i t.0 r.slots t.1 y,
+      holds_only g.row.M.Denot m n i t.0 r.slots t.1 r.held ∙ ap (λ (z : ShardValue). (i, TheShard z) ∷ []) (sym same),
+      ⊎_elim (λ (s : y ≡ x). inl s)
+          (λ (s : MadeBy r.run_data (c.args.cell.0 % 16) x y). inr (r.run_data, run_is, s))
+          (either_made c.args.who q.0 q.2 c.args.now c.args.joined c.args.cell.0 q.3 q.4 c.args.write x y
           c.args.trace.now c.access-done.new.trace c.access-done.result r.run_data r.fields e.none e.made),
     )
 
@@ -51,16 +87,20 @@ pub returns-clause-ran : goal.returns-clause-ran
 returns-clause-ran g c =
     let q = c.requires.runs in
     let r = q.1 in
-    let x = c.get_mut-lent.result.now in
-    let y = c.access-done.new.self in
+    let m = c.args.run.now.me in
+    let n = c.take_shard_of-asks.new.run.me in
     let i = 1 + c.args.cell.0 % 16 in
-    let t = lent_shard g.row.M.Denot c.args.run.now.me c.take_shard_of-shard.new.run.me i c.take_shard_of-shard.result.0 x
-    c.get_mut-lent.ensures.value c.take_shard_of-shard.ensures.taken in
+    let k = c.take_shard_of-asks.ensures.taken in
+    let x = c.shard_mut-lent.result.now in
+    let y = c.access-done.new.self in
+    let same = shard_is g.row.M.Denot m n i k.0 r.slots k.1 c.slot_mut-slot.result.now x c.slot_mut-slot.ensures.value
+    c.shard_mut-lent.ensures.value in
     let e = c.access-done.ensures in
-    let v = c.args.run.now.me.0.it in
-    let held = ap (λ (k : ViewAndSlots g.row.M.Denot). k.0.it.held) t ∙ ap (λ hs. (i, TheShard x) ∷ hs) r.held in
-    let given = c.return_shard.ensures.given x held in
-    let w : SeatView = after_shard c.take_shard_of-shard.new.run.me.0.it x y in
+    let t = k.1 in
+    let held = holds_only g.row.M.Denot m n i k.0 r.slots k.1 r.held ∙ ap (λ (z : ShardValue). (i, TheShard z) ∷ []) (sym same) in
+    let given = c.return_shard.ensures.given x y held (in_slot g.row.M.Denot m n i k.0 r.slots k.1 y) in
+    let v = m.0.it in
+    let w : SeatView = after_shard n.0.it x y in
     given ∙ ap (λ (u : SeatView). (view_of u, [])) (run_done c.args.who q.0 q.2 c.args.now c.args.joined c.args.cell.0 q.3 q.4 c.args.write
     x y c.args.trace.now c.access-done.new.trace c.access-done.result v w refl
     (ap (λ (k : ViewAndSlots g.row.M.Denot). k.0.it.constants) t) (ap (λ (k : ViewAndSlots g.row.M.Denot). k.0.it.seen) t)
@@ -71,5 +111,5 @@ pub returns-clause-trace : goal.returns-clause-trace
 returns-clause-trace g c =
     let q = c.requires.runs in
     let e = c.access-done.ensures in
-    trace_done c.args.who q.0 q.2 c.args.now c.args.joined c.args.cell.0 q.3 q.4 c.args.write c.get_mut-lent.result.now
+    trace_done c.args.who q.0 q.2 c.args.now c.args.joined c.args.cell.0 q.3 q.4 c.args.write c.shard_mut-lent.result.now
     c.access-done.new.self c.args.trace.now c.access-done.new.trace c.access-done.result e.none e.made

@@ -14,7 +14,7 @@ use Rattle.frame_book.specs.BookStates.{HasRisingTickets, Out, events_of, state_
 use Rattle.hall_table.specs.SeatViews.{constants_of}
 use Rattle.hall_calls.proofs.BookCalls.{stopped_later}
 use Rattle.hall_calls.proofs.EndingCalls.{enters_not_stopped, goes_on}
-use Rattle.hall_calls.proofs.TakenBooks.{advanced, ended_without, hall_is, knows_after, lent_with}
+use Rattle.hall_calls.proofs.TakenBooks.{in_slot, slot_there, book_is, holds_call, advanced, ended_without, hall_is, knows_after, lent_with}
 use Rattle.hall_calls.proofs.TakenBooks.{none_goes, runs_after, seen_after, sees, stays_idle}
 use Rattle.pipe_frame.specs.TokenCounts.{Exchanges}
 use Rattle.hall_calls.proofs.TokenMoves.{none_next, token_returned, token_given_and_returned}
@@ -22,42 +22,47 @@ use Rattle.hall_calls.proofs.worker.advance_at.Goals as goal
 
 pub advance-next-requires-clause-stopped : goal.advance-next-requires-clause-stopped
 advance-next-requires-clause-stopped g c =
-    λ e. stopped_later c.args.seat.now.me.0.it.seen (events_of c.get_mut-lent.result.now.log)
-    (lent_with g.row.M.Denot c.args.seat.now.me c.take_back-book.new.seat.me c.take_back-book.result c.get_mut-lent.result.now _ _
-    c.get_mut-lent.ensures.value c.take_back-book.ensures.taken).1.seen (c.requires.stopped e)
+    λ e. stopped_later c.args.seat.now.me.0.it.seen (events_of c.book_mut-lent.result.now.log)
+    (lent_with g.row.M.Denot c.args.seat.now.me c.take_back.new.seat.me c.slot_mut-slot.result.now c.book_mut-lent.result.now _ _
+    c.slot_mut-slot.ensures.value c.book_mut-lent.ensures.value c.take_back.ensures.taken).1.seen (c.requires.stopped e)
 
 pub return_token-requires-clause-call : goal.return_token-requires-clause-call
 return_token-requires-clause-call g c =
-    let t = lent_with g.row.M.Denot c.args.seat.now.me c.take_back-book.new.seat.me c.take_back-book.result c.get_mut-lent.result.now _ _
-    c.get_mut-lent.ensures.value c.take_back-book.ensures.taken in
-    let b = c.get_mut-lent.result.now in
-    let f = fields_of c.take_back-book.new.token in
-    let same : f ≡ fields_of c.args.token = ap (λ (k : FrameToken g.row.M.Denot). fields_of k) c.take_back-book.ensures.token in
+    let t = lent_with g.row.M.Denot c.args.seat.now.me c.take_back.new.seat.me c.slot_mut-slot.result.now c.book_mut-lent.result.now _ _
+    c.slot_mut-slot.ensures.value c.book_mut-lent.ensures.value c.take_back.ensures.taken in
+    let b = c.book_mut-lent.result.now in
+    let f = fields_of c.take_back.new.token in
+    let same : f ≡ fields_of c.args.token = ap (λ (k : FrameToken g.row.M.Denot). fields_of k) c.take_back.ensures.token in
     let e = c.in-Go.ensures in (
       b,
+      c.advance-next.new.self,
       Some t.0,
-      t.1.holds,
+      holds_call g.row.M.Denot c.take_back.new.seat.me t.1.holds c.advance-next.new.self,
       goes_on b c.advance-next.new.self t.0 f c.args.trace c.args.end Out _ (t.2.fields ∙ sym same) (t.2.entries ∙ sym c.requires.trace)
           (fields_of c.in-Go.token)
           (enters_not_stopped (state_of b) f.iteration c.args.end e.returned.1) refl e.book c.entries.ensures.control
           (subst HasRisingTickets c.entries.ensures.log c.entries.ensures.rise)
           e.returned.2 e.token.0.out e.token.0.parts e.now,
+      knows_after c.args.seat.now.me c.take_back.new.seat.me c.book_mut-lent.result.now (Some t.0) t.1 c.advance-next.new.self
+          (ap constants_of c.in-Go.ensures.book),
+      e.token.0,
     )
 
 pub return_book-requires : goal.return_book-requires
 return_book-requires g c =
-    let t = lent_with g.row.M.Denot c.args.seat.now.me c.take_back-book.new.seat.me c.take_back-book.result c.get_mut-lent.result.now _ _
-    c.get_mut-lent.ensures.value c.take_back-book.ensures.taken in
-    let b = c.get_mut-lent.result.now in
-    let f = fields_of c.take_back-book.new.token in
-    let same : f ≡ fields_of c.args.token = ap (λ (k : FrameToken g.row.M.Denot). fields_of k) c.take_back-book.ensures.token in
+    let t = lent_with g.row.M.Denot c.args.seat.now.me c.take_back.new.seat.me c.slot_mut-slot.result.now c.book_mut-lent.result.now _ _
+    c.slot_mut-slot.ensures.value c.book_mut-lent.ensures.value c.take_back.ensures.taken in
+    let b = c.book_mut-lent.result.now in
+    let f = fields_of c.take_back.new.token in
+    let same : f ≡ fields_of c.args.token = ap (λ (k : FrameToken g.row.M.Denot). fields_of k) c.take_back.ensures.token in
     let e = c.advance-next.ensures in
     record {
-      own = c.take_back-book.ensures.own ∙ c.requires.own;
+      own = c.take_back.ensures.own ∙ c.requires.own;
       call = (
         b,
+        c.advance-next.new.self,
         Some t.0,
-        t.1.holds,
+        holds_call g.row.M.Denot c.take_back.new.seat.me t.1.holds c.advance-next.new.self,
         ended_without b c.advance-next.new.self t.0 f c.args.trace c.args.end c.advance-next.result c.in_default.not-Go
             (t.2.fields ∙ sym same) (t.2.entries ∙ sym c.requires.trace) e.returned e.book
             c.entries.ensures.control (subst HasRisingTickets c.entries.ensures.log c.entries.ensures.rise),
@@ -66,20 +71,24 @@ return_book-requires g c =
 
 pub returns-in-Go-clause-idle : goal.returns-in-Go-clause-idle
 returns-in-Go-clause-idle g c =
-    let t = lent_with g.row.M.Denot c.args.seat.now.me c.take_back-book.new.seat.me c.take_back-book.result c.get_mut-lent.result.now _ _
-    c.get_mut-lent.ensures.value c.take_back-book.ensures.taken in
-    stays_idle g.row.M.Denot c.args.seat.now.me c.take_back-book.new.seat.me c.get_mut-lent.result.now
-    (Some t.0) t.1 c.return_token.new.seat.me c.advance-next.new.self _ c.return_token.ensures.given
+    let slot = in_slot g.row.M.Denot c.take_back.new.seat.me c.take_back.ensures.taken.2.holds c.advance-next.new.self in
+    let given = c.return_token.ensures.given c.advance-next.new.self slot in
+    let t = lent_with g.row.M.Denot c.args.seat.now.me c.take_back.new.seat.me c.slot_mut-slot.result.now c.book_mut-lent.result.now _ _
+    c.slot_mut-slot.ensures.value c.book_mut-lent.ensures.value c.take_back.ensures.taken in
+    stays_idle g.row.M.Denot c.args.seat.now.me c.take_back.new.seat.me c.book_mut-lent.result.now
+    (Some t.0) t.1 c.return_token.new.seat.me c.advance-next.new.self _ given
     (ap constants_of c.in-Go.ensures.book) c.entries.ensures.control
 
 pub returns-in-Go-clause-sees : goal.returns-in-Go-clause-sees
 returns-in-Go-clause-sees g c =
+    let slot = in_slot g.row.M.Denot c.take_back.new.seat.me c.take_back.ensures.taken.2.holds c.advance-next.new.self in
+    let given = c.return_token.ensures.given c.advance-next.new.self slot in
     let m = c.args.seat.now.me in
-    let t = lent_with g.row.M.Denot c.args.seat.now.me c.take_back-book.new.seat.me c.take_back-book.result c.get_mut-lent.result.now _ _
-    c.get_mut-lent.ensures.value c.take_back-book.ensures.taken in
-    let b = c.get_mut-lent.result.now in
-    let f = fields_of c.take_back-book.new.token in
-    let same : f ≡ fields_of c.args.token = ap (λ (k : FrameToken g.row.M.Denot). fields_of k) c.take_back-book.ensures.token in
+    let t = lent_with g.row.M.Denot c.args.seat.now.me c.take_back.new.seat.me c.slot_mut-slot.result.now c.book_mut-lent.result.now _ _
+    c.slot_mut-slot.ensures.value c.book_mut-lent.ensures.value c.take_back.ensures.taken in
+    let b = c.book_mut-lent.result.now in
+    let f = fields_of c.take_back.new.token in
+    let same : f ≡ fields_of c.args.token = ap (λ (k : FrameToken g.row.M.Denot). fields_of k) c.take_back.ensures.token in
     let z = c.return_token.new.seat.me in
     let e = c.in-Go.ensures in
     let s = c.return_token.ensures.same in
@@ -90,79 +99,94 @@ returns-in-Go-clause-sees g c =
     (λ q. AdvanceReturns q c.args.token.iteration c.args.token.index c.args.end (nexts.Go x))) (sym s.1)
     (subst (λ (k : TokenFields). Sees m.0.it.seen z.0.it.seen (stage_end_events k.iteration c.args.end ++ Enter k.iteration ∷ [])
     (λ q. AdvanceReturns q k.iteration k.index c.args.end (nexts.Go u))) same
-    (sees g.row.M.Denot m c.take_back-book.new.seat.me b (Some t.0) t.1 z c.advance-next.new.self _ c.return_token.ensures.given es
+    (sees g.row.M.Denot m c.take_back.new.seat.me b (Some t.0) t.1 z c.advance-next.new.self _ given es
     (λ q. AdvanceReturns q f.iteration f.index c.args.end (nexts.Go u))
     (advanced {M = g.row.M.Denot} b c.advance-next.new.self f c.args.trace c.args.end (nexts.Go c.in-Go.token) e.book).1 e.returned))
 
 pub returns-in_default : goal.returns-in_default
 returns-in_default g c =
+    let slot = in_slot g.row.M.Denot c.take_back.new.seat.me c.take_back.ensures.taken.2.holds c.advance-next.new.self in
+    let given = c.return_book.ensures.given c.advance-next.new.self slot in
     let m = c.args.seat.now.me in
-    let n = c.take_back-book.new.seat.me in
-    let t = lent_with g.row.M.Denot c.args.seat.now.me c.take_back-book.new.seat.me c.take_back-book.result c.get_mut-lent.result.now _ _
-    c.get_mut-lent.ensures.value c.take_back-book.ensures.taken in
-    let b = c.get_mut-lent.result.now in
-    let f = fields_of c.take_back-book.new.token in
-    let same : f ≡ fields_of c.args.token = ap (λ (k : FrameToken g.row.M.Denot). fields_of k) c.take_back-book.ensures.token in
+    let n = c.take_back.new.seat.me in
+    let t = lent_with g.row.M.Denot c.args.seat.now.me c.take_back.new.seat.me c.slot_mut-slot.result.now c.book_mut-lent.result.now _ _
+    c.slot_mut-slot.ensures.value c.book_mut-lent.ensures.value c.take_back.ensures.taken in
+    let b = c.book_mut-lent.result.now in
+    let f = fields_of c.take_back.new.token in
+    let same : f ≡ fields_of c.args.token = ap (λ (k : FrameToken g.row.M.Denot). fields_of k) c.take_back.ensures.token in
     let x = c.advance-next.new.self in
     let r = c.advance-next.result in
     let z = c.return_book.new.seat.me in
     let e = c.advance-next.ensures in
     let q = advanced b x f c.args.trace c.args.end r e.book in
     record {
-      own = c.return_book.ensures.own.0 ∙ c.take_back-book.ensures.own;
-      idle = stays_idle g.row.M.Denot m n b (Some t.0) t.1 z x _ c.return_book.ensures.given q.0 c.entries.ensures.control;
+      own = c.return_book.ensures.own.0 ∙ c.take_back.ensures.own;
+      idle = stays_idle g.row.M.Denot m n b (Some t.0) t.1 z x _ given q.0 c.entries.ensures.control;
       sees = subst (λ (k : TokenFields). Sees m.0.it.seen z.0.it.seen (advance_events k.iteration c.args.end r)
           (λ s. AdvanceReturns s k.iteration k.index c.args.end r)) same
-          (sees g.row.M.Denot m n b (Some t.0) t.1 z x _ c.return_book.ensures.given (advance_events f.iteration c.args.end r)
+          (sees g.row.M.Denot m n b (Some t.0) t.1 z x _ given (advance_events f.iteration c.args.end r)
           (λ s. AdvanceReturns s f.iteration f.index c.args.end r) q.1 e.returned);
       tokens = subst (λ k. Exchanges k 1 m.0.it.tokens z.0.it.tokens) (sym (none_next r c.in_default.not-Go))
-          (token_returned g.row.M.Denot m n z b x t.0 t.1 c.return_book.ensures.given);
+          (token_returned g.row.M.Denot m n z b x t.0 t.1 given);
       runs = none_goes r _ c.in_default.not-Go;
       token = none_goes r _ c.in_default.not-Go;
       barred = subst (λ es. IfSome c.barred_right.result (λ i. StartsNothing (state_after es) (i + 1)))
-          (sym (seen_after g.row.M.Denot m n b (Some t.0) t.1 z x _ c.return_book.ensures.given)) c.barred_right.ensures;
+          (sym (seen_after g.row.M.Denot m n b (Some t.0) t.1 z x _ given)) c.barred_right.ensures;
     }
 
 pub returns-in-Go-clause-tokens : goal.returns-in-Go-clause-tokens
 returns-in-Go-clause-tokens g c =
-    let t = lent_with g.row.M.Denot c.args.seat.now.me c.take_back-book.new.seat.me c.take_back-book.result c.get_mut-lent.result.now _ _
-    c.get_mut-lent.ensures.value c.take_back-book.ensures.taken in
-    token_given_and_returned g.row.M.Denot c.args.seat.now.me c.take_back-book.new.seat.me c.return_token.new.seat.me
-    c.get_mut-lent.result.now c.advance-next.new.self t.0 t.1 c.return_token.ensures.given
+    let slot = in_slot g.row.M.Denot c.take_back.new.seat.me c.take_back.ensures.taken.2.holds c.advance-next.new.self in
+    let given = c.return_token.ensures.given c.advance-next.new.self slot in
+    let t = lent_with g.row.M.Denot c.args.seat.now.me c.take_back.new.seat.me c.slot_mut-slot.result.now c.book_mut-lent.result.now _ _
+    c.slot_mut-slot.ensures.value c.book_mut-lent.ensures.value c.take_back.ensures.taken in
+    token_given_and_returned g.row.M.Denot c.args.seat.now.me c.take_back.new.seat.me c.return_token.new.seat.me
+    c.book_mut-lent.result.now c.advance-next.new.self t.0 t.1 given
 
 pub advance-next-requires-clause-out : goal.advance-next-requires-clause-out
 advance-next-requires-clause-out g c =
-    let t = lent_with g.row.M.Denot c.args.seat.now.me c.take_back-book.new.seat.me c.take_back-book.result c.get_mut-lent.result.now _ _
-    c.get_mut-lent.ensures.value c.take_back-book.ensures.taken in
-    let same : fields_of c.take_back-book.new.token ≡ fields_of c.args.token =
-    ap (λ (k : FrameToken g.row.M.Denot). fields_of k) c.take_back-book.ensures.token in
-    subst (IsOutOf c.get_mut-lent.result.now) (sym same) t.2.out
+    let t = lent_with g.row.M.Denot c.args.seat.now.me c.take_back.new.seat.me c.slot_mut-slot.result.now c.book_mut-lent.result.now _ _
+    c.slot_mut-slot.ensures.value c.book_mut-lent.ensures.value c.take_back.ensures.taken in
+    let same : fields_of c.take_back.new.token ≡ fields_of c.args.token =
+    ap (λ (k : FrameToken g.row.M.Denot). fields_of k) c.take_back.ensures.token in
+    subst (IsOutOf c.book_mut-lent.result.now) (sym same) t.2.out
 
 pub return_token-requires-clause-own : goal.return_token-requires-clause-own
-return_token-requires-clause-own g c = c.take_back-book.ensures.own ∙ c.requires.own
-
-pub return_token-requires-clause-constants : goal.return_token-requires-clause-constants
-return_token-requires-clause-constants g c =
-    let t = lent_with g.row.M.Denot c.args.seat.now.me c.take_back-book.new.seat.me c.take_back-book.result c.get_mut-lent.result.now _ _
-    c.get_mut-lent.ensures.value c.take_back-book.ensures.taken in
-    knows_after c.args.seat.now.me c.take_back-book.new.seat.me c.get_mut-lent.result.now (Some t.0) t.1 c.advance-next.new.self
-    (ap constants_of c.in-Go.ensures.book)
+return_token-requires-clause-own g c = c.take_back.ensures.own ∙ c.requires.own
 
 pub returns-in-Go-clause-own : goal.returns-in-Go-clause-own
-returns-in-Go-clause-own g c = c.return_token.ensures.own ∙ c.take_back-book.ensures.own
+returns-in-Go-clause-own g c = c.return_token.ensures.own ∙ c.take_back.ensures.own
 
 pub returns-in-Go-clause-runs : goal.returns-in-Go-clause-runs
 returns-in-Go-clause-runs g c =
-    let t = lent_with g.row.M.Denot c.args.seat.now.me c.take_back-book.new.seat.me c.take_back-book.result c.get_mut-lent.result.now _ _
-    c.get_mut-lent.ensures.value c.take_back-book.ensures.taken in
-    runs_after g.row.M.Denot c.args.seat.now.me c.take_back-book.new.seat.me c.get_mut-lent.result.now (Some t.0) t.1
-    c.return_token.new.seat.me c.advance-next.new.self _ c.return_token.ensures.given
-    (fields_of c.return_token.result) c.return_token.ensures.runs
+    let slot = in_slot g.row.M.Denot c.take_back.new.seat.me c.take_back.ensures.taken.2.holds c.advance-next.new.self in
+    let given = c.return_token.ensures.given c.advance-next.new.self slot in
+    let t = lent_with g.row.M.Denot c.args.seat.now.me c.take_back.new.seat.me c.slot_mut-slot.result.now c.book_mut-lent.result.now _ _
+    c.slot_mut-slot.ensures.value c.book_mut-lent.ensures.value c.take_back.ensures.taken in
+    runs_after g.row.M.Denot c.args.seat.now.me c.take_back.new.seat.me c.book_mut-lent.result.now (Some t.0) t.1
+    c.return_token.new.seat.me c.advance-next.new.self _ given
+    (fields_of c.return_token.result) (c.return_token.ensures.runs c.advance-next.new.self slot)
 
 pub returns-in-Go-clause-token : goal.returns-in-Go-clause-token
 returns-in-Go-clause-token g c =
-    let t = lent_with g.row.M.Denot c.args.seat.now.me c.take_back-book.new.seat.me c.take_back-book.result c.get_mut-lent.result.now _ _
-    c.get_mut-lent.ensures.value c.take_back-book.ensures.taken in
+    let t = lent_with g.row.M.Denot c.args.seat.now.me c.take_back.new.seat.me c.slot_mut-slot.result.now c.book_mut-lent.result.now _ _
+    c.slot_mut-slot.ensures.value c.book_mut-lent.ensures.value c.take_back.ensures.taken in
     subst (λ k. IsGivenToken g.M.Stands.ready_at g.M.Stands.tie k c.return_token.result)
-    (hall_is c.args.seat.now.me c.take_back-book.new.seat.me c.get_mut-lent.result.now (Some t.0) t.1 c.args.seat.now.table_id
-    c.take_back-book.new.seat.table_id c.take_back-book.ensures.own) c.return_token.ensures.token
+    (hall_is c.args.seat.now.me c.take_back.new.seat.me c.book_mut-lent.result.now (Some t.0) t.1 c.args.seat.now.table_id
+    c.take_back.new.seat.table_id c.take_back.ensures.own) c.return_token.ensures.token
+
+pub slot_mut-slot-requires : goal.slot_mut-slot-requires
+slot_mut-slot-requires g c = (
+  c.take_back.ensures.own ∙ c.requires.own,
+  slot_there g.row.M.Denot c.take_back.new.seat.me
+      c.take_back.ensures.taken.2.holds,
+)
+
+pub book_mut-lent-requires : goal.book_mut-lent-requires
+book_mut-lent-requires g c = record {
+  there = (
+    c.take_back.ensures.taken.0,
+    book_is g.row.M.Denot c.take_back.new.seat.me c.take_back.ensures.taken.2.holds c.slot_mut-slot.result.now
+        c.slot_mut-slot.ensures.value,
+  );
+}

@@ -9,20 +9,20 @@ use Rattle.hall_table.specs.SeatViews.{constants_of}
 use Rattle.hall_table.specs.WorkerSeats.{name_of}
 use Rattle.hall_calls.proofs.PayloadSeats.{lists_with}
 use Rattle.hall_calls.proofs.EndingCalls.{left_call}
-use Rattle.hall_calls.proofs.TakenBooks.{lent_with, name_is, sees, stays_idle}
+use Rattle.hall_calls.proofs.TakenBooks.{in_slot, slot_there, book_is, holds_call, lent_with, name_is, sees, stays_idle}
 use Rattle.hall_calls.proofs.TokenMoves.{token_returned}
 use Rattle.hall_calls.proofs.worker.leave_ready_at.Goals as goal
 
 pub leave_ready-requires-clause-payload : goal.leave_ready-requires-clause-payload
 leave_ready-requires-clause-payload g c =
-    let t = lent_with g.row.M.Denot c.args.seat.now.me c.take_back-book.new.seat.me c.take_back-book.result c.get_mut-lent.result.now _ _
-    c.get_mut-lent.ensures.value c.take_back-book.ensures.taken in
-    let b = c.get_mut-lent.result.now in
+    let t = lent_with g.row.M.Denot c.args.seat.now.me c.take_back.new.seat.me c.slot_mut-slot.result.now c.book_mut-lent.result.now _ _
+    c.slot_mut-slot.ensures.value c.book_mut-lent.ensures.value c.take_back.ensures.taken in
+    let b = c.book_mut-lent.result.now in
     let p = c.args.token.payload in
-    let payload = ap (λ (x : FrameToken g.row.M.Denot). x.payload) c.take_back-book.ensures.token in
+    let payload = ap (λ (x : FrameToken g.row.M.Denot). x.payload) c.take_back.ensures.token in
     let i = c.args.token.iteration in
     let n = name_of c.args.seat.now.table_id c.args.seat.now.me.0.it.constants in
-    let name = name_is c.args.seat.now.table_id c.args.seat.now.me c.take_back-book.new.seat.me b (Some t.0) t.1 in
+    let name = name_is c.args.seat.now.table_id c.args.seat.now.me c.take_back.new.seat.me b (Some t.0) t.1 in
     let lists = ap (λ x. (g.M.Stands.tie x).lists) payload
     ∙ lists_with g.row.M.Denot g.M.Stands.ready_at g.M.Stands.tie g.M.Carrier.lists g.M.Carrier.seat g.M.Carrier.with_seat
     g.met.M.Carrier.tied g.met.M.Carrier.seat_is g.met.M.Carrier.seat_ready p None in
@@ -30,7 +30,7 @@ leave_ready-requires-clause-payload g c =
       belongs = subst (λ l. AreSeenLists l b.lists.down b.lists.right) (sym lists)
           (subst (λ (x : HallName). AreSeenLists (g.M.Stands.tie p).lists x.lists.down x.lists.right) name c.requires.out.belongs);
       ready = subst (λ (k : FrameToken g.row.M.Denot). g.M.Stands.ready_at (tree_of b.program) b.input k.payload k.iteration
-          (replies_at b k.iteration)) (sym c.take_back-book.ensures.token)
+          (replies_at b k.iteration)) (sym c.take_back.ensures.token)
           (g.met.M.Carrier.seat_ready (tree_of b.program) b.input p None i (replies_at b i)
           (subst (λ (x : HallName). g.M.Stands.ready_at x.tree x.input p i (replies_at b i)) name
           (subst (λ l. g.M.Stands.ready_at n.tree n.input p i l) t.2.replies c.requires.ready)));
@@ -41,20 +41,21 @@ leave_ready-requires-clause-knows g c =
     let p = c.args.token.payload in
     let lists = lists_with g.row.M.Denot g.M.Stands.ready_at g.M.Stands.tie g.M.Carrier.lists g.M.Carrier.seat g.M.Carrier.with_seat
     g.met.M.Carrier.tied g.met.M.Carrier.seat_is g.met.M.Carrier.seat_ready p None in
-    subst (λ (k : FrameToken g.row.M.Denot). AreSeen (g.M.Stands.tie k.payload).lists k.marks) (sym c.take_back-book.ensures.token)
+    subst (λ (k : FrameToken g.row.M.Denot). AreSeen (g.M.Stands.tie k.payload).lists k.marks) (sym c.take_back.ensures.token)
     (subst (λ l. AreSeen l c.args.token.marks) (sym lists) c.requires.out.knows)
 
 pub return_book-requires-clause-call : goal.return_book-requires-clause-call
 return_book-requires-clause-call g c =
-    let t = lent_with g.row.M.Denot c.args.seat.now.me c.take_back-book.new.seat.me c.take_back-book.result c.get_mut-lent.result.now _ _
-    c.get_mut-lent.ensures.value c.take_back-book.ensures.taken in
-    let b = c.get_mut-lent.result.now in
+    let t = lent_with g.row.M.Denot c.args.seat.now.me c.take_back.new.seat.me c.slot_mut-slot.result.now c.book_mut-lent.result.now _ _
+    c.slot_mut-slot.ensures.value c.book_mut-lent.ensures.value c.take_back.ensures.taken in
+    let b = c.book_mut-lent.result.now in
     let x = c.leave_ready.new.self in
     let e = c.leave_ready.ensures in
-    let fields = ap (λ (k : FrameToken g.row.M.Denot). fields_of k) c.take_back-book.ensures.token in (
+    let fields = ap (λ (k : FrameToken g.row.M.Denot). fields_of k) c.take_back.ensures.token in (
       b,
+      c.leave_ready.new.self,
       Some t.0,
-      t.1.holds,
+      holds_call g.row.M.Denot c.take_back.new.seat.me t.1.holds c.leave_ready.new.self,
       left_call b x t.0 (ap constants_of e)
           (ap (λ (y : BookState). y.tokens) e ∙ ap (λ (f : TokenFields). set b.tokens f.iteration (Kept f)) (fields ∙ sym t.2.fields))
           (ap (λ (y : BookState). y.traces) e) (ap (λ (y : BookState). y.log) e)
@@ -63,24 +64,46 @@ return_book-requires-clause-call g c =
 
 pub returns-clause-idle : goal.returns-clause-idle
 returns-clause-idle g c =
-    let t = lent_with g.row.M.Denot c.args.seat.now.me c.take_back-book.new.seat.me c.take_back-book.result c.get_mut-lent.result.now _ _
-    c.get_mut-lent.ensures.value c.take_back-book.ensures.taken in
-    stays_idle g.row.M.Denot c.args.seat.now.me c.take_back-book.new.seat.me c.get_mut-lent.result.now
-    (Some t.0) t.1 c.return_book.new.seat.me c.leave_ready.new.self _ c.return_book.ensures.given
+    let slot = in_slot g.row.M.Denot c.take_back.new.seat.me c.take_back.ensures.taken.2.holds c.leave_ready.new.self in
+    let given = c.return_book.ensures.given c.leave_ready.new.self slot in
+    let t = lent_with g.row.M.Denot c.args.seat.now.me c.take_back.new.seat.me c.slot_mut-slot.result.now c.book_mut-lent.result.now _ _
+    c.slot_mut-slot.ensures.value c.book_mut-lent.ensures.value c.take_back.ensures.taken in
+    stays_idle g.row.M.Denot c.args.seat.now.me c.take_back.new.seat.me c.book_mut-lent.result.now
+    (Some t.0) t.1 c.return_book.new.seat.me c.leave_ready.new.self _ given
     (ap constants_of c.leave_ready.ensures) c.entries.ensures.control
 
 pub returns-clause-sees : goal.returns-clause-sees
 returns-clause-sees g c =
-    let t = lent_with g.row.M.Denot c.args.seat.now.me c.take_back-book.new.seat.me c.take_back-book.result c.get_mut-lent.result.now _ _
-    c.get_mut-lent.ensures.value c.take_back-book.ensures.taken in
-    let b = c.get_mut-lent.result.now in
-    sees g.row.M.Denot c.args.seat.now.me c.take_back-book.new.seat.me b (Some t.0) t.1 c.return_book.new.seat.me c.leave_ready.new.self _
-    c.return_book.ensures.given [] (λ s. Unit {0})
+    let slot = in_slot g.row.M.Denot c.take_back.new.seat.me c.take_back.ensures.taken.2.holds c.leave_ready.new.self in
+    let given = c.return_book.ensures.given c.leave_ready.new.self slot in
+    let t = lent_with g.row.M.Denot c.args.seat.now.me c.take_back.new.seat.me c.slot_mut-slot.result.now c.book_mut-lent.result.now _ _
+    c.slot_mut-slot.ensures.value c.book_mut-lent.ensures.value c.take_back.ensures.taken in
+    let b = c.book_mut-lent.result.now in
+    sees g.row.M.Denot c.args.seat.now.me c.take_back.new.seat.me b (Some t.0) t.1 c.return_book.new.seat.me c.leave_ready.new.self _
+    given [] (λ s. Unit {0})
     (ap (λ (x : BookState). events_of x.log) c.leave_ready.ensures ∙ sym (append-nil (events_of b.log))) tt
 
 pub returns-clause-tokens : goal.returns-clause-tokens
 returns-clause-tokens g c =
-    let t = lent_with g.row.M.Denot c.args.seat.now.me c.take_back-book.new.seat.me c.take_back-book.result c.get_mut-lent.result.now _ _
-    c.get_mut-lent.ensures.value c.take_back-book.ensures.taken in
-    token_returned g.row.M.Denot c.args.seat.now.me c.take_back-book.new.seat.me c.return_book.new.seat.me c.get_mut-lent.result.now
-    c.leave_ready.new.self t.0 t.1 c.return_book.ensures.given
+    let slot = in_slot g.row.M.Denot c.take_back.new.seat.me c.take_back.ensures.taken.2.holds c.leave_ready.new.self in
+    let given = c.return_book.ensures.given c.leave_ready.new.self slot in
+    let t = lent_with g.row.M.Denot c.args.seat.now.me c.take_back.new.seat.me c.slot_mut-slot.result.now c.book_mut-lent.result.now _ _
+    c.slot_mut-slot.ensures.value c.book_mut-lent.ensures.value c.take_back.ensures.taken in
+    token_returned g.row.M.Denot c.args.seat.now.me c.take_back.new.seat.me c.return_book.new.seat.me c.book_mut-lent.result.now
+    c.leave_ready.new.self t.0 t.1 given
+
+pub slot_mut-slot-requires : goal.slot_mut-slot-requires
+slot_mut-slot-requires g c = (
+  c.take_back.ensures.own ∙ c.requires.own,
+  slot_there g.row.M.Denot c.take_back.new.seat.me
+      c.take_back.ensures.taken.2.holds,
+)
+
+pub book_mut-lent-requires : goal.book_mut-lent-requires
+book_mut-lent-requires g c = record {
+  there = (
+    c.take_back.ensures.taken.0,
+    book_is g.row.M.Denot c.take_back.new.seat.me c.take_back.ensures.taken.2.holds c.slot_mut-slot.result.now
+        c.slot_mut-slot.ensures.value,
+  );
+}

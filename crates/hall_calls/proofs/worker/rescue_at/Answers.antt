@@ -13,7 +13,8 @@ use Rattle.hall_table.specs.SeatViews.{constants_of}
 use Rattle.hall_table.specs.WorkerSeats.{name_of}
 use Rattle.hall_calls.proofs.EndingCalls.{rescued_call, resumed_events}
 use Rattle.hall_calls.proofs.Rescuing.{rescue_sees_of}
-use Rattle.hall_calls.proofs.TakenBooks.{hall_is, knows_after, lent_of, name_is, none_found, nothing_found, runs_after}
+use Rattle.hall_calls.proofs.TakenBooks.{in_slot, slot_there, book_is, holds_call, hall_is}
+use Rattle.hall_calls.proofs.TakenBooks.{knows_after, lent_of, name_is, none_found, nothing_found, runs_after}
 use Rattle.hall_calls.proofs.TakenBooks.{seen_after, stays_idle}
 use Rattle.pipe_frame.specs.TokenCounts.{Exchanges}
 use Rattle.hall_calls.proofs.TokenMoves.{none_moves, none_rescued, token_given}
@@ -21,47 +22,60 @@ use Rattle.hall_calls.proofs.worker.rescue_at.Goals as goal
 
 pub return_token-requires-clause-call : goal.return_token-requires-clause-call
 return_token-requires-clause-call g c =
-    let b = c.get_mut-lent.result.now in
-    let h = lent_of g.row.M.Denot c.args.seat.now.me c.take_book-book.new.seat.me c.take_book-book.result c.get_mut-lent.result.now None
-    c.get_mut-lent.ensures.value c.take_book-book.ensures.taken in
+    let b = c.book_mut-lent.result.now in
+    let h = lent_of g.row.M.Denot c.args.seat.now.me c.take_book.new.seat.me c.slot_mut-slot.result.now c.book_mut-lent.result.now
+    c.slot_mut-slot.ensures.value c.book_mut-lent.ensures.value c.take_book.ensures.taken in
     let e = c.in-Token.ensures in (
       b,
+      c.rescue-found.new.self,
       None,
-      h.holds,
+      holds_call g.row.M.Denot c.take_book.new.seat.me h.holds c.rescue-found.new.self,
       rescued_call b c.rescue-found.new.self (fields_of c.in-Token.token) e.book c.entries.ensures.control
           (subst HasRisingTickets c.entries.ensures.log c.entries.ensures.rise)
           e.token.out e.token.parts e.now,
+      knows_after c.args.seat.now.me c.take_book.new.seat.me c.book_mut-lent.result.now None
+          (lent_of g.row.M.Denot c.args.seat.now.me c.take_book.new.seat.me c.slot_mut-slot.result.now c.book_mut-lent.result.now
+          c.slot_mut-slot.ensures.value c.book_mut-lent.ensures.value c.take_book.ensures.taken) c.rescue-found.new.self (ap
+          constants_of c.in-Token.ensures.book),
+      e.token,
     )
 
 pub return_book-requires : goal.return_book-requires
 return_book-requires g c =
-    let b = c.get_mut-lent.result.now in
+    let b = c.book_mut-lent.result.now in
     let q = nothing_found b c.rescue-found.new.self c.rescue-found.result c.in_default.not-Token c.rescue-found.ensures.book in
     record {
-      own = c.take_book-book.ensures.own ∙ c.requires.own;
+      own = c.take_book.ensures.own ∙ c.requires.own;
       call = (
         b,
+        c.rescue-found.new.self,
         None,
-        (lent_of g.row.M.Denot c.args.seat.now.me c.take_book-book.new.seat.me c.take_book-book.result c.get_mut-lent.result.now
-            None c.get_mut-lent.ensures.value c.take_book-book.ensures.taken).holds,
+        holds_call g.row.M.Denot c.take_book.new.seat.me (lent_of g.row.M.Denot c.args.seat.now.me c.take_book.new.seat.me
+            c.slot_mut-slot.result.now c.book_mut-lent.result.now
+            c.slot_mut-slot.ensures.value c.book_mut-lent.ensures.value c.take_book.ensures.taken).holds c.rescue-found.new.self,
         q.call,
       );
     }
 
 pub returns-in-Token-clause-idle : goal.returns-in-Token-clause-idle
 returns-in-Token-clause-idle g c =
-    stays_idle g.row.M.Denot c.args.seat.now.me c.take_book-book.new.seat.me c.get_mut-lent.result.now None
-    (lent_of g.row.M.Denot c.args.seat.now.me c.take_book-book.new.seat.me c.take_book-book.result c.get_mut-lent.result.now None
-    c.get_mut-lent.ensures.value c.take_book-book.ensures.taken) c.return_token.new.seat.me c.rescue-found.new.self
-    _ c.return_token.ensures.given (ap constants_of c.in-Token.ensures.book) c.entries.ensures.control
+    let slot = in_slot g.row.M.Denot c.take_book.new.seat.me c.take_book.ensures.taken.1.holds c.rescue-found.new.self in
+    let given = c.return_token.ensures.given c.rescue-found.new.self slot in
+    stays_idle g.row.M.Denot c.args.seat.now.me c.take_book.new.seat.me c.book_mut-lent.result.now None
+    (lent_of g.row.M.Denot c.args.seat.now.me c.take_book.new.seat.me c.slot_mut-slot.result.now c.book_mut-lent.result.now
+    c.slot_mut-slot.ensures.value c.book_mut-lent.ensures.value c.take_book.ensures.taken) c.return_token.new.seat.me
+    c.rescue-found.new.self
+    _ given (ap constants_of c.in-Token.ensures.book) c.entries.ensures.control
 
 pub returns-in-Token-clause-sees : goal.returns-in-Token-clause-sees
 returns-in-Token-clause-sees g c =
+    let slot = in_slot g.row.M.Denot c.take_book.new.seat.me c.take_book.ensures.taken.1.holds c.rescue-found.new.self in
+    let given = c.return_token.ensures.given c.rescue-found.new.self slot in
     let m = c.args.seat.now.me in
-    let n = c.take_book-book.new.seat.me in
-    let b = c.get_mut-lent.result.now in
-    let h = lent_of g.row.M.Denot c.args.seat.now.me c.take_book-book.new.seat.me c.take_book-book.result c.get_mut-lent.result.now None
-    c.get_mut-lent.ensures.value c.take_book-book.ensures.taken in
+    let n = c.take_book.new.seat.me in
+    let b = c.book_mut-lent.result.now in
+    let h = lent_of g.row.M.Denot c.args.seat.now.me c.take_book.new.seat.me c.slot_mut-slot.result.now c.book_mut-lent.result.now
+    c.slot_mut-slot.ensures.value c.book_mut-lent.ensures.value c.take_book.ensures.taken in
     let x = c.rescue-found.new.self in
     let z = c.return_token.new.seat.me in
     let e = c.in-Token.ensures in
@@ -70,64 +84,83 @@ returns-in-Token-clause-sees g c =
     let u : FrameToken g.row.M.Denot = record c.in-Token.token { payload = g.M.Carrier.with_seat c.in-Token.token.payload (Some s.0) } in
     subst (λ (y : FrameToken g.row.M.Denot). RescueSees limit m.0.it.seen z.0.it.seen (rescue.Token y)) (sym s.1)
     (rescue_sees_of {M = g.row.M.Denot} limit m.0.it.seen z.0.it.seen b x (rescue.Token u) h.seen
-    (seen_after g.row.M.Denot m n b None h z x _ c.return_token.ensures.given)
+    (seen_after g.row.M.Denot m n b None h z x _ given)
     (ap (λ (y : BookState). events_of y.log) e.book ∙ resumed_events b u.iteration)
     (subst (λ (k : HallName). RescueReturns {M = g.row.M.Denot} k.limit (state_of b) (IsReady b) (rescue.Token u))
     (sym (name_is c.args.seat.now.table_id m n b None h)) e.returned))
 
 pub returns-in_default : goal.returns-in_default
 returns-in_default g c =
+    let slot = in_slot g.row.M.Denot c.take_book.new.seat.me c.take_book.ensures.taken.1.holds c.rescue-found.new.self in
+    let given = c.return_book.ensures.given c.rescue-found.new.self slot in
     let m = c.args.seat.now.me in
-    let n = c.take_book-book.new.seat.me in
-    let b = c.get_mut-lent.result.now in
-    let h = lent_of g.row.M.Denot c.args.seat.now.me c.take_book-book.new.seat.me c.take_book-book.result c.get_mut-lent.result.now None
-    c.get_mut-lent.ensures.value c.take_book-book.ensures.taken in
+    let n = c.take_book.new.seat.me in
+    let b = c.book_mut-lent.result.now in
+    let h = lent_of g.row.M.Denot c.args.seat.now.me c.take_book.new.seat.me c.slot_mut-slot.result.now c.book_mut-lent.result.now
+    c.slot_mut-slot.ensures.value c.book_mut-lent.ensures.value c.take_book.ensures.taken in
     let x = c.rescue-found.new.self in
     let r = c.rescue-found.result in
     let z = c.return_book.new.seat.me in
     let q = nothing_found b x r c.in_default.not-Token c.rescue-found.ensures.book in
     record {
-      own = c.return_book.ensures.own.0 ∙ c.take_book-book.ensures.own;
-      idle = stays_idle g.row.M.Denot m n b None h z x _ c.return_book.ensures.given q.constants c.entries.ensures.control;
+      own = c.return_book.ensures.own.0 ∙ c.take_book.ensures.own;
+      idle = stays_idle g.row.M.Denot m n b None h z x _ given q.constants c.entries.ensures.control;
       sees = rescue_sees_of {M = g.row.M.Denot} _ m.0.it.seen z.0.it.seen b x r h.seen
-          (seen_after g.row.M.Denot m n b None h z x _ c.return_book.ensures.given) q.adds
+          (seen_after g.row.M.Denot m n b None h z x _ given) q.adds
           (subst (λ (k : HallName). RescueReturns {M = g.row.M.Denot} k.limit (state_of b) (IsReady b) r)
           (sym (name_is c.args.seat.now.table_id m n b None h)) c.rescue-found.ensures.returned);
       tokens = subst (λ k. Exchanges k 0 m.0.it.tokens z.0.it.tokens) (sym (none_rescued r c.in_default.not-Token))
-          (none_moves g.row.M.Denot m n z b x h c.return_book.ensures.given);
+          (none_moves g.row.M.Denot m n z b x h given);
       runs = none_found r _ c.in_default.not-Token;
       token = none_found r _ c.in_default.not-Token;
     }
 
 pub returns-in-Token-clause-tokens : goal.returns-in-Token-clause-tokens
 returns-in-Token-clause-tokens g c =
-    token_given g.row.M.Denot c.args.seat.now.me c.take_book-book.new.seat.me c.return_token.new.seat.me c.get_mut-lent.result.now
-    c.rescue-found.new.self (lent_of g.row.M.Denot c.args.seat.now.me c.take_book-book.new.seat.me c.take_book-book.result
-    c.get_mut-lent.result.now None c.get_mut-lent.ensures.value c.take_book-book.ensures.taken) c.return_token.ensures.given
+    let slot = in_slot g.row.M.Denot c.take_book.new.seat.me c.take_book.ensures.taken.1.holds c.rescue-found.new.self in
+    let given = c.return_token.ensures.given c.rescue-found.new.self slot in
+    token_given g.row.M.Denot c.args.seat.now.me c.take_book.new.seat.me c.return_token.new.seat.me c.book_mut-lent.result.now
+    c.rescue-found.new.self (lent_of g.row.M.Denot c.args.seat.now.me c.take_book.new.seat.me c.slot_mut-slot.result.now
+    c.book_mut-lent.result.now
+    c.slot_mut-slot.ensures.value c.book_mut-lent.ensures.value c.take_book.ensures.taken) given
 
 pub return_token-requires-clause-own : goal.return_token-requires-clause-own
-return_token-requires-clause-own g c = c.take_book-book.ensures.own ∙ c.requires.own
-
-pub return_token-requires-clause-constants : goal.return_token-requires-clause-constants
-return_token-requires-clause-constants g c =
-    knows_after c.args.seat.now.me c.take_book-book.new.seat.me c.get_mut-lent.result.now None
-    (lent_of g.row.M.Denot c.args.seat.now.me c.take_book-book.new.seat.me c.take_book-book.result c.get_mut-lent.result.now None
-    c.get_mut-lent.ensures.value c.take_book-book.ensures.taken) c.rescue-found.new.self (ap constants_of c.in-Token.ensures.book)
+return_token-requires-clause-own g c = c.take_book.ensures.own ∙ c.requires.own
 
 pub returns-in-Token-clause-own : goal.returns-in-Token-clause-own
-returns-in-Token-clause-own g c = c.return_token.ensures.own ∙ c.take_book-book.ensures.own
+returns-in-Token-clause-own g c = c.return_token.ensures.own ∙ c.take_book.ensures.own
 
 pub returns-in-Token-clause-runs : goal.returns-in-Token-clause-runs
 returns-in-Token-clause-runs g c =
-    runs_after g.row.M.Denot c.args.seat.now.me c.take_book-book.new.seat.me c.get_mut-lent.result.now None
-    (lent_of g.row.M.Denot c.args.seat.now.me c.take_book-book.new.seat.me c.take_book-book.result c.get_mut-lent.result.now None
-    c.get_mut-lent.ensures.value c.take_book-book.ensures.taken) c.return_token.new.seat.me c.rescue-found.new.self
-    _ c.return_token.ensures.given (fields_of c.return_token.result) c.return_token.ensures.runs
+    let slot = in_slot g.row.M.Denot c.take_book.new.seat.me c.take_book.ensures.taken.1.holds c.rescue-found.new.self in
+    let given = c.return_token.ensures.given c.rescue-found.new.self slot in
+    runs_after g.row.M.Denot c.args.seat.now.me c.take_book.new.seat.me c.book_mut-lent.result.now None
+    (lent_of g.row.M.Denot c.args.seat.now.me c.take_book.new.seat.me c.slot_mut-slot.result.now c.book_mut-lent.result.now
+    c.slot_mut-slot.ensures.value c.book_mut-lent.ensures.value c.take_book.ensures.taken) c.return_token.new.seat.me
+    c.rescue-found.new.self
+    _ given (fields_of c.return_token.result) (c.return_token.ensures.runs c.rescue-found.new.self slot)
 
 pub returns-in-Token-clause-token : goal.returns-in-Token-clause-token
 returns-in-Token-clause-token g c =
     subst (λ k. IsGivenToken g.M.Stands.ready_at g.M.Stands.tie k c.return_token.result)
-    (hall_is c.args.seat.now.me c.take_book-book.new.seat.me c.get_mut-lent.result.now None
-    (lent_of g.row.M.Denot c.args.seat.now.me c.take_book-book.new.seat.me c.take_book-book.result c.get_mut-lent.result.now None
-    c.get_mut-lent.ensures.value c.take_book-book.ensures.taken) c.args.seat.now.table_id c.take_book-book.new.seat.table_id
-    c.take_book-book.ensures.own) c.return_token.ensures.token
+    (hall_is c.args.seat.now.me c.take_book.new.seat.me c.book_mut-lent.result.now None
+    (lent_of g.row.M.Denot c.args.seat.now.me c.take_book.new.seat.me c.slot_mut-slot.result.now c.book_mut-lent.result.now
+    c.slot_mut-slot.ensures.value c.book_mut-lent.ensures.value c.take_book.ensures.taken) c.args.seat.now.table_id
+    c.take_book.new.seat.table_id
+    c.take_book.ensures.own) c.return_token.ensures.token
+
+pub slot_mut-slot-requires : goal.slot_mut-slot-requires
+slot_mut-slot-requires g c = (
+  c.take_book.ensures.own ∙ c.requires.own,
+  slot_there g.row.M.Denot c.take_book.new.seat.me
+      c.take_book.ensures.taken.1.holds,
+)
+
+pub book_mut-lent-requires : goal.book_mut-lent-requires
+book_mut-lent-requires g c = record {
+  there = (
+    c.take_book.ensures.taken.0,
+    book_is g.row.M.Denot c.take_book.new.seat.me c.take_book.ensures.taken.1.holds c.slot_mut-slot.result.now
+        c.slot_mut-slot.ensures.value,
+  );
+}

@@ -42,18 +42,19 @@ returns-clause-taken g c =
     let same : h.run ≡ c.take_seat_of-run.result = (let w : Some h.run ≡ Some c.take_seat_of-run.result = sym h.is
     ∙ c.take_seat_of-run.ensures.seat in cc) in
     let j = c.join_instance.ensures.joined in
-    let t = c.take_book.ensures in
-    let b = c.take_book.result in
+    let t = c.take_book.ensures.taken in
+    let b = t.0 in
     let k = c.join_instance.new.seat.me in
     let run : k.0.it.run ≡ Some h.run_data = ap (λ (x : ViewAndSlots g.row.M.Denot). x.0.it.run) j
     ∙ (ap (λ (r : RunSeat). (badge_view r.badge.views).run) (sym same) ∙ h.run_is) in
-    let r = t.snapshot.run h.run_data run in (
+    let r = t.2.run h.run_data run in (
+      b,
       h.run_data,
       has_taken g.row.M.Denot c.args.seat.now.me k c.take_book.new.seat.me b (Some h.run_data) i
           (ap (λ (x : ViewAndSlots g.row.M.Denot). x.0.it.constants) j)
           (ap (λ (x : ViewAndSlots g.row.M.Denot). x.0.it.seen) j) (ap (λ (x : ViewAndSlots g.row.M.Denot). x.0.it.held) j)
-          (ap (λ (x : ViewAndSlots g.row.M.Denot). x.1) j) run (ap (λ (x : ViewAndSlots g.row.M.Denot). x.0.it.tokens) j) t.taken
-          t.snapshot,
+          (ap (λ (x : ViewAndSlots g.row.M.Denot). x.1) j) run (ap (λ (x : ViewAndSlots g.row.M.Denot). x.0.it.tokens) j) t.1
+          t.2,
       record {
         out = subst (IsOutOf b) h.fields r.out;
         fields = h.fields;

@@ -7,93 +7,68 @@ use Rattle.pipe_frame.specs.declared.token.FrameToken.{FrameToken}
 use Rattle.hall_table.specs.declared.slot.Slot.TheVariants as slots
 use Rattle.hall_table.specs.declared.view.View.{View}
 use Rattle.hall_table.proofs.Steps.{splits_instance}
-use Rattle.hall_table.proofs.Seating.{is_badge, other_value, seated}
+use Rattle.hall_table.proofs.Seating.{is_badge, seated}
 use Rattle.hall_table.specs.Openings.{start_in}
 use Rattle.hall_table.proofs.locks.Locks.return_book_and_token.Goals as goal
 
 pub return_beside-requires-clause-call : goal.return_beside-requires-clause-call
 return_beside-requires-clause-call g c =
-    let e = c.exchange.ensures in
+    let m = c.args.seat.now.me in
     let r = c.requires.call in (
       c.args.token,
-      c.args.book,
-      c.args.seat.now.me.0,
-      r.0,
       r.1,
+      m.0,
+      r.0,
+      r.2,
       ap (λ (k : FrameToken g.row.M.Denot). slots.Token k) c.of-witness.ensures,
-      other_value g.row.M.Denot c.args.seat.now.me c.exchange.new.seat.me 0 _ _ r.2.slots e.3,
-      r.2.held,
-      r.2.run,
-      r.3,
+      ap (λ cs. (m.0, cs)) r.3.slots,
+      r.3.held,
+      r.3.run,
+      r.4,
     )
 
 pub split_seat-run-requires : goal.split_seat-run-requires
 split_seat-run-requires g c =
     let w = c.args.self.now.sized.0 in
-    let e = c.exchange.ensures in
     let r = c.requires.call in
-    let m = other_value g.row.M.Denot c.args.seat.now.me c.exchange.new.seat.me 0 _ _ r.2.slots e.3 in
-    let t = c.return_beside.ensures.given c.args.token c.args.book
-    (ap (λ (k : FrameToken g.row.M.Denot). slots.Token k) c.of-witness.ensures) (ap (λ (k : ViewAndSlots g.row.M.Denot). k.1) m) in (
-      c.return_beside.ensures.own.0 ∙ (e.0 ∙ c.requires.own),
+    let t = c.return_beside.ensures.given c.args.token r.1
+    (ap (λ (k : FrameToken g.row.M.Denot). slots.Token k) c.of-witness.ensures) r.3.slots in (
+      c.return_beside.ensures.own.0 ∙ c.requires.own,
       omega (arith, w),
       splits_instance g.row.M.Denot (start_in c.args.self.now.table.shared.key) _ c.return_beside.new.seat.me.0
-          (new_instance c.args.book (fields_of c.args.token)) (ap (λ (k : ViewAndSlots g.row.M.Denot). k.0.it.run) t),
+          (new_instance r.1 (fields_of c.args.token)) (ap (λ (k : ViewAndSlots g.row.M.Denot). k.0.it.run) t),
     )
 
 pub invariant_of-put_seat : goal.invariant_of-put_seat
 invariant_of-put_seat g c =
-    let e = c.exchange.ensures in
     let r = c.requires.call in
-    let m = other_value g.row.M.Denot c.args.seat.now.me c.exchange.new.seat.me 0 _ _ r.2.slots e.3 in
-    let t = c.return_beside.ensures.given c.args.token c.args.book
-    (ap (λ (k : FrameToken g.row.M.Denot). slots.Token k) c.of-witness.ensures) (ap (λ (k : ViewAndSlots g.row.M.Denot). k.1) m)
-    ∙ ap (λ (k : ViewAndSlots g.row.M.Denot). (
-      view_of
-          (after_book k.0.it c.args.book (Some (new_instance c.args.book (fields_of c.args.token)))),
-      [],
-    )) m in
-    let v : View = view_of (run_seat (after_book c.args.seat.now.me.0.it c.args.book
-    (Some (new_instance c.args.book (fields_of c.args.token))))) in
+    let t = c.return_beside.ensures.given c.args.token r.1
+    (ap (λ (k : FrameToken g.row.M.Denot). slots.Token k) c.of-witness.ensures) r.3.slots in
+    let v : View = view_of (run_seat (after_book c.args.seat.now.me.0.it r.1
+    (Some (new_instance r.1 (fields_of c.args.token))))) in
     let views : c.into_badge.result.views ≡ v ∷ [] = c.into_badge.ensures.2
     ∙ (ap (λ (k : ViewAndSlots g.row.M.Denot). k.0 ∷ []) c.split_seat-run.ensures.4
     ∙ ap (λ (k : ViewAndSlots g.row.M.Denot). view_of (run_seat k.0.it) ∷ []) t) in
     record {
       of_instance = ap is_instance_badge views ∙ is_badge v c.requires.constants.0
-          (new_instance c.args.book (fields_of c.args.token)) c.requires.constants.1 refl refl;
+          (new_instance r.1 (fields_of c.args.token)) c.requires.constants.1 refl refl;
     }
 
 pub returns-clause-given : goal.returns-clause-given
-returns-clause-given g c =
-    let e = c.exchange.ensures in
-    let r = c.requires.call in
-    let m = other_value g.row.M.Denot c.args.seat.now.me c.exchange.new.seat.me 0 _ _ r.2.slots e.3 in
-    let t = c.return_beside.ensures.given c.args.token c.args.book
-    (ap (λ (k : FrameToken g.row.M.Denot). slots.Token k) c.of-witness.ensures) (ap (λ (k : ViewAndSlots g.row.M.Denot). k.1) m)
-    ∙ ap (λ (k : ViewAndSlots g.row.M.Denot). (
-      view_of
-          (after_book k.0.it c.args.book (Some (new_instance c.args.book (fields_of c.args.token)))),
-      [],
-    )) m in
+returns-clause-given g c = λ b slot.
+    let t = c.return_beside.ensures.given c.args.token b
+    (ap (λ (k : FrameToken g.row.M.Denot). slots.Token k) c.of-witness.ensures) slot in
     c.split_seat-run.ensures.2 ∙ ap (λ (k : ViewAndSlots g.row.M.Denot). (view_of (without_run k.0.it), k.1)) t
 
 pub returns-clause-token : goal.returns-clause-token
-returns-clause-token g c =
-    let e = c.exchange.ensures in
-    let r = c.requires.call in
-    let m = other_value g.row.M.Denot c.args.seat.now.me c.exchange.new.seat.me 0 _ _ r.2.slots e.3 in
-    let t = c.return_beside.ensures.given c.args.token c.args.book
-    (ap (λ (k : FrameToken g.row.M.Denot). slots.Token k) c.of-witness.ensures) (ap (λ (k : ViewAndSlots g.row.M.Denot). k.1) m)
-    ∙ ap (λ (k : ViewAndSlots g.row.M.Denot). (
-      view_of
-          (after_book k.0.it c.args.book (Some (new_instance c.args.book (fields_of c.args.token)))),
-      [],
-    )) m in
-    let v : View = view_of (run_seat (after_book c.args.seat.now.me.0.it c.args.book
-    (Some (new_instance c.args.book (fields_of c.args.token))))) in
+returns-clause-token g c = λ b slot.
+    let t = c.return_beside.ensures.given c.args.token b
+    (ap (λ (k : FrameToken g.row.M.Denot). slots.Token k) c.of-witness.ensures) slot in
+    let v : View = view_of (run_seat (after_book c.args.seat.now.me.0.it b
+    (Some (new_instance b (fields_of c.args.token))))) in
     let views : c.into_badge.result.views ≡ v ∷ [] = c.into_badge.ensures.2
     ∙ (ap (λ (k : ViewAndSlots g.row.M.Denot). k.0 ∷ []) c.split_seat-run.ensures.4
     ∙ ap (λ (k : ViewAndSlots g.row.M.Denot). view_of (run_seat k.0.it) ∷ []) t) in
     seated g.row.M.Denot g.M.Carrier.with_seat c.args.token c.args.token c.put_seat.new.self _ c.args.seat.now.table_id v
     c.put_seat.ensures refl
-    (c.into_badge.ensures.0 ∙ (c.split_seat-run.ensures.3 ∙ (c.return_beside.ensures.own.0 ∙ e.0))) views
+    (c.into_badge.ensures.0 ∙ (c.split_seat-run.ensures.3 ∙ c.return_beside.ensures.own.0)) views
