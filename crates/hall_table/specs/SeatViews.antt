@@ -40,8 +40,8 @@ pub data SlotValue : Type 0 where
   TheShard : ShardValue → SlotValue
 
 -- what a seat knows: the constants of its hall, the events of the book that it has seen, those that a seat which it has taken in had
--- seen, the running instance whose seat it is, what it has taken out of slots, as it was when it was taken, and how many tokens it has
--- given out and taken back
+-- seen, the running instance whose seat it is, the locks that it has taken, each with what it protected then, and how many tokens it
+-- has given out and taken back
 pub record SeatView : Type 0 where
   pub constants : Option HallConstants
   pub seen : List Event
