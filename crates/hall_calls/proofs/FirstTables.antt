@@ -1,12 +1,12 @@
 -- A new hall obeys the rule.
 use Rattle.std.proofs.Common.{◌≡◌, ℕ, ℤ, zero, suc, ◌+◌, ◌*◌, ◌<◌, List, [], ◌∷◌, ◌++◌, get_or, length, map, refl, sym, ap, ◌∙◌, subst}
-use Rattle.std.proofs.Common.{arith, Option, Some, None, append-nil, append_assoc, replicate}
+use Rattle.std.proofs.Common.{arith, Option, Some, None, append-nil, replicate}
 use mathlib.Core.Logic.{dite}
 use native.Mathlib.Decide.{ℕ_discrete}
 use Rattle.hall_calls.proofs.Closing.{at_end_is, at_more}
 use mathlib.Core.Option.{some}
 use lib.ListN.{get_elem?}
-use Rattle.std.proofs.lemmas.List.{length-append, length-map}
+use Rattle.std.proofs.lemmas.List.{length-map}
 use Rattle.atomic_table.specs.Table.{opening}
 use Rattle.pipe_model.specs.declared.access.Access.{Access}
 use Rattle.pipe_model.specs.declared.tree.Program.{Program}
@@ -25,10 +25,10 @@ use Rattle.std.specs.Prelude.{AllPairs}
 use Rattle.pipe_model.specs.declared.ticket.ShardEntry.{ShardEntry}
 use Rattle.pipe_model.specs.Races.DeterminacyRaces.{Among}
 use Rattle.hall_table.specs.Logs.{accesses_of, noted_to, of_node}
-use Rattle.hall_table.specs.HallRule.{Board, IsHall, IsRightView, first_view, place, slot_of, value_at, width}
+use Rattle.hall_table.specs.HallRule.{Board, IsHall, IsRightView, first_view, place, lock_count, slot_of, value_at, width}
 use Rattle.hall_table.specs.BookParts.{HasSeats, joined_in, marks_in}
 use Rattle.hall_table.specs.ShardParts.{HasShard, HaveIdentities, IsCellHistory, last_of}
-use Rattle.hall_calls.specs.NewShards.{IsNewShard, shard_slots, spaced}
+use Rattle.hall_calls.specs.NewShards.{IsNewShard, shard_slots}
 use Rattle.hall_calls.specs.Closing.{shard_in}
 use Rattle.hall_table.specs.declared.slot.Slot.TheVariants as slots
 use Rattle.hall_table.specs.declared.view.View.{View}
@@ -106,7 +106,7 @@ module _ (p : Program) (input : List ℤ) (limit : ℕ) (lists : ListIdentities)
   -- the table
   module _ {M : Type 0} (before : List Access) (shard : ℕ → ShardValue) (words : List ℕ) (values : List (Slot M))
       (wide : length words ≡ width) (free : (i : ℕ) → get_or words i 0 ≡ 0)
-      (full : length values ≡ width) (home : (i : ℕ) → i < 17 → get_elem? values (place i) ≡ some (slot_of (value_at b shard i))) where
+      (full : length values ≡ lock_count) (home : (i : ℕ) → i < 17 → get_elem? values i ≡ some (slot_of (value_at b shard i))) where
     abbrev start : HallStart
     start = start_of b before
 
@@ -117,7 +117,7 @@ module _ (p : Program) (input : List ℤ) (limit : ℕ) (lists : ListIdentities)
       words = wide;
       homes = length-map values some ∙ full;
       places = λ i l. record {
-        home = λ z. mapped values (place i) (slot_of (value_at b shard i)) (home i l);
+        home = λ z. mapped values i (slot_of (value_at b shard i)) (home i l);
         away =
             λ ne. absurd (ne (free (place i)));
       };
@@ -144,41 +144,25 @@ module _ (p : Program) (input : List ℤ) (limit : ℕ) (lists : ListIdentities)
 -- the slots of a hall: the book, and then the shards
 module _ (M : Type 0) where
   abbrev hall_slots : BookState → List ShardValue → List (Slot M)
-  hall_slots b xs = spaced (slots.Book b) ++ shard_slots xs
+  hall_slots b xs = slots.Book b ∷ shard_slots xs
 
-  -- an index past the first slots
-  past : (ys zs : List (Slot M)) (n k : ℕ) → n ≡ length ys + k → get_elem? (ys ++ zs) n ≡ get_elem? zs k
-  past [] zs n k e = ap (get_elem? zs) (omega (arith, e))
-  past (y ∷ ys) zs zero k e = absurd (omega (arith, e))
-  past (y ∷ ys) zs (suc n) k e = past ys zs n k (omega (arith, e))
-
-  -- the slots of the next locks
-  past_first : (y : Slot M) (zs : List (Slot M)) (k : ℕ) → get_elem? (spaced y ++ zs) (place (suc k)) ≡ get_elem? zs (place k)
-  past_first y zs k = past (spaced y) zs (place (suc k)) (place k) (let n = spaced_long y in omega (arith, n))
-    where
-      spaced_long : (y : Slot M) → length (spaced y) ≡ 8
-      spaced_long y = refl
-
-  shard_at : (xs : List ShardValue) (k : ℕ) → k < length xs → get_elem? (shard_slots {M = M} xs) (place k) ≡ some
-      (slots.Shard (shard_in xs k))
+  shard_at : (xs : List ShardValue) (k : ℕ) → k < length xs → get_elem? (shard_slots {M = M} xs) k ≡ some (slots.Shard (shard_in xs k))
   shard_at [] k l = absurd (omega (arith, l))
   shard_at (y ∷ ys) zero l = refl
-  shard_at (y ∷ ys) (suc k) l = past_first (slots.Shard y) (shard_slots ys) k ∙ shard_at ys k (omega (arith, l))
+  shard_at (y ∷ ys) (suc k) l = shard_at ys k (omega (arith, l))
 
-  home_at : (b : BookState) (xs : List ShardValue) (i : ℕ) → i < suc (length xs) → get_elem? (hall_slots b xs) (place i) ≡ some
-      (slot_of (value_at b (shard_in xs) i))
+  home_at : (b : BookState) (xs : List ShardValue) (i : ℕ) → i < suc (length xs)
+      → get_elem? (hall_slots b xs) i ≡ some (slot_of (value_at b (shard_in xs) i))
   home_at b xs zero l = refl
-  home_at b xs (suc k) l = past_first (slots.Book b) (shard_slots xs) k ∙ shard_at xs k (omega (arith, l))
+  home_at b xs (suc k) l = shard_at xs k (omega (arith, l))
 
-  slots_long : (xs : List ShardValue) → length (shard_slots {M = M} xs) ≡ place (length xs)
+  slots_long : (xs : List ShardValue) → length (shard_slots {M = M} xs) ≡ length xs
   slots_long [] = refl
-  slots_long (x ∷ xs) = let n = length-append (spaced (slots.Shard x)) (shard_slots {M = M} xs) in let m = slots_long xs in
-      omega (arith, n, m)
+  slots_long (x ∷ xs) = ap suc (slots_long xs)
 
   pub all_slots : (b : BookState) (xs : List ShardValue) (values : List (Slot M)) → values ≡ hall_slots b xs → length xs ≡ 16
-      → length values ≡ width
-  all_slots b xs values are len = let a = ap length are in let c = length-append (spaced (slots.Book b)) (shard_slots {M = M} xs) in
-      let n = slots_long xs in omega (arith, a, c, n, len)
+      → length values ≡ lock_count
+  all_slots b xs values are len = let a = ap length are in let n = slots_long xs in omega (arith, a, n, len)
 
   pub halls_open : (before : List Access) (b : BookState) (seen : SeenLists) (xs : List ShardValue) (words : List ℕ)
       (values : List (Slot M))
@@ -191,8 +175,8 @@ module _ (M : Type 0) where
       let full = all_slots b xs values are len in
       subst (λ (z : BookState). IsHall {M = M} (start_of z before) (opening words values (first_view (start_of z before)))) (sym new)
       (opens b.program b.input b.limit b.lists before (shard_in xs) words values wide free full
-      (λ i l. subst (λ vs. get_elem? vs (place i) ≡ some (slot_of (value_at c (shard_in xs) i))) (sym are)
-      (subst (λ (z : BookState). get_elem? (hall_slots z xs) (place i) ≡ some (slot_of (value_at c (shard_in xs) i))) (sym new)
+      (λ i l. subst (λ vs. get_elem? vs i ≡ some (slot_of (value_at c (shard_in xs) i))) (sym are)
+      (subst (λ (z : BookState). get_elem? (hall_slots z xs) i ≡ some (slot_of (value_at c (shard_in xs) i))) (sym new)
       (home_at c xs i (omega (arith, l, len)))))
       (λ k l. new_shard b.program b.input b.limit b.lists before seen k (shard_in xs k) of named (each k l)))
 
@@ -205,11 +189,10 @@ zeros_at (suc n) zero = refl
 zeros_at (suc n) (suc i) = zeros_at n i
 
 -- one shard more at the end
-pub shard_more : (M : Type 0) (xs : List ShardValue) (x : ShardValue) → shard_slots {M = M} (xs ++ x ∷ []) ≡ shard_slots xs ++ spaced
-    (slots.Shard x)
-shard_more M [] x = append-nil (spaced (slots.Shard x))
-shard_more M (y ∷ ys) x = ap (λ l. spaced (slots.Shard y) ++ l) (shard_more M ys x)
-    ∙ sym (append_assoc (spaced (slots.Shard y)) (shard_slots ys) (spaced (slots.Shard x)))
+pub shard_more : (M : Type 0) (xs : List ShardValue) (x : ShardValue)
+    → shard_slots {M = M} (xs ++ x ∷ []) ≡ shard_slots xs ++ slots.Shard x ∷ []
+shard_more M [] x = refl
+shard_more M (y ∷ ys) x = ap (λ l. slots.Shard y ∷ l) (shard_more M ys x)
 
 pub new_more : (K : ℕ → ShardValue → Type 0) (xs : List ShardValue) (x : ShardValue) (n : ℕ) → length xs ≡ n
     → ((k : ℕ) → k < n → K k (shard_in xs k)) → K n x → (k : ℕ) → k < n + 1 → K k (shard_in (xs ++ x ∷ []) k)

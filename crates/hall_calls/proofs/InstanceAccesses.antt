@@ -16,7 +16,7 @@ use Rattle.hall_table.specs.Logs.{entry_of}
 use Rattle.hall_table.specs.Steps.{ShardSnapshot, ViewAndSlots, after_entries, after_log, after_shard, having, holding}
 use Rattle.atomic_table.specs.Table.{rest}
 use Rattle.atomic_table.specs.Seated.{TableId}
-use Rattle.hall_table.specs.HallRule.{place, view_of}
+use Rattle.hall_table.specs.HallRule.{view_of}
 use Rattle.pipe_frame.specs.SeatedTokens.{IsSeated, entries_of_seat, replies_of_seat}
 use Rattle.hall_table.specs.WorkerSeats.{name_of}
 use Rattle.hall_table.specs.InstanceSeats.{badge_view, is_instance_badge, seat_of}
@@ -102,29 +102,29 @@ same_shard x y e = cc
 -- ---- a seat that has taken nothing else has taken a shard
 
 module _ (M : Type 0) (m n : ViewAndSlots M) (i : ℕ) (x : ShardValue) (none_out : m.1 ≡ []) (taken : n ≡ having m i (TheShard x)) where
-  only : n.1 ≡ (place i, slots.Shard x) ∷ []
-  only = ap (λ (k : ViewAndSlots M). k.1) taken ∙ ap (λ cs. (place i, slots.Shard x) ∷ cs) none_out
+  only : n.1 ≡ (i, slots.Shard x) ∷ []
+  only = ap (λ (k : ViewAndSlots M). k.1) taken ∙ ap (λ cs. (i, slots.Shard x) ∷ cs) none_out
 
-  pub shard_there : (s : Slot M) × (n.1 ≡ (place i, s) ∷ rest n.1)
-  shard_there = there M n (place i) (slots.Shard x) only
+  pub shard_there : (s : Slot M) × (n.1 ≡ (i, s) ∷ rest n.1)
+  shard_there = there M n i (slots.Shard x) only
 
-  pub lent_shard : (s : Slot M) → n.1 ≡ (place i, s) ∷ rest n.1 → s ≡ slots.Shard x
-  lent_shard s e = lent_value M n (place i) (slots.Shard x) only s e
+  pub lent_shard : (s : Slot M) → n.1 ≡ (i, s) ∷ rest n.1 → s ≡ slots.Shard x
+  lent_shard s e = lent_value M n i (slots.Shard x) only s e
 
   -- it is lent
-  pub shard_is : (s : Slot M) (y : ShardValue) → n.1 ≡ (place i, s) ∷ rest n.1 → s ≡ slots.Shard y → y ≡ x
+  pub shard_is : (s : Slot M) (y : ShardValue) → n.1 ≡ (i, s) ∷ rest n.1 → s ≡ slots.Shard y → y ≡ x
   shard_is s y e f = same_shard {M = M} y x (sym f ∙ lent_shard s e)
 
-  pub in_slot : (y : ShardValue) → ◌≡◌ {A = List (ℕ × Slot M)} ((place i, slots.Shard y) ∷ rest n.1) ((place i, slots.Shard y) ∷ [])
-  in_slot y = only_value M n (place i) (slots.Shard x) only (slots.Shard y)
+  pub in_slot : (y : ShardValue) → ◌≡◌ {A = List (ℕ × Slot M)} ((i, slots.Shard y) ∷ rest n.1) ((i, slots.Shard y) ∷ [])
+  in_slot y = only_value M n i (slots.Shard x) only (slots.Shard y)
 
   pub holds_only : m.0.it.held ≡ [] → n.0.it.held ≡ (i, TheShard x) ∷ []
   holds_only e = ap (λ (k : ViewAndSlots M). k.0.it.held) taken ∙ ap (λ hs. (i, TheShard x) ∷ hs) e
 
   -- nothing was written to it
-  pub still_taken : (y : ShardValue) → y ≡ x → ◌≡◌ {A = ViewAndSlots M} (n.0, (place i, slots.Shard y) ∷ rest n.1) (having m i (TheShard x))
+  pub still_taken : (y : ShardValue) → y ≡ x → ◌≡◌ {A = ViewAndSlots M} (n.0, (i, slots.Shard y) ∷ rest n.1) (having m i (TheShard x))
   still_taken y e =
-      ap (λ (z : ShardValue). (n.0, (place i, slots.Shard z) ∷ rest n.1)) e ∙ (ap (λ cs. (n.0, cs)) (in_slot x ∙ sym only) ∙ taken)
+      ap (λ (z : ShardValue). (n.0, (i, slots.Shard z) ∷ rest n.1)) e ∙ (ap (λ cs. (n.0, cs)) (in_slot x ∙ sym only) ∙ taken)
 
   -- and it is given back as it was
   pub given_back : m.0.it.held ≡ [] → (z : ViewAndSlots M) → z ≡ (view_of (after_shard n.0.it x x), []) → z ≡ m

@@ -1,5 +1,5 @@
 -- The shards that a hall is opened with.
-use Rattle.std.specs.Prelude.{◌≡◌, ℕ, List, [], ◌∷◌, ◌++◌, ◌+◌, ◌*◌, ◌≤◌, length, replicate}
+use Rattle.std.specs.Prelude.{◌≡◌, ℕ, List, [], ◌∷◌, ◌+◌, ◌*◌, ◌≤◌, length}
 use Rattle.pipe_model.specs.declared.access.Access.{Access}
 use Rattle.pipe_model.specs.Language.Programs.{store_of}
 use Rattle.pipe_model.specs.Language.SyntaxTree.{SyntaxTree}
@@ -21,11 +21,7 @@ pub record IsNewShard (before : List Access) (tree : SyntaxTree) (lists_ : SeenL
   pub last : x.last ≡ 0
   pub lists : x.lists ≡ lists_
 
--- a value in its slot, and the slots up to the next lock's slot, which nobody uses
-abbrev pub spaced : {M : Type 0} → Slot M → List (Slot M)
-spaced y = y ∷ replicate 7 slots.Out
-
 -- the slots of shards
 abbrev pub shard_slots : {M : Type 0} → List ShardValue → List (Slot M)
 shard_slots [] = []
-shard_slots (x ∷ xs) = spaced (slots.Shard x) ++ shard_slots xs
+shard_slots (x ∷ xs) = slots.Shard x ∷ shard_slots xs

@@ -1,14 +1,14 @@
 //! The hall, and the bare seats of its workers.
 
-ghost use Rattle.std.specs.Prelude.{◌≡◌, ◌<◌, ◌≤◌, ◌+◌, ◌++◌, [], ℕ, List, Some, IfOk, length, replicate, vec_capacity};
+ghost use Rattle.std.specs.Prelude.{◌≡◌, ◌<◌, ◌≤◌, ◌+◌, ◌++◌, ◌∷◌, [], ℕ, List, Some, IfOk, length, replicate, vec_capacity};
 ghost use Rattle.frame_book.specs.NewBooks.{new_book};
 ghost use Rattle.pipe_model.specs.Language.SyntaxTree.{tree_of};
 ghost use Rattle.pipe_frame.specs.TokenCounts.{no_tokens};
 ghost use Rattle.hall_calls.specs.Closing.{shard_in};
 ghost use Rattle.atomic_table.specs.Table.{opening};
-ghost use Rattle.hall_table.specs.HallRule.{IsHall, first_view, place, stride, width};
+ghost use Rattle.hall_table.specs.HallRule.{IsHall, first_view, lock_count, width};
 ghost use Rattle.hall_table.specs.Openings.{start_in};
-ghost use Rattle.hall_calls.specs.NewShards.{IsNewShard, shard_slots, spaced};
+ghost use Rattle.hall_calls.specs.NewShards.{IsNewShard, shard_slots};
 ghost use Rattle.hall_shards.specs.ShardValues.{ShardValue};
 ghost use Rattle.hall_table.specs.SeatViews.{constants_of};
 ghost use Rattle.hall_table.specs.ShardParts.{HaveIdentities};
@@ -80,29 +80,11 @@ impl<M: Carrier> Model for HallKey<M> {
     ghost invariant = { λ k. IsIdle k.seat.me };
 }
 
+// How many locks there are: one for the book, and one for each shard.
+const LOCKS: usize = 17;
+
 // The words: the locks, which are free, and the words between them.
-const FREE: [u64; 136] = [0; 136];
-
-// Appends the slots that nobody uses, up to the next lock's slot.
-fn push_gap<M: Carrier>(slots: &mut Vec<Slot<M>>)
-    requires room { length slots.old.items + 7 ≤ vec_capacity slots.old }
-    ensures items { slots.new.items ≡ slots.old.items ++ replicate 7 Slot.Out }
-    ensures capacity { vec_capacity slots.new ≡ vec_capacity slots.old }
-{
-    for _gap in 0..STRIDE - 1 {
-        slots.push_reserved(Slot::Out);
-    }
-}
-
-// Appends the slot of a lock, and those up to the next lock's.
-fn push_slot<M: Carrier>(slots: &mut Vec<Slot<M>>, value: Slot<M>)
-    requires room { length slots.old.items + stride ≤ vec_capacity slots.old }
-    ensures items { slots.new.items ≡ slots.old.items ++ spaced value }
-    ensures capacity { vec_capacity slots.new ≡ vec_capacity slots.old }
-{
-    slots.push_reserved(value);
-    push_gap(slots);
-}
+const FREE: [u64; STRIDE * LOCKS] = [0; STRIDE * LOCKS];
 
 // Appends the shards of the program's cells, in the order of their numbers.
 fn add_shards<M: Carrier>(
@@ -112,25 +94,25 @@ fn add_shards<M: Carrier>(
     passes: &mut TwoPasses,
     slots: &mut Vec<Slot<M>>,
 ) -> Result<(), NoMemory>
-    requires room { length slots.old.items + place 16 ≤ vec_capacity slots.old }
+    requires room { length slots.old.items + 16 ≤ vec_capacity slots.old }
     ensures shards { IfOk result (λ _. (xs : List ShardValue) × (slots.new.items ≡ slots.old.items ++ shard_slots xs) × (length xs ≡ 16)
         × ((k : ℕ) → k < 16 → IsNewShard before.now (tree_of checked.now) passes.old k (shard_in xs k))) }
 {
     for number in 0..SHARDS {
         let shard = Shard::new(alloc, checked, number, before, passes.split()?)?;
-        push_slot(slots, Slot::Shard(shard));
+        slots.push_reserved(Slot::Shard(shard));
     }
     Ok(())
 }
 
 // Returns the slot of the book, in a vector with room for the slots of all locks.
 fn book_slots<M: Carrier>(alloc: Global, book: Book<M, OmWriter>) -> Result<Vec<Slot<M>>, NoMemory>
-    ensures items { IfOk result (λ slots. slots.items ≡ spaced (Slot.Book book)) }
-    ensures room { IfOk result (λ slots. vec_capacity slots ≡ width) }
+    ensures items { IfOk result (λ slots. slots.items ≡ Slot.Book book ∷ []) }
+    ensures room { IfOk result (λ slots. vec_capacity slots ≡ lock_count) }
 {
-    match Vec::with_capacity(alloc, FREE.len()) {
+    match Vec::with_capacity(alloc, LOCKS) {
         Ok(mut slots) => {
-            push_slot(&mut slots, Slot::Book(book));
+            slots.push_reserved(Slot::Book(book));
             Ok(slots)
         }
         Err(_) => {
@@ -148,7 +130,7 @@ fn first_slots<M: Carrier>(
     before: &Accesses,
     passes: &mut TwoPasses,
 ) -> Result<Vec<Slot<M>>, NoMemory>
-    ensures { IfOk result (λ slots. (xs : List ShardValue) × (slots.items ≡ spaced (Slot.Book book) ++ shard_slots xs)
+    ensures { IfOk result (λ slots. (xs : List ShardValue) × (slots.items ≡ Slot.Book book ∷ shard_slots xs)
         × (length xs ≡ 16) × ((k : ℕ) → k < 16 → IsNewShard before.now (tree_of checked.now) passes.old k (shard_in xs k))) }
 {
     let mut slots = book_slots(alloc, book)?;
@@ -167,7 +149,7 @@ fn open_table<M: Carrier>(
     slots: Vec<Slot<M>>,
     about: &Opening<M>,
 ) -> Result<(HallOf<M>, HallKey<M>), NoMemory>
-    requires width { length slots.items ≡ width }
+    requires width { length slots.items ≡ lock_count }
     requires rule { IsHall (start_in about.now) (opening (replicate width 0) slots.items (first_view (start_in about.now))) }
     ensures constants { IfOk result (λ opened. opened.0.hall.constants ≡ Some (constants_of about.now.book.value)) }
     ensures before { IfOk result (λ opened. opened.0.before ≡ about.now.before.value) }

@@ -27,7 +27,7 @@ use access_history::history::MarkedNode;
 use atomic_table::Seat;
 use hall_shards::shard::SHARDS;
 use hall_table::carrier::Carrier;
-use hall_table::locks::{Locks, STRIDE};
+use hall_table::locks::Locks;
 use hall_table::run_seat::RunSeat;
 use hall_table::slot::Slot;
 use hall_table::view::View;
@@ -61,7 +61,7 @@ fn take_shard_of<R: Wait, M: Carrier>(
 {
     let number = cell.0 % SHARDS;
     hall.take_shard(rt, run, number);
-    let slot = run.slot_mut(&hall.table.shared, STRIDE * (1 + number as usize));
+    let slot = run.slot_mut(&hall.table.shared, 1 + number as usize);
     let lent = slot.shard_mut();
     let asks = lent.may_ask(who, joined, cell);
     if !asks {
@@ -103,7 +103,7 @@ fn access_by<R: Wait, M: Carrier>(
 {
     let number = cell.0 % SHARDS;
     let asks = take_shard_of(rt, hall, run, who.node, joined, cell);
-    let slot = run.slot_mut(&hall.table.shared, STRIDE * (1 + number as usize));
+    let slot = run.slot_mut(&hall.table.shared, 1 + number as usize);
     let lent = slot.shard_mut();
     let done = lent.access(rt, who, joined, now, cell, write, asks, passes, trace);
     hall.return_shard(run, number);

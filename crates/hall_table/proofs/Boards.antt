@@ -147,7 +147,7 @@ module _ (M : Type 0) where
   }
 
   -- a value stays in its slot at an equal word and an equal slot
-  placed_same : (ws ws' : List ℕ) (hs hs' : List _) (i : ℕ) (x : SlotValue) → get_or ws' i 0 ≡ get_or ws i 0
+  placed_same : (ws ws' : List ℕ) (hs hs' : List _) (i : ℕ) (x : SlotValue) → get_or ws' (place i) 0 ≡ get_or ws (place i) 0
       → get_elem? hs' i ≡ get_elem? hs i → IsPlaced {M = M} ws hs i x → IsPlaced {M = M} ws' hs' i x
   placed_same ws ws' hs hs' i x w h p = record {
     home = λ z. h ∙ p.home (sym w ∙ z);
@@ -168,7 +168,7 @@ module _ (M : Type 0) where
       new_view = view_of (holding v.it i (value_at b shard i))
 
       abbrev taken : St
-      taken = record { words = set s.words (place i) 1; homes = set s.homes (place i) none; views = set s.views id new_view }
+      taken = record { words = set s.words (place i) 1; homes = set s.homes i none; views = set s.views id new_view }
 
       abbrev holder' : ℕ → ℕ
       holder' = with_at o.holder i id
@@ -176,8 +176,8 @@ module _ (M : Type 0) where
       in_words : place i < length s.words
       in_words = in_width i (length s.words) o.words l
 
-      in_homes : place i < length s.homes
-      in_homes = in_width i (length s.homes) o.homes l
+      in_homes : i < length s.homes
+      in_homes = subst (λ n. i < n) (sym o.homes) l
 
       -- what was held is another slot
       still_held : (j : ℕ) (k : ℕ) (y : SlotValue) → (k < 17) × (o.holder k ≡ j) × (get_or s.words (place k) 0 ≡ 1)
@@ -193,16 +193,16 @@ module _ (M : Type 0) where
         number = o.number;
         holder = holder';
         words = length-set s.words (place i) 1 ∙ o.words;
-        homes = length-set s.homes (place i) none ∙ o.homes;
+        homes = length-set s.homes i none ∙ o.homes;
         places = λ j w. dite (ℕ_discrete j i)
-            (λ e. subst (λ k. IsPlaced {M = M} (set s.words (place i) 1) (set s.homes (place i) none) (place k) (value_at b shard k))
+            (λ e. subst (λ k. IsPlaced {M = M} (set s.words (place i) 1) (set s.homes i none) k (value_at b shard k))
             (sym e) (record {
               home = λ n. (let a = word_here s.words (place i) 1 in_words in absurd (omega (arith, a, n)));
-              away = λ _. (word_here s.words (place i) 1 in_words, set_here s.homes (place i) none in_homes);
+              away = λ _. (word_here s.words (place i) 1 in_words, set_here s.homes i none in_homes);
             }))
-            (λ ne. placed_same s.words (set s.words (place i) 1) s.homes (set s.homes (place i) none) (place j) (value_at b shard j)
+            (λ ne. placed_same s.words (set s.words (place i) 1) s.homes (set s.homes i none) j (value_at b shard j)
             (word_else s.words (place i) (place j) 1 (places_apart j i ne))
-            (set_else s.homes (place i) (place j) none (places_apart j i ne)) (o.places j w));
+            (set_else s.homes i j none ne) (o.places j w));
         right = views_with (λ j w. IsRightView (set s.words (place i) 1) b shard seats o.number holder' j w.it) s.views id new_view
             (let r = o.right id v at in record {
               constants = λ a e. constants_taken v.it b shard i a r.constants e;
@@ -254,7 +254,7 @@ module _ (M : Type 0) where
             holder = o.holder;
             words = length-set s.words i n ∙ o.words;
             homes = o.homes;
-            places = λ j k. placed_same s.words (set s.words i n) s.homes s.homes (place j) (value_at b shard j) (same (place j)) refl
+            places = λ j k. placed_same s.words (set s.words i n) s.homes s.homes j (value_at b shard j) (same (place j)) refl
                 (o.places j k);
             right = views_with (λ j u. IsRightView (set s.words i n) b shard seats o.number o.holder j u.it) s.views id w
                 (right_words s.words (set s.words i n) b shard seats o.number o.holder id w.it same (record {
@@ -290,7 +290,7 @@ module _ (M : Type 0) where
       abbrev given : St
       given = record {
         words = set s.words (place i) 0;
-        homes = set s.homes (place i) (some (slot_of (value_at b' shard' i)));
+        homes = set s.homes i (some (slot_of (value_at b' shard' i)));
         views =
             set s.views id w;
       }
@@ -298,8 +298,8 @@ module _ (M : Type 0) where
       in_words' : place i < length s.words
       in_words' = in_width i (length s.words) o.words mine.0
 
-      in_homes' : place i < length s.homes
-      in_homes' = in_width i (length s.homes) o.homes mine.0
+      in_homes' : i < length s.homes
+      in_homes' = subst (λ n. i < n) (sym o.homes) mine.0
 
       pub give_board : w.it.constants ≡ v.it.constants → w.it.held ≡ [] → BeginsWith (events_of b'.log) w.it.seen → w.it.met ≡ v.it.met
           → ((d : InstanceData) → w.it.run ≡ Some d → (seats' d.fields.iteration ≡ Some d) × (number' d.fields.iteration ≡ id))
@@ -312,18 +312,18 @@ module _ (M : Type 0) where
         number = number';
         holder = o.holder;
         words = length-set s.words (place i) 0 ∙ o.words;
-        homes = length-set s.homes (place i) _ ∙ o.homes;
+        homes = length-set s.homes i _ ∙ o.homes;
         places = λ j l. dite (ℕ_discrete j i)
-            (λ e. subst (λ k. IsPlaced {M = M} (set s.words (place i) 0) (set s.homes (place i) (some (slot_of (value_at b' shard' i))))
-            (place k) (value_at b' shard' k)) (sym e) (record {
-              home = λ _. set_here s.homes (place i) (some (slot_of (value_at b' shard' i))) in_homes';
+            (λ e. subst (λ k. IsPlaced {M = M} (set s.words (place i) 0) (set s.homes i (some (slot_of (value_at b' shard' i))))
+            k (value_at b' shard' k)) (sym e) (record {
+              home = λ _. set_here s.homes i (some (slot_of (value_at b' shard' i))) in_homes';
               away = λ n. absurd (n (word_here s.words (place i) 0 in_words'));
             }))
-            (λ ne. subst (λ x. IsPlaced {M = M} (set s.words (place i) 0) (set s.homes (place i) (some (slot_of (value_at b' shard' i))))
-            (place j) x) (sym (others j ne))
-            (placed_same s.words (set s.words (place i) 0) s.homes (set s.homes (place i) (some (slot_of (value_at b' shard' i))))
-            (place j) (value_at b shard j)
-            (word_else s.words (place i) (place j) 0 (places_apart j i ne)) (set_else s.homes (place i) (place j) _ (places_apart j i ne))
+            (λ ne. subst (λ x. IsPlaced {M = M} (set s.words (place i) 0) (set s.homes i (some (slot_of (value_at b' shard' i))))
+            j x) (sym (others j ne))
+            (placed_same s.words (set s.words (place i) 0) s.homes (set s.homes i (some (slot_of (value_at b' shard' i))))
+            j (value_at b shard j)
+            (word_else s.words (place i) (place j) 0 (places_apart j i ne)) (set_else s.homes i j _ ne)
             (o.places j l)));
         right = views_with (λ j u. IsRightView (set s.words (place i) 0) b' shard' seats' number' o.holder j u.it) s.views id w
             (let r = o.right id v at in record {

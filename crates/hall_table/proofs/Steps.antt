@@ -114,7 +114,7 @@ module _ (M : Type 0) (start : HallStart) where
   may_take n id m i l s h _ at _ = dite (ℕ_discrete (get_or s.words (place i) 0) 0)
       (λ z. (
         view_of (holding m.0.it i (value_at h.book h.shard i)),
-        takes (place i) (slot_of (value_at h.book h.shard i)),
+        takes i (slot_of (value_at h.book h.shard i)),
         (h.board.places i l).home z,
         record {
           book = h.book;
@@ -328,7 +328,7 @@ module _ (M : Type 0) (start : HallStart) where
   abbrev shard_state : (s : St) (id k : ℕ) (w : View) (y : ShardValue) → St
   shard_state s id k w y = record {
     words = set s.words (place (suc k)) 0;
-    homes = set s.homes (place (suc k))
+    homes = set s.homes (suc k)
         (some (slots.Shard y));
     views = set s.views id w;
   }
@@ -464,7 +464,7 @@ module _ (M : Type 0) (start : HallStart) where
 
   module _ (n id k : ℕ) (v : View) (x y : ShardValue) (held : v.it.held ≡ (suc k, TheShard x) ∷ []) where
     abbrev shard_sat : ViewAndSlots M
-    shard_sat = (v, (place (suc k), slots.Shard y) ∷ [])
+    shard_sat = (v, (suc k, slots.Shard y) ∷ [])
 
     shard_returned : returns_shard {M = M} (step n (place (suc k)) 0 0 none) shard_sat 0 (view_of (after_shard v.it x y), [])
     unfolding held_shard_in shard_in
@@ -501,7 +501,7 @@ module _ (M : Type 0) (start : HallStart) where
         still None e = refl
         still (Some d) e = sym (ap (λ es. Some (after_entries d es)) (ap (drop (length x.log)) e ∙ drop_all x.log))
 
-  pub may_return_shard : (n id k : ℕ) (m : ViewAndSlots M) (v : View) (x y : ShardValue) → m ≡ (v, (place (suc k), slots.Shard y) ∷ [])
+  pub may_return_shard : (n id k : ℕ) (m : ViewAndSlots M) (v : View) (x y : ShardValue) → m ≡ (v, (suc k, slots.Shard y) ∷ [])
       → v.it.held ≡ (suc k, TheShard x) ∷ []
       → (y ≡ x) ⊎ ((d : InstanceData) × (v.it.run ≡ Some d) × MadeBy d k x y) → Allows Rule n id m (place (suc k)) (λ _. 0)
       (λ _. returns_shard (step n (place (suc k)) 0 0 none) m 0)
@@ -509,11 +509,11 @@ module _ (M : Type 0) (start : HallStart) where
       (λ _. returns_shard (step n (place (suc k)) 0 0 none) z 0)) (sym e) (shard_back n id k v x y held how)
 
   pub may_return_shard_at : (n id i k : ℕ) (m : ViewAndSlots M) (v : View) (x y : ShardValue) → i ≡ suc k
-      → m ≡ (v, (place i, slots.Shard y) ∷ []) → v.it.held ≡ (i, TheShard x) ∷ []
+      → m ≡ (v, (i, slots.Shard y) ∷ []) → v.it.held ≡ (i, TheShard x) ∷ []
       → (y ≡ x) ⊎ ((d : InstanceData) × (v.it.run ≡ Some d) × MadeBy d k x y) → Allows Rule n id m (place i) (λ _. 0)
       (λ _. returns_shard (step n (place i) 0 0 none) m 0)
   may_return_shard_at n id i k m v x y e me held how =
-      subst (λ (j : ℕ). m ≡ (v, (place j, slots.Shard y) ∷ []) → v.it.held ≡ (j, TheShard x) ∷ []
+      subst (λ (j : ℕ). m ≡ (v, (j, slots.Shard y) ∷ []) → v.it.held ≡ (j, TheShard x) ∷ []
       → Allows Rule n id m (place j) (λ _. 0) (λ _. returns_shard (step n (place j) 0 0 none) m 0)) (sym e)
       (λ p q. may_return_shard n id k m v x y p q how) me held
 

@@ -1,5 +1,5 @@
 -- The rule of a hall. Lock 0 is that of the book, and lock k + 1 that of shard k. Lock i is the word at index `place i`, and what it
--- protects is in the slot at the same index. Nobody uses the other words and slots.
+-- protects is in slot i. Nobody uses the other words.
 use Rattle.std.specs.Prelude.{◌≡◌, ◌≢◌, ℕ, zero, suc, List, [], ◌*◌, ◌<◌, length, Option, Some, None, slice_index}
 use mathlib.Core.Option.{none, some}
 use lib.ListN.{get_elem?}
@@ -17,17 +17,21 @@ use Rattle.hall_table.specs.declared.view.View.{View}
 use Rattle.hall_table.specs.declared.slot.Slot.{Slot}
 use Rattle.hall_table.specs.declared.slot.Slot.TheVariants as slots
 
--- how many words the words of two locks are apart, and how many slots their slots
+-- how many locks there are, and slots
+abbrev pub lock_count : ℕ
+lock_count = 17
+
+-- how many words the words of two locks are apart
 abbrev pub stride : ℕ
 stride = 8
 
--- the index of the word of lock i, and of its slot
+-- the index of the word of lock i
 abbrev pub place : ℕ → ℕ
 place i = stride * i
 
--- how many words and slots there are, for 17 locks
+-- how many words there are
 abbrev pub width : ℕ
-width = place 17
+width = place lock_count
 
 abbrev pub view_of : SeatView → View
 view_of v = record { it = v }
@@ -46,11 +50,11 @@ abbrev pub value_at : BookState → (ℕ → ShardValue) → ℕ → SlotValue
 value_at b shard zero = TheBook b
 value_at b shard (suc k) = TheShard (shard k)
 
--- the lock at index i is free and its value is at home, or the lock is taken and the value is out
+-- lock i is free and its value is at home, or the lock is taken and the value is out
 pub record IsPlaced {M : Type 0} (words : List ℕ) (homes : List (mathlib.Core.Option.Option (Slot M))) (i : ℕ)
     (x : SlotValue) : Type 0 where
-  pub home : slice_index words i ≡ 0 → get_elem? homes i ≡ some (some (slot_of x))
-  pub away : slice_index words i ≢ 0 → (slice_index words i ≡ 1) × (get_elem? homes i ≡ some none)
+  pub home : slice_index words (place i) ≡ 0 → get_elem? homes i ≡ some (some (slot_of x))
+  pub away : slice_index words (place i) ≢ 0 → (slice_index words (place i) ≡ 1) × (get_elem? homes i ≡ some none)
 
 -- what seat j knows is right. `number` has the number of the seat of each iteration's running instance, and `holder` the number of the
 -- seat that has taken a lock
@@ -69,8 +73,8 @@ pub record Board {M : Type 0} (s : State (Slot M) View) (b : BookState) (shard :
   pub number : ℕ → ℕ
   pub holder : ℕ → ℕ
   pub words : length s.words ≡ width
-  pub homes : length s.homes ≡ width
-  pub places : (i : ℕ) → i < 17 → IsPlaced s.words s.homes (place i) (value_at b shard i)
+  pub homes : length s.homes ≡ lock_count
+  pub places : (i : ℕ) → i < 17 → IsPlaced s.words s.homes i (value_at b shard i)
   pub right : (j : ℕ) (v : View) → get_elem? s.views j ≡ some v → IsRightView s.words b shard seats number holder j v.it
   pub each_seat : (i : ℕ) (d : InstanceData) → seats i ≡ Some d → (v : View) × (get_elem? s.views (number i) ≡ some v) × (v.it.run ≡ Some d)
 

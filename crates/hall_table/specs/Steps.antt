@@ -39,7 +39,7 @@ holding v i x = record v { constants = constants_after v x; held = (i, x) ∷ v.
 
 -- the seat has lock i, whose value lies in its slot
 abbrev pub having : {M : Type 0} → ViewAndSlots M → ℕ → SlotValue → ViewAndSlots M
-having m i x = (view_of (holding m.0.it i x), (place i, slot_of x) ∷ m.1)
+having m i x = (view_of (holding m.0.it i x), (i, slot_of x) ∷ m.1)
 
 -- a shard beside a book and seats of the time when it was taken
 pub record ShardSnapshot (v : SeatView) (i : ℕ) (x : ShardValue) : Type 0 where
@@ -108,7 +108,7 @@ abbrev pub after_shard : SeatView → ShardValue → ShardValue → SeatView
 after_shard v x y = record v { run = after_log v.run x.log y.log; held = [] }
 
 abbrev pub returns_shard : {M : Type 0} → Step (Slot M) → ViewAndSlots M → ℕ → ViewAndSlots M → Type 0
-returns_shard {M} st m r n = (i : ℕ) (x y : ShardValue) → m.0.it.held ≡ (i, TheShard x) ∷ [] → m.1 ≡ (place i, slots.Shard y) ∷ []
+returns_shard {M} st m r n = (i : ℕ) (x y : ShardValue) → m.0.it.held ≡ (i, TheShard x) ∷ [] → m.1 ≡ (i, slots.Shard y) ∷ []
     → n ≡ (view_of (after_shard m.0.it x y), [])
 
 -- ---- splits and joins

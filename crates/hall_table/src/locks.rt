@@ -6,7 +6,7 @@ ghost use Rattle.pipe_frame.specs.TokenFields.{fields_of};
 ghost use Rattle.frame_book.specs.BookStates.{BookState};
 ghost use Rattle.hall_table.specs.SeatViews.{HallConstants, InstanceData, SlotValue, TheBook, TheShard};
 ghost use Rattle.hall_shards.specs.ShardValues.{ShardValue};
-ghost use Rattle.hall_table.specs.HallRule.{place, slot_of, view_of, width};
+ghost use Rattle.hall_table.specs.HallRule.{lock_count, slot_of, view_of, width};
 ghost use Rattle.hall_table.specs.WorkerSeats.{HoldsBook};
 ghost use Rattle.hall_table.specs.InstanceSeats.{badge_view};
 ghost use Rattle.std.specs.Prelude.{IsTrue, false};
@@ -49,13 +49,12 @@ use std::thread;
 pub struct Locks<M: Carrier> {
     /// The table of the locks and of the slots.
     pub table: HallTable<M>,
-    pub ghost sized: { (table.shared.table_id.words ≡ width) × (table.shared.table_id.slots ≡ width) },
+    pub ghost sized: { (table.shared.table_id.words ≡ width) × (table.shared.table_id.slots ≡ lock_count) },
 }
 
-/// How many words the words of two locks are apart, and how many slots their slots: lock `k` is the
-/// word at index `STRIDE * k`, and its value is in the slot at that index. Eight words have 64 bytes,
-/// so each lock is on a cache line of its own, and threads that take different locks do not wait for
-/// each other's cache lines.
+/// How many words the words of two locks are apart: lock `k` is the word at index `STRIDE * k`, and its
+/// value is in slot `k`. Eight words have 64 bytes, so each lock is on a cache line of its own, and
+/// threads that take different locks do not wait for each other's cache lines.
 pub const STRIDE: usize = 8;
 
 // How often a thread looks at a lock that is taken before it gives the processor to others between its
@@ -157,13 +156,16 @@ impl<M: Carrier> Locks<M> {
     pub fn shard_out(&self, seat: &mut Seat<Slot<M>, View>, number: u32) -> Shard
         requires own { seat.old.table_id ≡ self.now.table.shared.table_id }
         requires there { number < 16 }
-        requires taken { (x : ShardValue) × (seat.old.me.1 ≡ (place (1 + number), Slot.Shard x) ∷ rest seat.old.me.1) }
+        requires taken { (x : ShardValue) × (seat.old.me.1 ≡ (1 + number, Slot.Shard x) ∷ rest seat.old.me.1) }
         ensures own { (seat.new.table_id ≡ seat.old.table_id) × (seat.new.id ≡ seat.old.id) }
         ensures view { seat.new.me.0 ≡ seat.old.me.0 }
-        ensures shard { seat.old.me.1 ≡ (place (1 + number), Slot.Shard result) ∷ rest seat.old.me.1 }
+        ensures shard { seat.old.me.1 ≡ (1 + number, Slot.Shard result) ∷ rest seat.old.me.1 }
     {
-        let slot = STRIDE * (1 + number as usize);
-        match self.table.shared.exchange(seat, slot, Slot::Out) {
+        match self
+            .table
+            .shared
+            .exchange(seat, 1 + number as usize, Slot::Out)
+        {
             Slot::Book(_) => unreachable!(),
             Slot::Shard(shard) => shard,
             Slot::Token(_) => unreachable!(),
@@ -242,12 +244,12 @@ impl<M: Carrier> Locks<M> {
     pub fn return_shard(&self, seat: &mut Seat<Slot<M>, View>, number: u32)
         requires own { seat.old.table_id ≡ self.now.table.shared.table_id }
         requires there { number < 16 }
-        requires made { (x : ShardValue) × (y : ShardValue) × (seat.old.me.1 ≡ (place (1 + number), Slot.Shard y) ∷ [])
+        requires made { (x : ShardValue) × (y : ShardValue) × (seat.old.me.1 ≡ (1 + number, Slot.Shard y) ∷ [])
             × (seat.old.me.0.it.held ≡ (1 + number, TheShard x) ∷ [])
             × ((y ≡ x) ⊎ ((d : InstanceData) × (seat.old.me.0.it.run ≡ Some d) × MadeBy d number x y)) }
         ensures own { (seat.new.table_id ≡ seat.old.table_id) × (seat.new.id ≡ seat.old.id) }
         ensures given { (x : ShardValue) (y : ShardValue) → seat.old.me.0.it.held ≡ (1 + number, TheShard x) ∷ []
-            → seat.old.me.1 ≡ (place (1 + number), Slot.Shard y) ∷ []
+            → seat.old.me.1 ≡ (1 + number, Slot.Shard y) ∷ []
             → seat.new.me ≡ (view_of (after_shard seat.old.me.0.it x y), []) }
     {
         let word = STRIDE * (1 + number as usize);

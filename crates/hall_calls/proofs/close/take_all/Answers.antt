@@ -2,7 +2,6 @@
 use Rattle.std.proofs.Common.{◌≡◌, ◌∙◌, ◌+◌, arith, subst, sym, ap, ℕ, List}
 use Rattle.frame_book.specs.BookStates.{BookState}
 use Rattle.hall_shards.specs.ShardValues.{ShardValue}
-use Rattle.hall_table.specs.HallRule.{place}
 use Rattle.hall_table.specs.SeatViews.{TheBook, TheShard}
 use Rattle.hall_table.specs.Steps.{ViewAndSlots, holding}
 use Rattle.hall_table.specs.declared.slot.Slot.TheVariants as slots
@@ -38,7 +37,7 @@ loop-k-init g c =
 pub shard_out-requires-clause-taken : goal.shard_out-requires-clause-taken
 shard_out-requires-clause-taken g c =
     let t = c.take_shard.ensures.taken in
-    let i = place (1 + c.loop-k.k) in
+    let i = 1 + c.loop-k.k in
     (t.0, first_slot {M = g.row.M.Denot} c.take_shard.new.seat.me _ i (slots.Shard t.0) _ t.1)
 
 pub loop-k-preserved : goal.loop-k-preserved
@@ -50,7 +49,7 @@ loop-k-preserved g c =
     let w = c.shard_out.new.seat.me.0.it in
     let start = c.book_out-book.new.seat.me.0.it in
     let b = c.book_out-book.result in
-    let i = place (1 + c.loop-k.k) in
+    let i = 1 + c.loop-k.k in
     let same : x ≡ t.0 = same_shard {M = g.row.M.Denot} x t.0 (same_head i _ _ _ _ (sym c.shard_out.ensures.shard
     ∙ first_slot {M = g.row.M.Denot} n _ i (slots.Shard t.0) _ t.1)) in
     record {
