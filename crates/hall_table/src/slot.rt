@@ -22,7 +22,7 @@ pub enum Slot<M: Carrier> {
     Shard(Shard),
     /// No slot holds this: a step records in it which token was given out.
     Token(Witness<FrameToken<M>>),
-    /// The value is out, or the slot is one of those that nobody uses.
+    /// The value is out.
     Out,
 }
 
