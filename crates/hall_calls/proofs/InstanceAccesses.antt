@@ -101,7 +101,7 @@ same_shard x y e = cc
 
 -- ---- a seat that has taken nothing else has taken a shard
 
-module _ (M : Type 0) (m n : ViewAndSlots M) (i : ℕ) (x : ShardValue) (none_out : m.1 ≡ []) (taken : n ≡ having m i (TheShard x)) where
+module _ {M : Type 0} {m n : ViewAndSlots M} {x : ShardValue} (i : ℕ) (none_out : m.1 ≡ []) (taken : n ≡ having m i (TheShard x)) where
   only : n.1 ≡ (i, slots.Shard x) ∷ []
   only = ap (λ (k : ViewAndSlots M). k.1) taken ∙ ap (λ cs. (i, slots.Shard x) ∷ cs) none_out
 
@@ -112,8 +112,8 @@ module _ (M : Type 0) (m n : ViewAndSlots M) (i : ℕ) (x : ShardValue) (none_ou
   lent_shard s e = lent_value M n i (slots.Shard x) only s e
 
   -- it is lent
-  pub shard_is : (s : Slot M) (y : ShardValue) → n.1 ≡ (i, s) ∷ rest n.1 → s ≡ slots.Shard y → y ≡ x
-  shard_is s y e f = same_shard {M = M} y x (sym f ∙ lent_shard s e)
+  pub shard_is : {s : Slot M} {y : ShardValue} → n.1 ≡ (i, s) ∷ rest n.1 → s ≡ slots.Shard y → y ≡ x
+  shard_is {s} {y} e f = same_shard {M = M} y x (sym f ∙ lent_shard s e)
 
   pub in_slot : (y : ShardValue) → ◌≡◌ {A = List (ℕ × Slot M)} ((i, slots.Shard y) ∷ rest n.1) ((i, slots.Shard y) ∷ [])
   in_slot y = only_value M n i (slots.Shard x) only (slots.Shard y)
@@ -122,15 +122,16 @@ module _ (M : Type 0) (m n : ViewAndSlots M) (i : ℕ) (x : ShardValue) (none_ou
   holds_only e = ap (λ (k : ViewAndSlots M). k.0.it.held) taken ∙ ap (λ hs. (i, TheShard x) ∷ hs) e
 
   -- nothing was written to it
-  pub still_taken : (y : ShardValue) → y ≡ x → ◌≡◌ {A = ViewAndSlots M} (n.0, (i, slots.Shard y) ∷ rest n.1) (having m i (TheShard x))
-  still_taken y e =
+  pub still_taken : {y : ShardValue} → y ≡ x → ◌≡◌ {A = ViewAndSlots M} (n.0, (i, slots.Shard y) ∷ rest n.1) (having m i (TheShard x))
+  still_taken e =
       ap (λ (z : ShardValue). (n.0, (i, slots.Shard z) ∷ rest n.1)) e ∙ (ap (λ cs. (n.0, cs)) (in_slot x ∙ sym only) ∙ taken)
 
   -- and it is given back as it was
-  pub given_back : m.0.it.held ≡ [] → (z : ViewAndSlots M) → z ≡ (view_of (after_shard n.0.it x x), []) → z ≡ m
-  given_back none_held z given =
-      given ∙ (ap (λ (k : ViewAndSlots M). (view_of (after_shard k.0.it x x), [])) taken
-      ∙ (ap (λ v. (view_of v, [])) (view_again m.0.it i x none_held) ∙ ap (λ cs. (m.0, cs)) (sym none_out)))
+  pub given_back : {y : ShardValue} {z : ViewAndSlots M} → y ≡ x → m.0.it.held ≡ [] → z ≡ (view_of (after_shard n.0.it x y), []) → z ≡ m
+  given_back e none_held given =
+      given ∙ (ap (λ (y : ShardValue). (view_of (after_shard n.0.it x y), [])) e
+      ∙ (ap (λ (k : ViewAndSlots M). (view_of (after_shard k.0.it x x), [])) taken
+      ∙ (ap (λ v. (view_of v, [])) (view_again m.0.it i x none_held) ∙ ap (λ cs. (m.0, cs)) (sym none_out))))
 
 module _ (who : MarkedNode) (f : TokenFields) (is : who ≡ record { node = at f.iteration f.index; marks = f.marks }) (now joined c : ℕ)
     (same_now : now ≡ f.now) (same_joined : joined ≡ f.joined) (write : Option ℤ) (x y : ShardValue) (old new : List Entry) where

@@ -80,7 +80,7 @@ pub same_slot : (M : Type 0) (n : ViewAndSlots M) (b c : BookState) → n.1 ≡ 
 same_slot M n b c e f =
     same_book {M = M} b c (lent_value M n 0 (slots.Book c) f (slots.Book b) (e ∙ sym (only_value M n 0 (slots.Book c) f (slots.Book b))))
 
-module _ (M : Type 0) (n : ViewAndSlots M) {b : BookState} {back : Option InstanceData} (h : HoldsBook n b b back) where
+module _ {M : Type 0} {n : ViewAndSlots M} {b : BookState} {back : Option InstanceData} (h : HoldsBook n b b back) where
   pub slot_there : (s : Slot M) × (n.1 ≡ (0, s) ∷ rest n.1)
   slot_there = there M n 0 (slots.Book b) h.slots
 
@@ -97,22 +97,20 @@ module _ (M : Type 0) (n : ViewAndSlots M) {b : BookState} {back : Option Instan
   pub lent_is : (s : Slot M) (x : BookState) → n.1 ≡ (0, s) ∷ rest n.1 → s ≡ slots.Book x → x ≡ b
   lent_is s x e f = same_book x b (sym f ∙ book_is s e)
 
-module _ (M : Type 0) (m n : ViewAndSlots M) (s : Slot M) (x : BookState) where
-  pub lent_of : n.1 ≡ (0, s) ∷ rest n.1 → s ≡ slots.Book x → (b : BookState) × HasTaken m n b None → HasTaken m n x None
-  lent_of e f t = subst (λ y. HasTaken m n y None) (sym (lent_is M n t.1.holds s x e f)) t.1
+module _ {M : Type 0} {m n : ViewAndSlots M} {s : Slot M} {x : BookState} (e : n.1 ≡ (0, s) ∷ rest n.1) (f : s ≡ slots.Book x) where
+  pub lent : (b : BookState) × HasTaken m n b None → HasTaken m n x None
+  lent t = subst (λ y. HasTaken m n y None) (sym (lent_is t.1.holds s x e f)) t.1
 
-  pub lent_with : (f : TokenFields) (t : Tie) → n.1 ≡ (0, s) ∷ rest n.1 → s ≡ slots.Book x
-      → (b : BookState) × (d : InstanceData) × HasTaken m n b (Some d) × IsDataOf b f t d
-      → (d : InstanceData) × HasTaken m n x (Some d) × IsDataOf x f t d
-  lent_with f t e g k =
-      let same = sym (lent_is M n k.2.holds s x e g) in
-      (k.1, subst (λ y. HasTaken m n y (Some k.1)) same k.2, subst (λ y. IsDataOf y f t k.1) same k.3)
+  pub lent_with : {k : TokenFields} {t : Tie} → (b : BookState) × (d : InstanceData) × HasTaken m n b (Some d) × IsDataOf b k t d
+      → (d : InstanceData) × HasTaken m n x (Some d) × IsDataOf x k t d
+  lent_with {k} {t} q =
+      let same = sym (lent_is q.2.holds s x e f) in
+      (q.1, subst (λ y. HasTaken m n y (Some q.1)) same q.2, subst (λ y. IsDataOf y k t q.1) same q.3)
 
 -- ---- the book is given back
 
-module _ (M : Type 0) (m n : ViewAndSlots M) (b : BookState) (back : Option InstanceData) (h : HasTaken m n b back) (z : ViewAndSlots M)
-    (c : BookState)
-    (counts : TokenCounts) (given : z ≡ (view_of (record (after_book n.0.it c None) { tokens = counts }), [])) where
+module _ {M : Type 0} {m n : ViewAndSlots M} {b : BookState} {back : Option InstanceData} (h : HasTaken m n b back) {z : ViewAndSlots M}
+    (c : BookState) {counts : TokenCounts} (given : z ≡ (view_of (record (after_book n.0.it c None) { tokens = counts }), [])) where
   pub seen_after : z.0.it.seen ≡ events_of c.log
   seen_after = ap (λ (x : ViewAndSlots M). x.0.it.seen) given
 
@@ -140,12 +138,12 @@ module _ (M : Type 0) (m n : ViewAndSlots M) (b : BookState) (back : Option Inst
   sees own Returns adds r = record { base = events_of b.log; later = h.seen; adds = seen_after ∙ adds; returns = r }
 
 -- the name of the hall, by the book
-pub name_is : {M : Type 0} (id : TableId) (m n : ViewAndSlots M) (b : BookState) (back : Option InstanceData) → HasTaken m n b back
+pub name_is : {M : Type 0} {m n : ViewAndSlots M} {b : BookState} {back : Option InstanceData} (id : TableId) → HasTaken m n b back
     → name_of id m.0.it.constants ≡ name_of id (Some (constants_of b))
-name_is id m n b back h = ap (name_of id) h.knew
+name_is id h = ap (name_of id) h.knew
 
 -- a seat that has taken the book is of the same hall, and knows the constants of the book after a call
-module _ {M : Type 0} (m n : ViewAndSlots M) (b : BookState) (back : Option InstanceData) (h : HasTaken m n b back) where
+module _ {M : Type 0} {m n : ViewAndSlots M} {b : BookState} {back : Option InstanceData} (h : HasTaken m n b back) where
   pub hall_is : (id id' : TableId) → id' ≡ id → hall_of id' n ≡ hall_of id m
   hall_is id id' own = ap₂ name_of own (h.knows ∙ sym h.knew)
 

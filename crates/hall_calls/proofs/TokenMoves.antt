@@ -29,7 +29,7 @@ module _ (c d : TokenCounts) where
 
 -- ---- the book was taken, and given back, without a token or beside one
 
-module _ (M : Type 0) (m n z : ViewAndSlots M) (b c : BookState) where
+module _ {M : Type 0} {m n z : ViewAndSlots M} {b : BookState} (c : BookState) where
   pub none_moves : HasTaken m n b None → z ≡ (view_of (after_book n.0.it c None), []) → Exchanges 0 0 m.0.it.tokens z.0.it.tokens
   none_moves h given = same_counts m.0.it.tokens z.0.it.tokens (ap (λ (x : ViewAndSlots M). x.0.it.tokens) given ∙ h.counts)
 
@@ -37,13 +37,13 @@ module _ (M : Type 0) (m n z : ViewAndSlots M) (b c : BookState) where
       → Exchanges 1 0 m.0.it.tokens z.0.it.tokens
   token_given h given = gave_one m.0.it.tokens z.0.it.tokens (ap (λ (x : ViewAndSlots M). x.0.it.tokens) given ∙ ap one_given h.counts)
 
-  pub token_returned : (d : InstanceData) → HasTaken m n b (Some d) → z ≡ (view_of (after_book n.0.it c None), [])
+  pub token_returned : {d : InstanceData} → HasTaken m n b (Some d) → z ≡ (view_of (after_book n.0.it c None), [])
       → Exchanges 0 1 m.0.it.tokens z.0.it.tokens
-  token_returned d h given = returned_one m.0.it.tokens z.0.it.tokens (ap (λ (x : ViewAndSlots M). x.0.it.tokens) given ∙ h.counts)
+  token_returned h given = returned_one m.0.it.tokens z.0.it.tokens (ap (λ (x : ViewAndSlots M). x.0.it.tokens) given ∙ h.counts)
 
-  pub token_given_and_returned : (d : InstanceData) → HasTaken m n b (Some d) → z ≡ (view_of (without_run (after_book n.0.it c None)), [])
+  pub token_given_and_returned : {d : InstanceData} → HasTaken m n b (Some d) → z ≡ (view_of (without_run (after_book n.0.it c None)), [])
       → Exchanges 1 1 m.0.it.tokens z.0.it.tokens
-  token_given_and_returned d h given = given_and_returned m.0.it.tokens z.0.it.tokens
+  token_given_and_returned h given = given_and_returned m.0.it.tokens z.0.it.tokens
       (ap (λ (x : ViewAndSlots M). x.0.it.tokens) given ∙ ap one_given h.counts)
 
 -- ---- results without a token

@@ -125,13 +125,14 @@ impl<M: Carrier> Locks<M> {
         self.take(rt, seat, 0);
     }
 
-    /// Takes the book that the seat has out of its slot.
+    /// Takes the book that the seat has out of its slot, which is `Out` then.
     pub fn book_out(&self, seat: &mut Seat<Slot<M>, View>) -> Book<M, OmWriter>
         requires own { seat.old.table_id ≡ self.now.table.shared.table_id }
         requires taken { (b : BookState) × (seat.old.me.1 ≡ (0, Slot.Book b) ∷ rest seat.old.me.1) }
         ensures own { (seat.new.table_id ≡ seat.old.table_id) × (seat.new.id ≡ seat.old.id) }
         ensures view { seat.new.me.0 ≡ seat.old.me.0 }
         ensures book { seat.old.me.1 ≡ (0, Slot.Book result) ∷ rest seat.old.me.1 }
+        ensures slot { seat.new.me.1 ≡ (0, Slot.Out) ∷ rest seat.old.me.1 }
     {
         match self.table.shared.exchange(seat, 0, Slot::Out) {
             Slot::Book(book) => book,
@@ -152,7 +153,7 @@ impl<M: Carrier> Locks<M> {
         self.take(rt, seat, 1 + number as usize);
     }
 
-    /// Takes the shard that the seat has out of its slot.
+    /// Takes the shard that the seat has out of its slot, which is `Out` then.
     pub fn shard_out(&self, seat: &mut Seat<Slot<M>, View>, number: u32) -> Shard
         requires own { seat.old.table_id ≡ self.now.table.shared.table_id }
         requires there { number < 16 }
@@ -160,6 +161,7 @@ impl<M: Carrier> Locks<M> {
         ensures own { (seat.new.table_id ≡ seat.old.table_id) × (seat.new.id ≡ seat.old.id) }
         ensures view { seat.new.me.0 ≡ seat.old.me.0 }
         ensures shard { seat.old.me.1 ≡ (1 + number, Slot.Shard result) ∷ rest seat.old.me.1 }
+        ensures slot { seat.new.me.1 ≡ (1 + number, Slot.Out) ∷ rest seat.old.me.1 }
     {
         match self
             .table

@@ -19,8 +19,13 @@ const FIRST_SLEEP: u64 = 25;
 
 const LONGEST_SLEEP: u64 = 200;
 
-// The microseconds for which a worker of short instances rests before it steals.
-const REST: u64 = 200;
+// The microseconds for which a worker of short instances rests before it steals, at first and at most.
+// Each rest is twice as long as the last, until the worker has run a longer instance. So the tasks of
+// short instances stay with one worker, mostly. A longer rest would delay the end of the run, since a
+// worker that rests does not see it.
+const FIRST_REST: u64 = 200;
+
+const LONGEST_REST: u64 = 800;
 
 // How often a worker looks for a task again before it asks the book once more, while its pauses are
 // short and when they are long. The book has a lock, which workers with instances need.
@@ -44,6 +49,8 @@ pub(crate) struct Idle {
     left: bool,
     // Whether the worker has rested since it found something.
     rested: bool,
+    // The microseconds of its next rest.
+    rest: u64,
 }
 
 impl Idle {
@@ -58,6 +65,7 @@ impl Idle {
             waits: false,
             left: false,
             rested: false,
+            rest: FIRST_REST,
         }
     }
 
@@ -74,14 +82,19 @@ impl Idle {
     // Returns whether the worker may steal and ask the book. One that has run only short instances of late
     // rests first: where instances are short, workers that share them out wait for the book longer than
     // one needs for all of them.
-    pub fn may_steal(&self, is_short: bool) -> bool {
+    pub fn may_steal(&mut self, is_short: bool) -> bool {
+        if !is_short {
+            self.rest = FIRST_REST;
+        }
         self.rested || !is_short
     }
 
     // Rests, once, until the worker has found something again.
     pub fn rest<R: Wait>(&mut self, rt: &R) {
         self.rested = true;
-        self.sleep.park_timeout(rt, Duration::from_micros(REST));
+        self.sleep
+            .park_timeout(rt, Duration::from_micros(self.rest));
+        self.rest = self.rest.saturating_mul(2).min(LONGEST_REST);
     }
 
     // Returns whether the worker may begin an iteration that the book lets begin. The worker of the last

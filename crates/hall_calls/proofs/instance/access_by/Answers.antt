@@ -15,15 +15,14 @@ pub slot_mut-slot-requires : goal.slot_mut-slot-requires
 slot_mut-slot-requires g c =
     let t = c.take_shard_of-asks.ensures.taken in (
       c.take_shard_of-asks.ensures.own.0 ∙ c.requires.own,
-      shard_there g.row.M.Denot c.args.run.now.me c.take_shard_of-asks.new.run.me (1 + c.args.cell.0 % 16) t.0 c.requires.runs.1.slots t.1,
+      shard_there (1 + c.args.cell.0 % 16) c.requires.runs.1.slots t.1,
     )
 
 pub shard_mut-lent-requires : goal.shard_mut-lent-requires
 shard_mut-lent-requires g c = let t = c.take_shard_of-asks.ensures.taken in record {
   there = (
     t.0,
-    lent_shard g.row.M.Denot c.args.run.now.me c.take_shard_of-asks.new.run.me (1 + c.args.cell.0 % 16) t.0 c.requires.runs.1.slots t.1
-        c.slot_mut-slot.result.now c.slot_mut-slot.ensures.value,
+    lent_shard (1 + c.args.cell.0 % 16) c.requires.runs.1.slots t.1 c.slot_mut-slot.result.now c.slot_mut-slot.ensures.value,
   );
 }
 
@@ -31,8 +30,7 @@ pub access-done-requires-clause-asks : goal.access-done-requires-clause-asks
 access-done-requires-clause-asks g c =
     let r = c.requires.runs.1 in
     let t = c.take_shard_of-asks.ensures.taken in
-    let same = shard_is g.row.M.Denot c.args.run.now.me c.take_shard_of-asks.new.run.me (1 + c.args.cell.0 % 16) t.0 r.slots t.1
-    c.slot_mut-slot.result.now c.shard_mut-lent.result.now c.slot_mut-slot.ensures.value c.shard_mut-lent.ensures.value in
+    let same = shard_is (1 + c.args.cell.0 % 16) r.slots t.1 c.slot_mut-slot.ensures.value c.shard_mut-lent.ensures.value in
     λ e. subst (λ (z : ShardValue). may_ask (Some c.args.joined) c.args.who.node (history_at z.histories (c.args.cell.0 / 16)) ≡ false)
     (sym same) (t.3 e)
 
@@ -40,8 +38,7 @@ pub access-done-requires-clause-ready : goal.access-done-requires-clause-ready
 access-done-requires-clause-ready g c =
     let r = c.requires.runs.1 in
     let t = c.take_shard_of-asks.ensures.taken in
-    let same = shard_is g.row.M.Denot c.args.run.now.me c.take_shard_of-asks.new.run.me (1 + c.args.cell.0 % 16) t.0 r.slots t.1
-    c.slot_mut-slot.result.now c.shard_mut-lent.result.now c.slot_mut-slot.ensures.value c.shard_mut-lent.ensures.value in
+    let same = shard_is (1 + c.args.cell.0 % 16) r.slots t.1 c.slot_mut-slot.ensures.value c.shard_mut-lent.ensures.value in
     can_begin_in c.args.run.now.table_id c.args.run.now.me.0.it t.0 c.shard_mut-lent.result.now c.args.cell.0
     r.constants t.2 r.knows c.requires.cell same
 
@@ -53,8 +50,7 @@ access-done-requires-clause-lists g c =
     let x = c.shard_mut-lent.result.now in
     let i = 1 + c.args.cell.0 % 16 in
     let t = c.take_shard_of-asks.ensures.taken in
-    let same = shard_is g.row.M.Denot c.args.run.now.me c.take_shard_of-asks.new.run.me i t.0 r.slots t.1
-    c.slot_mut-slot.result.now x c.slot_mut-slot.ensures.value c.shard_mut-lent.ensures.value in
+    let same = shard_is i r.slots t.1 c.slot_mut-slot.ensures.value c.shard_mut-lent.ensures.value in
     let snapshot = subst (ShardSnapshot v i) (sym same) t.2 in
     same_lists v i x r.constants c.args.passes.now snapshot r.knows
     (subst (λ (x : HallName). AreSeenLists (Some c.args.passes.now) x.lists.down x.lists.right) (ap (name_of z) r.knows) c.requires.lists)
@@ -63,20 +59,18 @@ pub return_shard-requires-clause-made : goal.return_shard-requires-clause-made
 return_shard-requires-clause-made g c =
     let q = c.requires.runs in
     let r = q.1 in
-    let m = c.args.run.now.me in
     let n = c.take_shard_of-asks.new.run.me in
     let i = 1 + c.args.cell.0 % 16 in
     let t = c.take_shard_of-asks.ensures.taken in
     let x = c.shard_mut-lent.result.now in
     let y = c.access-done.new.self in
-    let same = shard_is g.row.M.Denot m n i t.0 r.slots t.1 c.slot_mut-slot.result.now x c.slot_mut-slot.ensures.value
-    c.shard_mut-lent.ensures.value in
+    let same = shard_is i r.slots t.1 c.slot_mut-slot.ensures.value c.shard_mut-lent.ensures.value in
     let e = c.access-done.ensures in
     let run_is : n.0.it.run ≡ Some r.run_data = ap (λ (k : ViewAndSlots g.row.M.Denot). k.0.it.run) t.1 ∙ r.run_is in (
       x,
       y,
-      in_slot g.row.M.Denot m n i t.0 r.slots t.1 y,
-      holds_only g.row.M.Denot m n i t.0 r.slots t.1 r.held ∙ ap (λ (z : ShardValue). (i, TheShard z) ∷ []) (sym same),
+      in_slot i r.slots t.1 y,
+      holds_only i r.slots t.1 r.held ∙ ap (λ (z : ShardValue). (i, TheShard z) ∷ []) (sym same),
       ⊎_elim (λ (s : y ≡ x). inl s)
           (λ (s : MadeBy r.run_data (c.args.cell.0 % 16) x y). inr (r.run_data, run_is, s))
           (either_made c.args.who q.0 q.2 c.args.now c.args.joined c.args.cell.0 q.3 q.4 c.args.write x y
@@ -93,12 +87,11 @@ returns-clause-ran g c =
     let k = c.take_shard_of-asks.ensures.taken in
     let x = c.shard_mut-lent.result.now in
     let y = c.access-done.new.self in
-    let same = shard_is g.row.M.Denot m n i k.0 r.slots k.1 c.slot_mut-slot.result.now x c.slot_mut-slot.ensures.value
-    c.shard_mut-lent.ensures.value in
+    let same = shard_is i r.slots k.1 c.slot_mut-slot.ensures.value c.shard_mut-lent.ensures.value in
     let e = c.access-done.ensures in
     let t = k.1 in
-    let held = holds_only g.row.M.Denot m n i k.0 r.slots k.1 r.held ∙ ap (λ (z : ShardValue). (i, TheShard z) ∷ []) (sym same) in
-    let given = c.return_shard.ensures.given x y held (in_slot g.row.M.Denot m n i k.0 r.slots k.1 y) in
+    let held = holds_only i r.slots k.1 r.held ∙ ap (λ (z : ShardValue). (i, TheShard z) ∷ []) (sym same) in
+    let given = c.return_shard.ensures.given x y held (in_slot i r.slots k.1 y) in
     let v = m.0.it in
     let w : SeatView = after_shard n.0.it x y in
     given ∙ ap (λ (u : SeatView). (view_of u, [])) (run_done c.args.who q.0 q.2 c.args.now c.args.joined c.args.cell.0 q.3 q.4 c.args.write

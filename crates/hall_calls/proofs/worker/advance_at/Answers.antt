@@ -23,35 +23,34 @@ use Rattle.hall_calls.proofs.worker.advance_at.Goals as goal
 pub advance-next-requires-clause-stopped : goal.advance-next-requires-clause-stopped
 advance-next-requires-clause-stopped g c =
     λ e. stopped_later c.args.seat.now.me.0.it.seen (events_of c.book_mut-lent.result.now.log)
-    (lent_with g.row.M.Denot c.args.seat.now.me c.take_back.new.seat.me c.slot_mut-slot.result.now c.book_mut-lent.result.now _ _
-    c.slot_mut-slot.ensures.value c.book_mut-lent.ensures.value c.take_back.ensures.taken).1.seen (c.requires.stopped e)
+    (lent_with c.slot_mut-slot.ensures.value c.book_mut-lent.ensures.value c.take_back.ensures.taken).1.seen (c.requires.stopped e)
 
 pub return_token-requires-clause-call : goal.return_token-requires-clause-call
 return_token-requires-clause-call g c =
-    let t = lent_with g.row.M.Denot c.args.seat.now.me c.take_back.new.seat.me c.slot_mut-slot.result.now c.book_mut-lent.result.now _ _
-    c.slot_mut-slot.ensures.value c.book_mut-lent.ensures.value c.take_back.ensures.taken in
+    let x = c.advance-next.new.self in
+    let t = lent_with c.slot_mut-slot.ensures.value c.book_mut-lent.ensures.value c.take_back.ensures.taken in
     let b = c.book_mut-lent.result.now in
     let f = fields_of c.take_back.new.token in
     let same : f ≡ fields_of c.args.token = ap (λ (k : FrameToken g.row.M.Denot). fields_of k) c.take_back.ensures.token in
     let e = c.in-Go.ensures in (
       b,
-      c.advance-next.new.self,
+      x,
       Some t.0,
-      holds_call g.row.M.Denot c.take_back.new.seat.me t.1.holds c.advance-next.new.self,
-      goes_on b c.advance-next.new.self t.0 f c.args.trace c.args.end Out _ (t.2.fields ∙ sym same) (t.2.entries ∙ sym c.requires.trace)
+      holds_call t.1.holds x,
+      goes_on b x t.0 f c.args.trace c.args.end Out _ (t.2.fields ∙ sym same) (t.2.entries ∙ sym c.requires.trace)
           (fields_of c.in-Go.token)
           (enters_not_stopped (state_of b) f.iteration c.args.end e.returned.1) refl e.book c.entries.ensures.control
           (subst HasRisingTickets c.entries.ensures.log c.entries.ensures.rise)
           e.returned.2 e.token.0.out e.token.0.parts e.now,
-      knows_after c.args.seat.now.me c.take_back.new.seat.me c.book_mut-lent.result.now (Some t.0) t.1 c.advance-next.new.self
+      knows_after t.1 x
           (ap constants_of c.in-Go.ensures.book),
       e.token.0,
     )
 
 pub return_book-requires : goal.return_book-requires
 return_book-requires g c =
-    let t = lent_with g.row.M.Denot c.args.seat.now.me c.take_back.new.seat.me c.slot_mut-slot.result.now c.book_mut-lent.result.now _ _
-    c.slot_mut-slot.ensures.value c.book_mut-lent.ensures.value c.take_back.ensures.taken in
+    let x = c.advance-next.new.self in
+    let t = lent_with c.slot_mut-slot.ensures.value c.book_mut-lent.ensures.value c.take_back.ensures.taken in
     let b = c.book_mut-lent.result.now in
     let f = fields_of c.take_back.new.token in
     let same : f ≡ fields_of c.args.token = ap (λ (k : FrameToken g.row.M.Denot). fields_of k) c.take_back.ensures.token in
@@ -60,10 +59,10 @@ return_book-requires g c =
       own = c.take_back.ensures.own ∙ c.requires.own;
       call = (
         b,
-        c.advance-next.new.self,
+        x,
         Some t.0,
-        holds_call g.row.M.Denot c.take_back.new.seat.me t.1.holds c.advance-next.new.self,
-        ended_without b c.advance-next.new.self t.0 f c.args.trace c.args.end c.advance-next.result c.in_default.not-Go
+        holds_call t.1.holds x,
+        ended_without b x t.0 f c.args.trace c.args.end c.advance-next.result c.in_default.not-Go
             (t.2.fields ∙ sym same) (t.2.entries ∙ sym c.requires.trace) e.returned e.book
             c.entries.ensures.control (subst HasRisingTickets c.entries.ensures.log c.entries.ensures.rise),
       );
@@ -71,21 +70,20 @@ return_book-requires g c =
 
 pub returns-in-Go-clause-idle : goal.returns-in-Go-clause-idle
 returns-in-Go-clause-idle g c =
-    let slot = in_slot g.row.M.Denot c.take_back.new.seat.me c.take_back.ensures.taken.2.holds c.advance-next.new.self in
-    let given = c.return_token.ensures.given c.advance-next.new.self slot in
-    let t = lent_with g.row.M.Denot c.args.seat.now.me c.take_back.new.seat.me c.slot_mut-slot.result.now c.book_mut-lent.result.now _ _
-    c.slot_mut-slot.ensures.value c.book_mut-lent.ensures.value c.take_back.ensures.taken in
-    stays_idle g.row.M.Denot c.args.seat.now.me c.take_back.new.seat.me c.book_mut-lent.result.now
-    (Some t.0) t.1 c.return_token.new.seat.me c.advance-next.new.self _ given
+    let x = c.advance-next.new.self in
+    let slot = in_slot c.take_back.ensures.taken.2.holds x in
+    let given = c.return_token.ensures.given x slot in
+    let t = lent_with c.slot_mut-slot.ensures.value c.book_mut-lent.ensures.value c.take_back.ensures.taken in
+    stays_idle t.1 x given
     (ap constants_of c.in-Go.ensures.book) c.entries.ensures.control
 
 pub returns-in-Go-clause-sees : goal.returns-in-Go-clause-sees
 returns-in-Go-clause-sees g c =
-    let slot = in_slot g.row.M.Denot c.take_back.new.seat.me c.take_back.ensures.taken.2.holds c.advance-next.new.self in
-    let given = c.return_token.ensures.given c.advance-next.new.self slot in
+    let x = c.advance-next.new.self in
+    let slot = in_slot c.take_back.ensures.taken.2.holds x in
+    let given = c.return_token.ensures.given x slot in
     let m = c.args.seat.now.me in
-    let t = lent_with g.row.M.Denot c.args.seat.now.me c.take_back.new.seat.me c.slot_mut-slot.result.now c.book_mut-lent.result.now _ _
-    c.slot_mut-slot.ensures.value c.book_mut-lent.ensures.value c.take_back.ensures.taken in
+    let t = lent_with c.slot_mut-slot.ensures.value c.book_mut-lent.ensures.value c.take_back.ensures.taken in
     let b = c.book_mut-lent.result.now in
     let f = fields_of c.take_back.new.token in
     let same : f ≡ fields_of c.args.token = ap (λ (k : FrameToken g.row.M.Denot). fields_of k) c.take_back.ensures.token in
@@ -99,54 +97,50 @@ returns-in-Go-clause-sees g c =
     (λ q. AdvanceReturns q c.args.token.iteration c.args.token.index c.args.end (nexts.Go x))) (sym s.1)
     (subst (λ (k : TokenFields). Sees m.0.it.seen z.0.it.seen (stage_end_events k.iteration c.args.end ++ Enter k.iteration ∷ [])
     (λ q. AdvanceReturns q k.iteration k.index c.args.end (nexts.Go u))) same
-    (sees g.row.M.Denot m c.take_back.new.seat.me b (Some t.0) t.1 z c.advance-next.new.self _ given es
+    (sees t.1 x given es
     (λ q. AdvanceReturns q f.iteration f.index c.args.end (nexts.Go u))
-    (advanced {M = g.row.M.Denot} b c.advance-next.new.self f c.args.trace c.args.end (nexts.Go c.in-Go.token) e.book).1 e.returned))
+    (advanced {M = g.row.M.Denot} b x f c.args.trace c.args.end (nexts.Go c.in-Go.token) e.book).1 e.returned))
 
 pub returns-in_default : goal.returns-in_default
 returns-in_default g c =
-    let slot = in_slot g.row.M.Denot c.take_back.new.seat.me c.take_back.ensures.taken.2.holds c.advance-next.new.self in
-    let given = c.return_book.ensures.given c.advance-next.new.self slot in
+    let x = c.advance-next.new.self in
+    let slot = in_slot c.take_back.ensures.taken.2.holds x in
+    let given = c.return_book.ensures.given x slot in
     let m = c.args.seat.now.me in
-    let n = c.take_back.new.seat.me in
-    let t = lent_with g.row.M.Denot c.args.seat.now.me c.take_back.new.seat.me c.slot_mut-slot.result.now c.book_mut-lent.result.now _ _
-    c.slot_mut-slot.ensures.value c.book_mut-lent.ensures.value c.take_back.ensures.taken in
+    let t = lent_with c.slot_mut-slot.ensures.value c.book_mut-lent.ensures.value c.take_back.ensures.taken in
     let b = c.book_mut-lent.result.now in
     let f = fields_of c.take_back.new.token in
     let same : f ≡ fields_of c.args.token = ap (λ (k : FrameToken g.row.M.Denot). fields_of k) c.take_back.ensures.token in
-    let x = c.advance-next.new.self in
     let r = c.advance-next.result in
     let z = c.return_book.new.seat.me in
     let e = c.advance-next.ensures in
     let q = advanced b x f c.args.trace c.args.end r e.book in
     record {
       own = c.return_book.ensures.own.0 ∙ c.take_back.ensures.own;
-      idle = stays_idle g.row.M.Denot m n b (Some t.0) t.1 z x _ given q.0 c.entries.ensures.control;
+      idle = stays_idle t.1 x given q.0 c.entries.ensures.control;
       sees = subst (λ (k : TokenFields). Sees m.0.it.seen z.0.it.seen (advance_events k.iteration c.args.end r)
           (λ s. AdvanceReturns s k.iteration k.index c.args.end r)) same
-          (sees g.row.M.Denot m n b (Some t.0) t.1 z x _ given (advance_events f.iteration c.args.end r)
+          (sees t.1 x given (advance_events f.iteration c.args.end r)
           (λ s. AdvanceReturns s f.iteration f.index c.args.end r) q.1 e.returned);
       tokens = subst (λ k. Exchanges k 1 m.0.it.tokens z.0.it.tokens) (sym (none_next r c.in_default.not-Go))
-          (token_returned g.row.M.Denot m n z b x t.0 t.1 given);
+          (token_returned x t.1 given);
       runs = none_goes r _ c.in_default.not-Go;
       token = none_goes r _ c.in_default.not-Go;
       barred = subst (λ es. IfSome c.barred_right.result (λ i. StartsNothing (state_after es) (i + 1)))
-          (sym (seen_after g.row.M.Denot m n b (Some t.0) t.1 z x _ given)) c.barred_right.ensures;
+          (sym (seen_after t.1 x given)) c.barred_right.ensures;
     }
 
 pub returns-in-Go-clause-tokens : goal.returns-in-Go-clause-tokens
 returns-in-Go-clause-tokens g c =
-    let slot = in_slot g.row.M.Denot c.take_back.new.seat.me c.take_back.ensures.taken.2.holds c.advance-next.new.self in
-    let given = c.return_token.ensures.given c.advance-next.new.self slot in
-    let t = lent_with g.row.M.Denot c.args.seat.now.me c.take_back.new.seat.me c.slot_mut-slot.result.now c.book_mut-lent.result.now _ _
-    c.slot_mut-slot.ensures.value c.book_mut-lent.ensures.value c.take_back.ensures.taken in
-    token_given_and_returned g.row.M.Denot c.args.seat.now.me c.take_back.new.seat.me c.return_token.new.seat.me
-    c.book_mut-lent.result.now c.advance-next.new.self t.0 t.1 given
+    let x = c.advance-next.new.self in
+    let slot = in_slot c.take_back.ensures.taken.2.holds x in
+    let given = c.return_token.ensures.given x slot in
+    let t = lent_with c.slot_mut-slot.ensures.value c.book_mut-lent.ensures.value c.take_back.ensures.taken in
+    token_given_and_returned x t.1 given
 
 pub advance-next-requires-clause-out : goal.advance-next-requires-clause-out
 advance-next-requires-clause-out g c =
-    let t = lent_with g.row.M.Denot c.args.seat.now.me c.take_back.new.seat.me c.slot_mut-slot.result.now c.book_mut-lent.result.now _ _
-    c.slot_mut-slot.ensures.value c.book_mut-lent.ensures.value c.take_back.ensures.taken in
+    let t = lent_with c.slot_mut-slot.ensures.value c.book_mut-lent.ensures.value c.take_back.ensures.taken in
     let same : fields_of c.take_back.new.token ≡ fields_of c.args.token =
     ap (λ (k : FrameToken g.row.M.Denot). fields_of k) c.take_back.ensures.token in
     subst (IsOutOf c.book_mut-lent.result.now) (sym same) t.2.out
@@ -159,34 +153,29 @@ returns-in-Go-clause-own g c = c.return_token.ensures.own ∙ c.take_back.ensure
 
 pub returns-in-Go-clause-runs : goal.returns-in-Go-clause-runs
 returns-in-Go-clause-runs g c =
-    let slot = in_slot g.row.M.Denot c.take_back.new.seat.me c.take_back.ensures.taken.2.holds c.advance-next.new.self in
-    let given = c.return_token.ensures.given c.advance-next.new.self slot in
-    let t = lent_with g.row.M.Denot c.args.seat.now.me c.take_back.new.seat.me c.slot_mut-slot.result.now c.book_mut-lent.result.now _ _
-    c.slot_mut-slot.ensures.value c.book_mut-lent.ensures.value c.take_back.ensures.taken in
-    runs_after g.row.M.Denot c.args.seat.now.me c.take_back.new.seat.me c.book_mut-lent.result.now (Some t.0) t.1
-    c.return_token.new.seat.me c.advance-next.new.self _ given
-    (fields_of c.return_token.result) (c.return_token.ensures.runs c.advance-next.new.self slot)
+    let x = c.advance-next.new.self in
+    let slot = in_slot c.take_back.ensures.taken.2.holds x in
+    let given = c.return_token.ensures.given x slot in
+    let t = lent_with c.slot_mut-slot.ensures.value c.book_mut-lent.ensures.value c.take_back.ensures.taken in
+    runs_after t.1 x given
+    (fields_of c.return_token.result) (c.return_token.ensures.runs x slot)
 
 pub returns-in-Go-clause-token : goal.returns-in-Go-clause-token
 returns-in-Go-clause-token g c =
-    let t = lent_with g.row.M.Denot c.args.seat.now.me c.take_back.new.seat.me c.slot_mut-slot.result.now c.book_mut-lent.result.now _ _
-    c.slot_mut-slot.ensures.value c.book_mut-lent.ensures.value c.take_back.ensures.taken in
+    let t = lent_with c.slot_mut-slot.ensures.value c.book_mut-lent.ensures.value c.take_back.ensures.taken in
     subst (λ k. IsGivenToken g.M.Stands.ready_at g.M.Stands.tie k c.return_token.result)
-    (hall_is c.args.seat.now.me c.take_back.new.seat.me c.book_mut-lent.result.now (Some t.0) t.1 c.args.seat.now.table_id
-    c.take_back.new.seat.table_id c.take_back.ensures.own) c.return_token.ensures.token
+    (hall_is t.1 c.args.seat.now.table_id c.take_back.new.seat.table_id c.take_back.ensures.own) c.return_token.ensures.token
 
 pub slot_mut-slot-requires : goal.slot_mut-slot-requires
 slot_mut-slot-requires g c = (
   c.take_back.ensures.own ∙ c.requires.own,
-  slot_there g.row.M.Denot c.take_back.new.seat.me
-      c.take_back.ensures.taken.2.holds,
+  slot_there c.take_back.ensures.taken.2.holds,
 )
 
 pub book_mut-lent-requires : goal.book_mut-lent-requires
 book_mut-lent-requires g c = record {
   there = (
     c.take_back.ensures.taken.0,
-    book_is g.row.M.Denot c.take_back.new.seat.me c.take_back.ensures.taken.2.holds c.slot_mut-slot.result.now
-        c.slot_mut-slot.ensures.value,
+    book_is c.take_back.ensures.taken.2.holds c.slot_mut-slot.result.now c.slot_mut-slot.ensures.value,
   );
 }

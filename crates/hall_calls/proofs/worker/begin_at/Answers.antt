@@ -13,90 +13,83 @@ use Rattle.frame_book.specs.BookStates.{BookState, HasRisingTickets, events_of, 
 use Rattle.hall_table.specs.SeatViews.{constants_of}
 use Rattle.hall_calls.proofs.BookCalls.{begin_call, events_stamped}
 use Rattle.hall_calls.proofs.TakenBooks.{in_slot, slot_there, book_is, holds_call, hall_is, knows_after}
-use Rattle.hall_calls.proofs.TakenBooks.{lent_of, name_is, none_started, nothing_begun, runs_after, sees, stays_idle}
+use Rattle.hall_calls.proofs.TakenBooks.{lent, name_is, none_started, nothing_begun, runs_after, sees, stays_idle}
 use Rattle.pipe_frame.specs.TokenCounts.{Exchanges}
 use Rattle.hall_calls.proofs.TokenMoves.{none_begun, none_moves, token_given}
 use Rattle.hall_calls.proofs.worker.begin_at.Goals as goal
 
 pub return_token-requires-clause-call : goal.return_token-requires-clause-call
 return_token-requires-clause-call g c =
+    let x = c.begin-begun.new.self in
     let b = c.book_mut-lent.result.now in
-    let h = lent_of g.row.M.Denot c.args.seat.now.me c.take_book.new.seat.me c.slot_mut-slot.result.now c.book_mut-lent.result.now
-    c.slot_mut-slot.ensures.value c.book_mut-lent.ensures.value c.take_book.ensures.taken in
+    let h = lent c.slot_mut-slot.ensures.value c.book_mut-lent.ensures.value c.take_book.ensures.taken in
     let e = c.in-Started.ensures in (
       b,
-      c.begin-begun.new.self,
+      x,
       None,
-      holds_call g.row.M.Denot c.take_book.new.seat.me h.holds c.begin-begun.new.self,
-      begin_call b c.begin-begun.new.self (fields_of c.in-Started.token) e.book h.tokens h.traces c.entries.ensures.control
+      holds_call h.holds x,
+      begin_call b x (fields_of c.in-Started.token) e.book h.tokens h.traces c.entries.ensures.control
           (subst HasRisingTickets c.entries.ensures.log c.entries.ensures.rise)
           e.token.out e.token.parts e.now,
-      knows_after c.args.seat.now.me c.take_book.new.seat.me c.book_mut-lent.result.now None
-          (lent_of g.row.M.Denot c.args.seat.now.me c.take_book.new.seat.me c.slot_mut-slot.result.now c.book_mut-lent.result.now
-          c.slot_mut-slot.ensures.value c.book_mut-lent.ensures.value c.take_book.ensures.taken) c.begin-begun.new.self (ap
-          constants_of c.in-Started.ensures.book),
+      knows_after h x (ap constants_of c.in-Started.ensures.book),
       e.token,
     )
 
 pub return_book-requires : goal.return_book-requires
 return_book-requires g c =
+    let x = c.begin-begun.new.self in
+    let h = lent c.slot_mut-slot.ensures.value c.book_mut-lent.ensures.value c.take_book.ensures.taken in
     let b = c.book_mut-lent.result.now in
-    let q = nothing_begun b c.begin-begun.new.self c.begin-begun.result c.in_default.not-Started c.begin-begun.ensures.book in
+    let q = nothing_begun b x c.begin-begun.result c.in_default.not-Started c.begin-begun.ensures.book in
     record {
       own = c.take_book.ensures.own ∙ c.requires.own;
       call = (
         b,
-        c.begin-begun.new.self,
+        x,
         None,
-        holds_call g.row.M.Denot c.take_book.new.seat.me (lent_of g.row.M.Denot c.args.seat.now.me c.take_book.new.seat.me
-            c.slot_mut-slot.result.now c.book_mut-lent.result.now
-            c.slot_mut-slot.ensures.value c.book_mut-lent.ensures.value c.take_book.ensures.taken).holds c.begin-begun.new.self,
+        holds_call h.holds x,
         q.call,
       );
     }
 
 pub returns-in-Started-clause-idle : goal.returns-in-Started-clause-idle
 returns-in-Started-clause-idle g c =
-    let slot = in_slot g.row.M.Denot c.take_book.new.seat.me c.take_book.ensures.taken.1.holds c.begin-begun.new.self in
-    let given = c.return_token.ensures.given c.begin-begun.new.self slot in
-    stays_idle g.row.M.Denot c.args.seat.now.me c.take_book.new.seat.me c.book_mut-lent.result.now None
-    (lent_of g.row.M.Denot c.args.seat.now.me c.take_book.new.seat.me c.slot_mut-slot.result.now c.book_mut-lent.result.now
-    c.slot_mut-slot.ensures.value c.book_mut-lent.ensures.value c.take_book.ensures.taken) c.return_token.new.seat.me c.begin-begun.new.self
-    _ given (ap constants_of c.in-Started.ensures.book) c.entries.ensures.control
+    let x = c.begin-begun.new.self in
+    let h = lent c.slot_mut-slot.ensures.value c.book_mut-lent.ensures.value c.take_book.ensures.taken in
+    let slot = in_slot c.take_book.ensures.taken.1.holds x in
+    let given = c.return_token.ensures.given x slot in
+    stays_idle h x given (ap constants_of c.in-Started.ensures.book) c.entries.ensures.control
 
 pub returns-in_default : goal.returns-in_default
 returns-in_default g c =
-    let slot = in_slot g.row.M.Denot c.take_book.new.seat.me c.take_book.ensures.taken.1.holds c.begin-begun.new.self in
-    let given = c.return_book.ensures.given c.begin-begun.new.self slot in
-    let m = c.args.seat.now.me in
-    let n = c.take_book.new.seat.me in
-    let b = c.book_mut-lent.result.now in
-    let h = lent_of g.row.M.Denot c.args.seat.now.me c.take_book.new.seat.me c.slot_mut-slot.result.now c.book_mut-lent.result.now
-    c.slot_mut-slot.ensures.value c.book_mut-lent.ensures.value c.take_book.ensures.taken in
     let x = c.begin-begun.new.self in
+    let slot = in_slot c.take_book.ensures.taken.1.holds x in
+    let given = c.return_book.ensures.given x slot in
+    let m = c.args.seat.now.me in
+    let b = c.book_mut-lent.result.now in
+    let h = lent c.slot_mut-slot.ensures.value c.book_mut-lent.ensures.value c.take_book.ensures.taken in
     let r = c.begin-begun.result in
     let z = c.return_book.new.seat.me in
     let q = nothing_begun b x r c.in_default.not-Started c.begin-begun.ensures.book in
     record {
       own = c.return_book.ensures.own.0 ∙ c.take_book.ensures.own;
-      idle = stays_idle g.row.M.Denot m n b None h z x _ given q.constants c.entries.ensures.control;
-      sees = sees g.row.M.Denot m n b None h z x _ given (begin_events r) (λ s. BeginReturns _ s r) q.adds
-          (subst (λ (k : HallName). BeginReturns k.limit (state_of b) r) (sym (name_is c.args.seat.now.table_id m n b None h))
+      idle = stays_idle h x given q.constants c.entries.ensures.control;
+      sees = sees h x given (begin_events r) (λ s. BeginReturns _ s r) q.adds
+          (subst (λ (k : HallName). BeginReturns k.limit (state_of b) r) (sym (name_is c.args.seat.now.table_id h))
           c.begin-begun.ensures.returned);
       tokens = subst (λ k. Exchanges k 0 m.0.it.tokens z.0.it.tokens) (sym (none_begun r c.in_default.not-Started))
-          (none_moves g.row.M.Denot m n z b x h given);
+          (none_moves x h given);
       runs = none_started r _ c.in_default.not-Started;
       token = none_started r _ c.in_default.not-Started;
     }
 
 pub returns-in-Started-clause-tokens : goal.returns-in-Started-clause-tokens
 returns-in-Started-clause-tokens g c =
-    let slot = in_slot g.row.M.Denot c.take_book.new.seat.me c.take_book.ensures.taken.1.holds c.begin-begun.new.self in
-    let given = c.return_token.ensures.given c.begin-begun.new.self slot in
-    token_given g.row.M.Denot c.args.seat.now.me c.take_book.new.seat.me c.return_token.new.seat.me c.book_mut-lent.result.now
-    c.begin-begun.new.self (lent_of g.row.M.Denot c.args.seat.now.me c.take_book.new.seat.me c.slot_mut-slot.result.now
-    c.book_mut-lent.result.now
-    c.slot_mut-slot.ensures.value c.book_mut-lent.ensures.value c.take_book.ensures.taken) given
+    let x = c.begin-begun.new.self in
+    let h = lent c.slot_mut-slot.ensures.value c.book_mut-lent.ensures.value c.take_book.ensures.taken in
+    let slot = in_slot c.take_book.ensures.taken.1.holds x in
+    let given = c.return_token.ensures.given x slot in
+    token_given x h given
 
 pub return_token-requires-clause-own : goal.return_token-requires-clause-own
 return_token-requires-clause-own g c = c.take_book.ensures.own ∙ c.requires.own
@@ -106,32 +99,26 @@ returns-in-Started-clause-own g c = c.return_token.ensures.own ∙ c.take_book.e
 
 pub returns-in-Started-clause-runs : goal.returns-in-Started-clause-runs
 returns-in-Started-clause-runs g c =
-    let slot = in_slot g.row.M.Denot c.take_book.new.seat.me c.take_book.ensures.taken.1.holds c.begin-begun.new.self in
-    let given = c.return_token.ensures.given c.begin-begun.new.self slot in
-    runs_after g.row.M.Denot c.args.seat.now.me c.take_book.new.seat.me c.book_mut-lent.result.now None
-    (lent_of g.row.M.Denot c.args.seat.now.me c.take_book.new.seat.me c.slot_mut-slot.result.now c.book_mut-lent.result.now
-    c.slot_mut-slot.ensures.value c.book_mut-lent.ensures.value c.take_book.ensures.taken) c.return_token.new.seat.me c.begin-begun.new.self
-    _ given (fields_of c.return_token.result) (c.return_token.ensures.runs c.begin-begun.new.self slot)
+    let x = c.begin-begun.new.self in
+    let h = lent c.slot_mut-slot.ensures.value c.book_mut-lent.ensures.value c.take_book.ensures.taken in
+    let slot = in_slot c.take_book.ensures.taken.1.holds x in
+    let given = c.return_token.ensures.given x slot in
+    runs_after h x given (fields_of c.return_token.result) (c.return_token.ensures.runs x slot)
 
 pub returns-in-Started-clause-token : goal.returns-in-Started-clause-token
 returns-in-Started-clause-token g c =
+    let h = lent c.slot_mut-slot.ensures.value c.book_mut-lent.ensures.value c.take_book.ensures.taken in
     subst (λ k. IsGivenToken g.M.Stands.ready_at g.M.Stands.tie k c.return_token.result)
-    (hall_is c.args.seat.now.me c.take_book.new.seat.me c.book_mut-lent.result.now None
-    (lent_of g.row.M.Denot c.args.seat.now.me c.take_book.new.seat.me c.slot_mut-slot.result.now c.book_mut-lent.result.now
-    c.slot_mut-slot.ensures.value c.book_mut-lent.ensures.value c.take_book.ensures.taken) c.args.seat.now.table_id
-    c.take_book.new.seat.table_id
-    c.take_book.ensures.own) c.return_token.ensures.token
+    (hall_is h c.args.seat.now.table_id c.take_book.new.seat.table_id c.take_book.ensures.own) c.return_token.ensures.token
 
 pub returns-in-Started-clause-sees : goal.returns-in-Started-clause-sees
 returns-in-Started-clause-sees g c =
-    let slot = in_slot g.row.M.Denot c.take_book.new.seat.me c.take_book.ensures.taken.1.holds c.begin-begun.new.self in
-    let given = c.return_token.ensures.given c.begin-begun.new.self slot in
-    let m = c.args.seat.now.me in
-    let n = c.take_book.new.seat.me in
-    let b = c.book_mut-lent.result.now in
-    let h = lent_of g.row.M.Denot c.args.seat.now.me c.take_book.new.seat.me c.slot_mut-slot.result.now c.book_mut-lent.result.now
-    c.slot_mut-slot.ensures.value c.book_mut-lent.ensures.value c.take_book.ensures.taken in
     let x = c.begin-begun.new.self in
+    let slot = in_slot c.take_book.ensures.taken.1.holds x in
+    let given = c.return_token.ensures.given x slot in
+    let m = c.args.seat.now.me in
+    let b = c.book_mut-lent.result.now in
+    let h = lent c.slot_mut-slot.ensures.value c.book_mut-lent.ensures.value c.take_book.ensures.taken in
     let z = c.return_token.new.seat.me in
     let e = c.in-Started.ensures in
     let s = c.return_token.ensures.same in
@@ -140,24 +127,22 @@ returns-in-Started-clause-sees g c =
     in
     subst (λ (y : FrameToken g.row.M.Denot). Sees m.0.it.seen z.0.it.seen (Begin y.iteration ∷ [])
     (λ q. BeginReturns limit q (begun.Started y))) (sym s.1)
-    (sees g.row.M.Denot m n b None h z x _ given (Begin u.iteration ∷ [])
+    (sees h x given (Begin u.iteration ∷ [])
     (λ q. BeginReturns {M = g.row.M.Denot} limit q (begun.Started u))
     (ap (λ (y : BookState). events_of y.log) e.book ∙ events_stamped b.log 0 (Begin u.iteration ∷ []))
     (subst (λ (k : HallName). BeginReturns {M = g.row.M.Denot} k.limit (state_of b) (begun.Started u))
-    (sym (name_is c.args.seat.now.table_id m n b None h)) e.returned))
+    (sym (name_is c.args.seat.now.table_id h)) e.returned))
 
 pub slot_mut-slot-requires : goal.slot_mut-slot-requires
 slot_mut-slot-requires g c = (
   c.take_book.ensures.own ∙ c.requires.own,
-  slot_there g.row.M.Denot c.take_book.new.seat.me
-      c.take_book.ensures.taken.1.holds,
+  slot_there c.take_book.ensures.taken.1.holds,
 )
 
 pub book_mut-lent-requires : goal.book_mut-lent-requires
 book_mut-lent-requires g c = record {
   there = (
     c.take_book.ensures.taken.0,
-    book_is g.row.M.Denot c.take_book.new.seat.me c.take_book.ensures.taken.1.holds c.slot_mut-slot.result.now
-        c.slot_mut-slot.ensures.value,
+    book_is c.take_book.ensures.taken.1.holds c.slot_mut-slot.result.now c.slot_mut-slot.ensures.value,
   );
 }

@@ -12,82 +12,72 @@ use Rattle.hall_table.specs.BookCalls.{IsBookCall}
 use Rattle.hall_table.specs.SeatViews.{constants_of}
 use Rattle.hall_calls.proofs.BookCalls.{enter_call, events_stamped, unchanged_call}
 use Rattle.hall_calls.proofs.TakenBooks.{in_slot, slot_there, book_is, holds_call, hall_is}
-use Rattle.hall_calls.proofs.TakenBooks.{knows_after, lent_of, runs_after, same_events, sees, stays_idle}
+use Rattle.hall_calls.proofs.TakenBooks.{knows_after, lent, runs_after, same_events, sees, stays_idle}
 use Rattle.hall_calls.proofs.TokenMoves.{none_moves, token_given}
 use Rattle.hall_calls.proofs.worker.check_right_at.Goals as goal
 
 pub return_token-requires-clause-call : goal.return_token-requires-clause-call
 return_token-requires-clause-call g c =
+    let x = c.check_right-entered.new.self in
     let b = c.book_mut-lent.result.now in
-    let h = lent_of g.row.M.Denot c.args.seat.now.me c.take_book.new.seat.me c.slot_mut-slot.result.now c.book_mut-lent.result.now
-    c.slot_mut-slot.ensures.value c.book_mut-lent.ensures.value c.take_book.ensures.taken in
+    let h = lent c.slot_mut-slot.ensures.value c.book_mut-lent.ensures.value c.take_book.ensures.taken in
     let e = c.in-Some.ensures in
     let f = fields_of c.in-Some.token in (
       b,
-      c.check_right-entered.new.self,
+      x,
       None,
-      holds_call g.row.M.Denot c.take_book.new.seat.me h.holds c.check_right-entered.new.self,
-      enter_call b c.check_right-entered.new.self f (ap constants_of e.book) (ap (λ (y : BookState). y.tokens) e.book)
+      holds_call h.holds x,
+      enter_call b x f (ap constants_of e.book) (ap (λ (y : BookState). y.tokens) e.book)
           (ap (λ (y : BookState). y.traces) e.book) e.token.out e.token.parts
           (kept_now (item_or Spent b.tokens f.iteration)) (ap (λ (y : BookState). y.log) e.book) c.entries.ensures.control
           (subst HasRisingTickets c.entries.ensures.log c.entries.ensures.rise) e.now,
-      knows_after c.args.seat.now.me c.take_book.new.seat.me c.book_mut-lent.result.now None
-          (lent_of g.row.M.Denot c.args.seat.now.me c.take_book.new.seat.me c.slot_mut-slot.result.now c.book_mut-lent.result.now
-          c.slot_mut-slot.ensures.value c.book_mut-lent.ensures.value c.take_book.ensures.taken) c.check_right-entered.new.self (ap
-          constants_of c.in-Some.ensures.book),
+      knows_after h x (ap constants_of c.in-Some.ensures.book),
       e.token,
     )
 
 pub return_book-requires-clause-call : goal.return_book-requires-clause-call
 return_book-requires-clause-call g c =
+    let x = c.check_right-entered.new.self in
+    let h = lent c.slot_mut-slot.ensures.value c.book_mut-lent.ensures.value c.take_book.ensures.taken in
     let b = c.book_mut-lent.result.now in (
       b,
-      c.check_right-entered.new.self,
+      x,
       None,
-      holds_call g.row.M.Denot c.take_book.new.seat.me (lent_of g.row.M.Denot c.args.seat.now.me c.take_book.new.seat.me
-          c.slot_mut-slot.result.now c.book_mut-lent.result.now
-          c.slot_mut-slot.ensures.value c.book_mut-lent.ensures.value c.take_book.ensures.taken).holds c.check_right-entered.new.self,
-      subst (λ x. IsBookCall b None x None)
-          (sym c.in-None.ensures.book) (unchanged_call b),
+      holds_call h.holds x,
+      subst (λ x. IsBookCall b None x None) (sym c.in-None.ensures.book) (unchanged_call b),
     )
 
 pub returns-in-Some-clause-idle : goal.returns-in-Some-clause-idle
 returns-in-Some-clause-idle g c =
-    let slot = in_slot g.row.M.Denot c.take_book.new.seat.me c.take_book.ensures.taken.1.holds c.check_right-entered.new.self in
-    let given = c.return_token.ensures.given c.check_right-entered.new.self slot in
-    stays_idle g.row.M.Denot c.args.seat.now.me c.take_book.new.seat.me c.book_mut-lent.result.now None
-    (lent_of g.row.M.Denot c.args.seat.now.me c.take_book.new.seat.me c.slot_mut-slot.result.now c.book_mut-lent.result.now
-    c.slot_mut-slot.ensures.value c.book_mut-lent.ensures.value c.take_book.ensures.taken) c.return_token.new.seat.me
-    c.check_right-entered.new.self
-    _ given (ap constants_of c.in-Some.ensures.book) c.entries.ensures.control
+    let x = c.check_right-entered.new.self in
+    let h = lent c.slot_mut-slot.ensures.value c.book_mut-lent.ensures.value c.take_book.ensures.taken in
+    let slot = in_slot c.take_book.ensures.taken.1.holds x in
+    let given = c.return_token.ensures.given x slot in
+    stays_idle h x given (ap constants_of c.in-Some.ensures.book) c.entries.ensures.control
 
 pub returns-in-None-clause-idle : goal.returns-in-None-clause-idle
 returns-in-None-clause-idle g c =
-    let slot = in_slot g.row.M.Denot c.take_book.new.seat.me c.take_book.ensures.taken.1.holds c.check_right-entered.new.self in
-    let given = c.return_book.ensures.given c.check_right-entered.new.self slot in
-    stays_idle g.row.M.Denot c.args.seat.now.me c.take_book.new.seat.me c.book_mut-lent.result.now None
-    (lent_of g.row.M.Denot c.args.seat.now.me c.take_book.new.seat.me c.slot_mut-slot.result.now c.book_mut-lent.result.now
-    c.slot_mut-slot.ensures.value c.book_mut-lent.ensures.value c.take_book.ensures.taken) c.return_book.new.seat.me
-    c.check_right-entered.new.self
-    _ given (ap constants_of c.in-None.ensures.book) c.entries.ensures.control
+    let x = c.check_right-entered.new.self in
+    let h = lent c.slot_mut-slot.ensures.value c.book_mut-lent.ensures.value c.take_book.ensures.taken in
+    let slot = in_slot c.take_book.ensures.taken.1.holds x in
+    let given = c.return_book.ensures.given x slot in
+    stays_idle h x given (ap constants_of c.in-None.ensures.book) c.entries.ensures.control
 
 pub returns-in-Some-clause-tokens : goal.returns-in-Some-clause-tokens
 returns-in-Some-clause-tokens g c =
-    let slot = in_slot g.row.M.Denot c.take_book.new.seat.me c.take_book.ensures.taken.1.holds c.check_right-entered.new.self in
-    let given = c.return_token.ensures.given c.check_right-entered.new.self slot in
-    token_given g.row.M.Denot c.args.seat.now.me c.take_book.new.seat.me c.return_token.new.seat.me c.book_mut-lent.result.now
-    c.check_right-entered.new.self (lent_of g.row.M.Denot c.args.seat.now.me c.take_book.new.seat.me c.slot_mut-slot.result.now
-    c.book_mut-lent.result.now
-    c.slot_mut-slot.ensures.value c.book_mut-lent.ensures.value c.take_book.ensures.taken) given
+    let x = c.check_right-entered.new.self in
+    let h = lent c.slot_mut-slot.ensures.value c.book_mut-lent.ensures.value c.take_book.ensures.taken in
+    let slot = in_slot c.take_book.ensures.taken.1.holds x in
+    let given = c.return_token.ensures.given x slot in
+    token_given x h given
 
 pub returns-in-None-clause-tokens : goal.returns-in-None-clause-tokens
 returns-in-None-clause-tokens g c =
-    let slot = in_slot g.row.M.Denot c.take_book.new.seat.me c.take_book.ensures.taken.1.holds c.check_right-entered.new.self in
-    let given = c.return_book.ensures.given c.check_right-entered.new.self slot in
-    none_moves g.row.M.Denot c.args.seat.now.me c.take_book.new.seat.me c.return_book.new.seat.me c.book_mut-lent.result.now
-    c.check_right-entered.new.self (lent_of g.row.M.Denot c.args.seat.now.me c.take_book.new.seat.me c.slot_mut-slot.result.now
-    c.book_mut-lent.result.now
-    c.slot_mut-slot.ensures.value c.book_mut-lent.ensures.value c.take_book.ensures.taken) given
+    let x = c.check_right-entered.new.self in
+    let h = lent c.slot_mut-slot.ensures.value c.book_mut-lent.ensures.value c.take_book.ensures.taken in
+    let slot = in_slot c.take_book.ensures.taken.1.holds x in
+    let given = c.return_book.ensures.given x slot in
+    none_moves x h given
 
 pub return_token-requires-clause-own : goal.return_token-requires-clause-own
 return_token-requires-clause-own g c = c.take_book.ensures.own ∙ c.requires.own
@@ -97,40 +87,33 @@ returns-in-Some-clause-own g c = c.return_token.ensures.own ∙ c.take_book.ensu
 
 pub returns-in-Some-clause-runs : goal.returns-in-Some-clause-runs
 returns-in-Some-clause-runs g c =
-    let slot = in_slot g.row.M.Denot c.take_book.new.seat.me c.take_book.ensures.taken.1.holds c.check_right-entered.new.self in
-    let given = c.return_token.ensures.given c.check_right-entered.new.self slot in
-    runs_after g.row.M.Denot c.args.seat.now.me c.take_book.new.seat.me c.book_mut-lent.result.now None
-    (lent_of g.row.M.Denot c.args.seat.now.me c.take_book.new.seat.me c.slot_mut-slot.result.now c.book_mut-lent.result.now
-    c.slot_mut-slot.ensures.value c.book_mut-lent.ensures.value c.take_book.ensures.taken) c.return_token.new.seat.me
-    c.check_right-entered.new.self
-    _ given (fields_of c.return_token.result) (c.return_token.ensures.runs c.check_right-entered.new.self slot)
+    let x = c.check_right-entered.new.self in
+    let h = lent c.slot_mut-slot.ensures.value c.book_mut-lent.ensures.value c.take_book.ensures.taken in
+    let slot = in_slot c.take_book.ensures.taken.1.holds x in
+    let given = c.return_token.ensures.given x slot in
+    runs_after h x given (fields_of c.return_token.result) (c.return_token.ensures.runs x slot)
 
 pub returns-in-Some-clause-token : goal.returns-in-Some-clause-token
 returns-in-Some-clause-token g c =
+    let h = lent c.slot_mut-slot.ensures.value c.book_mut-lent.ensures.value c.take_book.ensures.taken in
     subst (λ k. IsGivenToken g.M.Stands.ready_at g.M.Stands.tie k c.return_token.result)
-    (hall_is c.args.seat.now.me c.take_book.new.seat.me c.book_mut-lent.result.now None
-    (lent_of g.row.M.Denot c.args.seat.now.me c.take_book.new.seat.me c.slot_mut-slot.result.now c.book_mut-lent.result.now
-    c.slot_mut-slot.ensures.value c.book_mut-lent.ensures.value c.take_book.ensures.taken) c.args.seat.now.table_id
-    c.take_book.new.seat.table_id
-    c.take_book.ensures.own) c.return_token.ensures.token
+    (hall_is h c.args.seat.now.table_id c.take_book.new.seat.table_id c.take_book.ensures.own) c.return_token.ensures.token
 
 pub returns-in-Some-clause-sees : goal.returns-in-Some-clause-sees
 returns-in-Some-clause-sees g c =
-    let slot = in_slot g.row.M.Denot c.take_book.new.seat.me c.take_book.ensures.taken.1.holds c.check_right-entered.new.self in
-    let given = c.return_token.ensures.given c.check_right-entered.new.self slot in
-    let m = c.args.seat.now.me in
-    let n = c.take_book.new.seat.me in
-    let b = c.book_mut-lent.result.now in
-    let h = lent_of g.row.M.Denot c.args.seat.now.me c.take_book.new.seat.me c.slot_mut-slot.result.now c.book_mut-lent.result.now
-    c.slot_mut-slot.ensures.value c.book_mut-lent.ensures.value c.take_book.ensures.taken in
     let x = c.check_right-entered.new.self in
+    let slot = in_slot c.take_book.ensures.taken.1.holds x in
+    let given = c.return_token.ensures.given x slot in
+    let m = c.args.seat.now.me in
+    let b = c.book_mut-lent.result.now in
+    let h = lent c.slot_mut-slot.ensures.value c.book_mut-lent.ensures.value c.take_book.ensures.taken in
     let z = c.return_token.new.seat.me in
     let e = c.in-Some.ensures in
     let s = c.return_token.ensures.same in
     let u : FrameToken g.row.M.Denot = record c.in-Some.token { payload = g.M.Carrier.with_seat c.in-Some.token.payload (Some s.0) } in
     subst (λ (y : FrameToken g.row.M.Denot). Sees m.0.it.seen z.0.it.seen (Enter y.iteration ∷ [])
     (λ q. EnterReturns q (c.args.iteration + 1) (Some y))) (sym s.1)
-    (sees g.row.M.Denot m n b None h z x _ given (Enter u.iteration ∷ [])
+    (sees h x given (Enter u.iteration ∷ [])
     (λ q. EnterReturns {M = g.row.M.Denot} q (c.args.iteration + 1) (Some u))
     (ap (λ (y : BookState). events_of y.log) e.book
     ∙ events_stamped b.log (kept_now (item_or Spent b.tokens u.iteration)) (Enter u.iteration ∷ [])) e.returned)
@@ -140,28 +123,24 @@ returns-in-None-clause-own g c = c.return_book.ensures.own.0 ∙ c.take_book.ens
 
 pub returns-in-None-clause-sees : goal.returns-in-None-clause-sees
 returns-in-None-clause-sees g c =
-    let slot = in_slot g.row.M.Denot c.take_book.new.seat.me c.take_book.ensures.taken.1.holds c.check_right-entered.new.self in
-    let given = c.return_book.ensures.given c.check_right-entered.new.self slot in
+    let x = c.check_right-entered.new.self in
+    let h = lent c.slot_mut-slot.ensures.value c.book_mut-lent.ensures.value c.take_book.ensures.taken in
+    let slot = in_slot c.take_book.ensures.taken.1.holds x in
+    let given = c.return_book.ensures.given x slot in
     let b = c.book_mut-lent.result.now in
-    sees g.row.M.Denot c.args.seat.now.me c.take_book.new.seat.me b None
-    (lent_of g.row.M.Denot c.args.seat.now.me c.take_book.new.seat.me c.slot_mut-slot.result.now c.book_mut-lent.result.now
-    c.slot_mut-slot.ensures.value c.book_mut-lent.ensures.value c.take_book.ensures.taken) c.return_book.new.seat.me
-    c.check_right-entered.new.self
-    _ given [] (λ q. EnterReturns {M = g.row.M.Denot} q (c.args.iteration + 1) None)
-    (same_events b c.check_right-entered.new.self c.in-None.ensures.book) c.in-None.ensures.returned
+    sees h x given [] (λ q. EnterReturns {M = g.row.M.Denot} q (c.args.iteration + 1) None)
+    (same_events b x c.in-None.ensures.book) c.in-None.ensures.returned
 
 pub slot_mut-slot-requires : goal.slot_mut-slot-requires
 slot_mut-slot-requires g c = (
   c.take_book.ensures.own ∙ c.requires.own,
-  slot_there g.row.M.Denot c.take_book.new.seat.me
-      c.take_book.ensures.taken.1.holds,
+  slot_there c.take_book.ensures.taken.1.holds,
 )
 
 pub book_mut-lent-requires : goal.book_mut-lent-requires
 book_mut-lent-requires g c = record {
   there = (
     c.take_book.ensures.taken.0,
-    book_is g.row.M.Denot c.take_book.new.seat.me c.take_book.ensures.taken.1.holds c.slot_mut-slot.result.now
-        c.slot_mut-slot.ensures.value,
+    book_is c.take_book.ensures.taken.1.holds c.slot_mut-slot.result.now c.slot_mut-slot.ensures.value,
   );
 }

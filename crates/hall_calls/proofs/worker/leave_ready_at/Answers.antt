@@ -15,14 +15,13 @@ use Rattle.hall_calls.proofs.worker.leave_ready_at.Goals as goal
 
 pub leave_ready-requires-clause-payload : goal.leave_ready-requires-clause-payload
 leave_ready-requires-clause-payload g c =
-    let t = lent_with g.row.M.Denot c.args.seat.now.me c.take_back.new.seat.me c.slot_mut-slot.result.now c.book_mut-lent.result.now _ _
-    c.slot_mut-slot.ensures.value c.book_mut-lent.ensures.value c.take_back.ensures.taken in
+    let t = lent_with c.slot_mut-slot.ensures.value c.book_mut-lent.ensures.value c.take_back.ensures.taken in
     let b = c.book_mut-lent.result.now in
     let p = c.args.token.payload in
     let payload = ap (λ (x : FrameToken g.row.M.Denot). x.payload) c.take_back.ensures.token in
     let i = c.args.token.iteration in
     let n = name_of c.args.seat.now.table_id c.args.seat.now.me.0.it.constants in
-    let name = name_is c.args.seat.now.table_id c.args.seat.now.me c.take_back.new.seat.me b (Some t.0) t.1 in
+    let name = name_is c.args.seat.now.table_id t.1 in
     let lists = ap (λ x. (g.M.Stands.tie x).lists) payload
     ∙ lists_with g.row.M.Denot g.M.Stands.ready_at g.M.Stands.tie g.M.Carrier.lists g.M.Carrier.seat g.M.Carrier.with_seat
     g.met.M.Carrier.tied g.met.M.Carrier.seat_is g.met.M.Carrier.seat_ready p None in
@@ -46,16 +45,15 @@ leave_ready-requires-clause-knows g c =
 
 pub return_book-requires-clause-call : goal.return_book-requires-clause-call
 return_book-requires-clause-call g c =
-    let t = lent_with g.row.M.Denot c.args.seat.now.me c.take_back.new.seat.me c.slot_mut-slot.result.now c.book_mut-lent.result.now _ _
-    c.slot_mut-slot.ensures.value c.book_mut-lent.ensures.value c.take_back.ensures.taken in
+    let t = lent_with c.slot_mut-slot.ensures.value c.book_mut-lent.ensures.value c.take_back.ensures.taken in
     let b = c.book_mut-lent.result.now in
     let x = c.leave_ready.new.self in
     let e = c.leave_ready.ensures in
     let fields = ap (λ (k : FrameToken g.row.M.Denot). fields_of k) c.take_back.ensures.token in (
       b,
-      c.leave_ready.new.self,
+      x,
       Some t.0,
-      holds_call g.row.M.Denot c.take_back.new.seat.me t.1.holds c.leave_ready.new.self,
+      holds_call t.1.holds x,
       left_call b x t.0 (ap constants_of e)
           (ap (λ (y : BookState). y.tokens) e ∙ ap (λ (f : TokenFields). set b.tokens f.iteration (Kept f)) (fields ∙ sym t.2.fields))
           (ap (λ (y : BookState). y.traces) e) (ap (λ (y : BookState). y.log) e)
@@ -64,46 +62,41 @@ return_book-requires-clause-call g c =
 
 pub returns-clause-idle : goal.returns-clause-idle
 returns-clause-idle g c =
-    let slot = in_slot g.row.M.Denot c.take_back.new.seat.me c.take_back.ensures.taken.2.holds c.leave_ready.new.self in
-    let given = c.return_book.ensures.given c.leave_ready.new.self slot in
-    let t = lent_with g.row.M.Denot c.args.seat.now.me c.take_back.new.seat.me c.slot_mut-slot.result.now c.book_mut-lent.result.now _ _
-    c.slot_mut-slot.ensures.value c.book_mut-lent.ensures.value c.take_back.ensures.taken in
-    stays_idle g.row.M.Denot c.args.seat.now.me c.take_back.new.seat.me c.book_mut-lent.result.now
-    (Some t.0) t.1 c.return_book.new.seat.me c.leave_ready.new.self _ given
+    let x = c.leave_ready.new.self in
+    let slot = in_slot c.take_back.ensures.taken.2.holds x in
+    let given = c.return_book.ensures.given x slot in
+    let t = lent_with c.slot_mut-slot.ensures.value c.book_mut-lent.ensures.value c.take_back.ensures.taken in
+    stays_idle t.1 x given
     (ap constants_of c.leave_ready.ensures) c.entries.ensures.control
 
 pub returns-clause-sees : goal.returns-clause-sees
 returns-clause-sees g c =
-    let slot = in_slot g.row.M.Denot c.take_back.new.seat.me c.take_back.ensures.taken.2.holds c.leave_ready.new.self in
-    let given = c.return_book.ensures.given c.leave_ready.new.self slot in
-    let t = lent_with g.row.M.Denot c.args.seat.now.me c.take_back.new.seat.me c.slot_mut-slot.result.now c.book_mut-lent.result.now _ _
-    c.slot_mut-slot.ensures.value c.book_mut-lent.ensures.value c.take_back.ensures.taken in
+    let x = c.leave_ready.new.self in
+    let slot = in_slot c.take_back.ensures.taken.2.holds x in
+    let given = c.return_book.ensures.given x slot in
+    let t = lent_with c.slot_mut-slot.ensures.value c.book_mut-lent.ensures.value c.take_back.ensures.taken in
     let b = c.book_mut-lent.result.now in
-    sees g.row.M.Denot c.args.seat.now.me c.take_back.new.seat.me b (Some t.0) t.1 c.return_book.new.seat.me c.leave_ready.new.self _
-    given [] (λ s. Unit {0})
+    sees t.1 x given [] (λ s. Unit {0})
     (ap (λ (x : BookState). events_of x.log) c.leave_ready.ensures ∙ sym (append-nil (events_of b.log))) tt
 
 pub returns-clause-tokens : goal.returns-clause-tokens
 returns-clause-tokens g c =
-    let slot = in_slot g.row.M.Denot c.take_back.new.seat.me c.take_back.ensures.taken.2.holds c.leave_ready.new.self in
-    let given = c.return_book.ensures.given c.leave_ready.new.self slot in
-    let t = lent_with g.row.M.Denot c.args.seat.now.me c.take_back.new.seat.me c.slot_mut-slot.result.now c.book_mut-lent.result.now _ _
-    c.slot_mut-slot.ensures.value c.book_mut-lent.ensures.value c.take_back.ensures.taken in
-    token_returned g.row.M.Denot c.args.seat.now.me c.take_back.new.seat.me c.return_book.new.seat.me c.book_mut-lent.result.now
-    c.leave_ready.new.self t.0 t.1 given
+    let x = c.leave_ready.new.self in
+    let slot = in_slot c.take_back.ensures.taken.2.holds x in
+    let given = c.return_book.ensures.given x slot in
+    let t = lent_with c.slot_mut-slot.ensures.value c.book_mut-lent.ensures.value c.take_back.ensures.taken in
+    token_returned x t.1 given
 
 pub slot_mut-slot-requires : goal.slot_mut-slot-requires
 slot_mut-slot-requires g c = (
   c.take_back.ensures.own ∙ c.requires.own,
-  slot_there g.row.M.Denot c.take_back.new.seat.me
-      c.take_back.ensures.taken.2.holds,
+  slot_there c.take_back.ensures.taken.2.holds,
 )
 
 pub book_mut-lent-requires : goal.book_mut-lent-requires
 book_mut-lent-requires g c = record {
   there = (
     c.take_back.ensures.taken.0,
-    book_is g.row.M.Denot c.take_back.new.seat.me c.take_back.ensures.taken.2.holds c.slot_mut-slot.result.now
-        c.slot_mut-slot.ensures.value,
+    book_is c.take_back.ensures.taken.2.holds c.slot_mut-slot.result.now c.slot_mut-slot.ensures.value,
   );
 }

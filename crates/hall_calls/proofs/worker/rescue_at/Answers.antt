@@ -14,7 +14,7 @@ use Rattle.hall_table.specs.WorkerSeats.{name_of}
 use Rattle.hall_calls.proofs.EndingCalls.{rescued_call, resumed_events}
 use Rattle.hall_calls.proofs.Rescuing.{rescue_sees_of}
 use Rattle.hall_calls.proofs.TakenBooks.{in_slot, slot_there, book_is, holds_call, hall_is}
-use Rattle.hall_calls.proofs.TakenBooks.{knows_after, lent_of, name_is, none_found, nothing_found, runs_after}
+use Rattle.hall_calls.proofs.TakenBooks.{knows_after, lent, name_is, none_found, nothing_found, runs_after}
 use Rattle.hall_calls.proofs.TakenBooks.{seen_after, stays_idle}
 use Rattle.pipe_frame.specs.TokenCounts.{Exchanges}
 use Rattle.hall_calls.proofs.TokenMoves.{none_moves, none_rescued, token_given}
@@ -22,61 +22,54 @@ use Rattle.hall_calls.proofs.worker.rescue_at.Goals as goal
 
 pub return_token-requires-clause-call : goal.return_token-requires-clause-call
 return_token-requires-clause-call g c =
+    let x = c.rescue-found.new.self in
     let b = c.book_mut-lent.result.now in
-    let h = lent_of g.row.M.Denot c.args.seat.now.me c.take_book.new.seat.me c.slot_mut-slot.result.now c.book_mut-lent.result.now
-    c.slot_mut-slot.ensures.value c.book_mut-lent.ensures.value c.take_book.ensures.taken in
+    let h = lent c.slot_mut-slot.ensures.value c.book_mut-lent.ensures.value c.take_book.ensures.taken in
     let e = c.in-Token.ensures in (
       b,
-      c.rescue-found.new.self,
+      x,
       None,
-      holds_call g.row.M.Denot c.take_book.new.seat.me h.holds c.rescue-found.new.self,
-      rescued_call b c.rescue-found.new.self (fields_of c.in-Token.token) e.book c.entries.ensures.control
+      holds_call h.holds x,
+      rescued_call b x (fields_of c.in-Token.token) e.book c.entries.ensures.control
           (subst HasRisingTickets c.entries.ensures.log c.entries.ensures.rise)
           e.token.out e.token.parts e.now,
-      knows_after c.args.seat.now.me c.take_book.new.seat.me c.book_mut-lent.result.now None
-          (lent_of g.row.M.Denot c.args.seat.now.me c.take_book.new.seat.me c.slot_mut-slot.result.now c.book_mut-lent.result.now
-          c.slot_mut-slot.ensures.value c.book_mut-lent.ensures.value c.take_book.ensures.taken) c.rescue-found.new.self (ap
-          constants_of c.in-Token.ensures.book),
+      knows_after h x (ap constants_of c.in-Token.ensures.book),
       e.token,
     )
 
 pub return_book-requires : goal.return_book-requires
 return_book-requires g c =
+    let x = c.rescue-found.new.self in
+    let h = lent c.slot_mut-slot.ensures.value c.book_mut-lent.ensures.value c.take_book.ensures.taken in
     let b = c.book_mut-lent.result.now in
-    let q = nothing_found b c.rescue-found.new.self c.rescue-found.result c.in_default.not-Token c.rescue-found.ensures.book in
+    let q = nothing_found b x c.rescue-found.result c.in_default.not-Token c.rescue-found.ensures.book in
     record {
       own = c.take_book.ensures.own ∙ c.requires.own;
       call = (
         b,
-        c.rescue-found.new.self,
+        x,
         None,
-        holds_call g.row.M.Denot c.take_book.new.seat.me (lent_of g.row.M.Denot c.args.seat.now.me c.take_book.new.seat.me
-            c.slot_mut-slot.result.now c.book_mut-lent.result.now
-            c.slot_mut-slot.ensures.value c.book_mut-lent.ensures.value c.take_book.ensures.taken).holds c.rescue-found.new.self,
+        holds_call h.holds x,
         q.call,
       );
     }
 
 pub returns-in-Token-clause-idle : goal.returns-in-Token-clause-idle
 returns-in-Token-clause-idle g c =
-    let slot = in_slot g.row.M.Denot c.take_book.new.seat.me c.take_book.ensures.taken.1.holds c.rescue-found.new.self in
-    let given = c.return_token.ensures.given c.rescue-found.new.self slot in
-    stays_idle g.row.M.Denot c.args.seat.now.me c.take_book.new.seat.me c.book_mut-lent.result.now None
-    (lent_of g.row.M.Denot c.args.seat.now.me c.take_book.new.seat.me c.slot_mut-slot.result.now c.book_mut-lent.result.now
-    c.slot_mut-slot.ensures.value c.book_mut-lent.ensures.value c.take_book.ensures.taken) c.return_token.new.seat.me
-    c.rescue-found.new.self
-    _ given (ap constants_of c.in-Token.ensures.book) c.entries.ensures.control
+    let x = c.rescue-found.new.self in
+    let h = lent c.slot_mut-slot.ensures.value c.book_mut-lent.ensures.value c.take_book.ensures.taken in
+    let slot = in_slot c.take_book.ensures.taken.1.holds x in
+    let given = c.return_token.ensures.given x slot in
+    stays_idle h x given (ap constants_of c.in-Token.ensures.book) c.entries.ensures.control
 
 pub returns-in-Token-clause-sees : goal.returns-in-Token-clause-sees
 returns-in-Token-clause-sees g c =
-    let slot = in_slot g.row.M.Denot c.take_book.new.seat.me c.take_book.ensures.taken.1.holds c.rescue-found.new.self in
-    let given = c.return_token.ensures.given c.rescue-found.new.self slot in
-    let m = c.args.seat.now.me in
-    let n = c.take_book.new.seat.me in
-    let b = c.book_mut-lent.result.now in
-    let h = lent_of g.row.M.Denot c.args.seat.now.me c.take_book.new.seat.me c.slot_mut-slot.result.now c.book_mut-lent.result.now
-    c.slot_mut-slot.ensures.value c.book_mut-lent.ensures.value c.take_book.ensures.taken in
     let x = c.rescue-found.new.self in
+    let slot = in_slot c.take_book.ensures.taken.1.holds x in
+    let given = c.return_token.ensures.given x slot in
+    let m = c.args.seat.now.me in
+    let b = c.book_mut-lent.result.now in
+    let h = lent c.slot_mut-slot.ensures.value c.book_mut-lent.ensures.value c.take_book.ensures.taken in
     let z = c.return_token.new.seat.me in
     let e = c.in-Token.ensures in
     let s = c.return_token.ensures.same in
@@ -84,45 +77,42 @@ returns-in-Token-clause-sees g c =
     let u : FrameToken g.row.M.Denot = record c.in-Token.token { payload = g.M.Carrier.with_seat c.in-Token.token.payload (Some s.0) } in
     subst (λ (y : FrameToken g.row.M.Denot). RescueSees limit m.0.it.seen z.0.it.seen (rescue.Token y)) (sym s.1)
     (rescue_sees_of {M = g.row.M.Denot} limit m.0.it.seen z.0.it.seen b x (rescue.Token u) h.seen
-    (seen_after g.row.M.Denot m n b None h z x _ given)
+    (seen_after h x given)
     (ap (λ (y : BookState). events_of y.log) e.book ∙ resumed_events b u.iteration)
     (subst (λ (k : HallName). RescueReturns {M = g.row.M.Denot} k.limit (state_of b) (IsReady b) (rescue.Token u))
-    (sym (name_is c.args.seat.now.table_id m n b None h)) e.returned))
+    (sym (name_is c.args.seat.now.table_id h)) e.returned))
 
 pub returns-in_default : goal.returns-in_default
 returns-in_default g c =
-    let slot = in_slot g.row.M.Denot c.take_book.new.seat.me c.take_book.ensures.taken.1.holds c.rescue-found.new.self in
-    let given = c.return_book.ensures.given c.rescue-found.new.self slot in
-    let m = c.args.seat.now.me in
-    let n = c.take_book.new.seat.me in
-    let b = c.book_mut-lent.result.now in
-    let h = lent_of g.row.M.Denot c.args.seat.now.me c.take_book.new.seat.me c.slot_mut-slot.result.now c.book_mut-lent.result.now
-    c.slot_mut-slot.ensures.value c.book_mut-lent.ensures.value c.take_book.ensures.taken in
     let x = c.rescue-found.new.self in
+    let slot = in_slot c.take_book.ensures.taken.1.holds x in
+    let given = c.return_book.ensures.given x slot in
+    let m = c.args.seat.now.me in
+    let b = c.book_mut-lent.result.now in
+    let h = lent c.slot_mut-slot.ensures.value c.book_mut-lent.ensures.value c.take_book.ensures.taken in
     let r = c.rescue-found.result in
     let z = c.return_book.new.seat.me in
     let q = nothing_found b x r c.in_default.not-Token c.rescue-found.ensures.book in
     record {
       own = c.return_book.ensures.own.0 ∙ c.take_book.ensures.own;
-      idle = stays_idle g.row.M.Denot m n b None h z x _ given q.constants c.entries.ensures.control;
+      idle = stays_idle h x given q.constants c.entries.ensures.control;
       sees = rescue_sees_of {M = g.row.M.Denot} _ m.0.it.seen z.0.it.seen b x r h.seen
-          (seen_after g.row.M.Denot m n b None h z x _ given) q.adds
+          (seen_after h x given) q.adds
           (subst (λ (k : HallName). RescueReturns {M = g.row.M.Denot} k.limit (state_of b) (IsReady b) r)
-          (sym (name_is c.args.seat.now.table_id m n b None h)) c.rescue-found.ensures.returned);
+          (sym (name_is c.args.seat.now.table_id h)) c.rescue-found.ensures.returned);
       tokens = subst (λ k. Exchanges k 0 m.0.it.tokens z.0.it.tokens) (sym (none_rescued r c.in_default.not-Token))
-          (none_moves g.row.M.Denot m n z b x h given);
+          (none_moves x h given);
       runs = none_found r _ c.in_default.not-Token;
       token = none_found r _ c.in_default.not-Token;
     }
 
 pub returns-in-Token-clause-tokens : goal.returns-in-Token-clause-tokens
 returns-in-Token-clause-tokens g c =
-    let slot = in_slot g.row.M.Denot c.take_book.new.seat.me c.take_book.ensures.taken.1.holds c.rescue-found.new.self in
-    let given = c.return_token.ensures.given c.rescue-found.new.self slot in
-    token_given g.row.M.Denot c.args.seat.now.me c.take_book.new.seat.me c.return_token.new.seat.me c.book_mut-lent.result.now
-    c.rescue-found.new.self (lent_of g.row.M.Denot c.args.seat.now.me c.take_book.new.seat.me c.slot_mut-slot.result.now
-    c.book_mut-lent.result.now
-    c.slot_mut-slot.ensures.value c.book_mut-lent.ensures.value c.take_book.ensures.taken) given
+    let x = c.rescue-found.new.self in
+    let h = lent c.slot_mut-slot.ensures.value c.book_mut-lent.ensures.value c.take_book.ensures.taken in
+    let slot = in_slot c.take_book.ensures.taken.1.holds x in
+    let given = c.return_token.ensures.given x slot in
+    token_given x h given
 
 pub return_token-requires-clause-own : goal.return_token-requires-clause-own
 return_token-requires-clause-own g c = c.take_book.ensures.own ∙ c.requires.own
@@ -132,35 +122,28 @@ returns-in-Token-clause-own g c = c.return_token.ensures.own ∙ c.take_book.ens
 
 pub returns-in-Token-clause-runs : goal.returns-in-Token-clause-runs
 returns-in-Token-clause-runs g c =
-    let slot = in_slot g.row.M.Denot c.take_book.new.seat.me c.take_book.ensures.taken.1.holds c.rescue-found.new.self in
-    let given = c.return_token.ensures.given c.rescue-found.new.self slot in
-    runs_after g.row.M.Denot c.args.seat.now.me c.take_book.new.seat.me c.book_mut-lent.result.now None
-    (lent_of g.row.M.Denot c.args.seat.now.me c.take_book.new.seat.me c.slot_mut-slot.result.now c.book_mut-lent.result.now
-    c.slot_mut-slot.ensures.value c.book_mut-lent.ensures.value c.take_book.ensures.taken) c.return_token.new.seat.me
-    c.rescue-found.new.self
-    _ given (fields_of c.return_token.result) (c.return_token.ensures.runs c.rescue-found.new.self slot)
+    let x = c.rescue-found.new.self in
+    let h = lent c.slot_mut-slot.ensures.value c.book_mut-lent.ensures.value c.take_book.ensures.taken in
+    let slot = in_slot c.take_book.ensures.taken.1.holds x in
+    let given = c.return_token.ensures.given x slot in
+    runs_after h x given (fields_of c.return_token.result) (c.return_token.ensures.runs x slot)
 
 pub returns-in-Token-clause-token : goal.returns-in-Token-clause-token
 returns-in-Token-clause-token g c =
+    let h = lent c.slot_mut-slot.ensures.value c.book_mut-lent.ensures.value c.take_book.ensures.taken in
     subst (λ k. IsGivenToken g.M.Stands.ready_at g.M.Stands.tie k c.return_token.result)
-    (hall_is c.args.seat.now.me c.take_book.new.seat.me c.book_mut-lent.result.now None
-    (lent_of g.row.M.Denot c.args.seat.now.me c.take_book.new.seat.me c.slot_mut-slot.result.now c.book_mut-lent.result.now
-    c.slot_mut-slot.ensures.value c.book_mut-lent.ensures.value c.take_book.ensures.taken) c.args.seat.now.table_id
-    c.take_book.new.seat.table_id
-    c.take_book.ensures.own) c.return_token.ensures.token
+    (hall_is h c.args.seat.now.table_id c.take_book.new.seat.table_id c.take_book.ensures.own) c.return_token.ensures.token
 
 pub slot_mut-slot-requires : goal.slot_mut-slot-requires
 slot_mut-slot-requires g c = (
   c.take_book.ensures.own ∙ c.requires.own,
-  slot_there g.row.M.Denot c.take_book.new.seat.me
-      c.take_book.ensures.taken.1.holds,
+  slot_there c.take_book.ensures.taken.1.holds,
 )
 
 pub book_mut-lent-requires : goal.book_mut-lent-requires
 book_mut-lent-requires g c = record {
   there = (
     c.take_book.ensures.taken.0,
-    book_is g.row.M.Denot c.take_book.new.seat.me c.take_book.ensures.taken.1.holds c.slot_mut-slot.result.now
-        c.slot_mut-slot.ensures.value,
+    book_is c.take_book.ensures.taken.1.holds c.slot_mut-slot.result.now c.slot_mut-slot.ensures.value,
   );
 }

@@ -15,7 +15,7 @@ slot_mut-slot-requires g c =
     let t = c.take_book.ensures.taken in
     let h = holds_beside g.row.M.Denot c.args.seat.now.me c.split_seat-own.result.me c.take_book.new.seat.me t.0
     c.split_seat-own.ensures.4 t.1 in
-    (c.take_book.ensures.own.0 ∙ (c.split_seat-own.ensures.3 ∙ c.requires.own), slot_there g.row.M.Denot c.take_book.new.seat.me h)
+    (c.take_book.ensures.own.0 ∙ (c.split_seat-own.ensures.3 ∙ c.requires.own), slot_there h)
 
 pub book_mut-lent-requires : goal.book_mut-lent-requires
 book_mut-lent-requires g c =
@@ -25,7 +25,7 @@ book_mut-lent-requires g c =
     record {
       there = (
         t.0,
-        book_is g.row.M.Denot c.take_book.new.seat.me h c.slot_mut-slot.result.now c.slot_mut-slot.ensures.value,
+        book_is h c.slot_mut-slot.result.now c.slot_mut-slot.ensures.value,
       );
     }
 
@@ -38,7 +38,7 @@ return_book-requires-clause-call g c =
       t.0,
       x,
       None,
-      holds_call g.row.M.Denot c.take_book.new.seat.me h x,
-      unchanged t.0 x (c.settle_orders.ensures ∙ lent_is g.row.M.Denot c.take_book.new.seat.me h c.slot_mut-slot.result.now
+      holds_call h x,
+      unchanged t.0 x (c.settle_orders.ensures ∙ lent_is h c.slot_mut-slot.result.now
           c.book_mut-lent.result.now c.slot_mut-slot.ensures.value c.book_mut-lent.ensures.value),
     )
