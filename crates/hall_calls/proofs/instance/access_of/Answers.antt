@@ -93,7 +93,7 @@ returns-clause-tie g c =
     let f = c.access_for-done.ensures in
     let views : c.into_badge.result.views ≡ view_of (ran m0.0.it o) ∷ [] = c.into_badge.ensures.2
     ∙ ap (λ (k : ViewAndSlots g.row.M.Denot). k.0 ∷ []) f.ran in
-    let r : RunSeat = record { badge = c.into_badge.result; of_instance = c.put_seat-arg-2-1.given.0 } in
+    let r : RunSeat = record { badge = c.into_badge.result; of_instance = _ } in
     let p = c.args.token.now.payload in
     let x = c.access_for-done.new.token.payload in
     let payload : x ≡ g.M.Carrier.with_seat p None = ap (λ (t : FrameToken g.row.M.Denot). t.payload) f.token
@@ -116,7 +116,7 @@ pub returns-clause-whole : goal.returns-clause-whole
 returns-clause-whole g c = λ tree h.
     (let p = c.args.token.now.payload in
     let x = c.access_for-done.new.token.payload in
-    let r : RunSeat = record { badge = c.into_badge.result; of_instance = c.put_seat-arg-2-1.given.0 } in
+    let r : RunSeat = record { badge = c.into_badge.result; of_instance = _ } in
     let payload : x ≡ g.M.Carrier.with_seat p None = ap (λ (t : FrameToken g.row.M.Denot). t.payload) c.access_for-done.ensures.token
     ∙ c.take_seat_of-badge.ensures.payload in
     subst (λ y. g.M.Stands.whole tree y) (sym c.put_seat.ensures) (g.met.M.Carrier.seat_whole tree x (Some r)
@@ -126,7 +126,7 @@ pub returns-clause-ready : goal.returns-clause-ready
 returns-clause-ready g c = λ tree input i before h.
     (let p = c.args.token.now.payload in
     let x = c.access_for-done.new.token.payload in
-    let r : RunSeat = record { badge = c.into_badge.result; of_instance = c.put_seat-arg-2-1.given.0 } in
+    let r : RunSeat = record { badge = c.into_badge.result; of_instance = _ } in
     let payload : x ≡ g.M.Carrier.with_seat p None = ap (λ (t : FrameToken g.row.M.Denot). t.payload) c.access_for-done.ensures.token
     ∙ c.take_seat_of-badge.ensures.payload in
     subst (λ y. g.M.Stands.ready_at tree input y i before) (sym c.put_seat.ensures)
