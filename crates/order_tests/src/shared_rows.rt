@@ -1,6 +1,6 @@
 //! Passes that ask in other threads while the writer inserts.
 
-ghost use Rattle.std.specs.Prelude.{◌≡◌, ◌<◌, ◌≤◌, ◌+◌, [], IfOk, false, length};
+ghost use Rattle.std.specs.Prelude.{◌≡◌, ◌<◌, ◌≤◌, ◌+◌, [], IfOk, length};
 
 use om_shared::pass::OmPass;
 use om_shared::writer::OmWriter;
@@ -15,8 +15,6 @@ pub fn insert_among(writer: &mut OmWriter, among: u32, times: u32)
     ensures log { length writer.new.log ≡ length writer.old.log + times }
     ensures capacity { writer.new.capacity ≡ writer.old.capacity }
     ensures table { writer.new.table ≡ writer.old.table }
-    ensures late { writer.new.late ≡ writer.old.late }
-    ensures pending { writer.old.late ≡ false → writer.new.pending ≡ writer.old.pending }
 {
     for k in 0..times {
         writer.insert_after(k % among);
@@ -91,7 +89,6 @@ mod tests {
         requires { elements ≤ 62 }
         ensures log { IfOk result (λ r. (length r.0.log ≡ elements) × (r.1.log ≡ r.0.log)) }
         ensures list { IfOk result (λ r. (r.0.capacity ≡ LAST + 1) × (r.0.table ≡ r.1.table)) }
-        ensures plain { IfOk result (λ r. (r.0.late ≡ false) × (r.0.pending ≡ [])) }
     {
         let (mut writer, mut pass) = start(alloc, LAST + 1)?;
         insert_among(&mut writer, 1, elements);
@@ -99,10 +96,8 @@ mod tests {
         Ok((writer, pass))
     }
 
-    // Whether the elements of a list without pending insertions have these labels.
-    fn has_labels(writer: &OmWriter, labels: &[(u32, u64)]) -> bool
-        requires { writer.now.pending ≡ [] }
-    {
+    // Whether the elements have these labels.
+    fn has_labels(writer: &OmWriter, labels: &[(u32, u64)]) -> bool {
         for (x, label) in labels {
             if *x >= writer.len() || writer.label(*x) != *label {
                 return false;
@@ -113,8 +108,7 @@ mod tests {
 
     // Whether each of 62 elements has half of the label of the one before it.
     fn are_halved(writer: &OmWriter) -> bool
-        requires log { length writer.now.log ≡ 62 }
-        requires settled { writer.now.pending ≡ [] }
+        requires { length writer.now.log ≡ 62 }
     {
         for k in 0..62 {
             if writer.label(k + 1) != 1 << (61 - k) {
@@ -131,7 +125,6 @@ mod tests {
     fn moves_labels(writer: &mut OmWriter) -> bool
         requires log { length writer.old.log ≡ 62 }
         requires room { writer.old.capacity ≡ LAST + 1 }
-        requires plain { (writer.old.late ≡ false) × (writer.old.pending ≡ []) }
     {
         writer.insert_after(0);
         writer.len() == 64 && has_labels(writer, &NEW_LABELS)
@@ -268,7 +261,6 @@ mod tests {
         y: u32,
     ) -> bool
         requires element { y ≤ 400 }
-        requires settled { writer.now.pending ≡ [] }
         requires writer { length writer.now.log ≡ 400 }
         requires pass { length pass.old.log ≡ 400 }
         requires plain { length plain.now.log ≡ 400 }
@@ -295,8 +287,7 @@ mod tests {
     // A list with the same insertions, whose elements get their labels after them, and a pass that has
     // seen them.
     fn labelled_late(alloc: Global) -> Result<(OmWriter, OmPass), NoMemory>
-        ensures log { IfOk result (λ r. (length r.0.log ≡ 400) × (r.1.log ≡ r.0.log)) }
-        ensures settled { IfOk result (λ r. r.0.pending ≡ []) }
+        ensures { IfOk result (λ r. (length r.0.log ≡ 400) × (r.1.log ≡ r.0.log)) }
     {
         let (mut writer, mut pass) = start(alloc, 401)?;
         writer.defer();
@@ -314,7 +305,6 @@ mod tests {
         pass: &mut OmPass,
         plain: &OmList,
     ) -> Option<u32>
-        requires settled { writer.now.pending ≡ [] }
         requires writer { length writer.now.log ≡ 400 }
         requires pass { length pass.old.log ≡ 400 }
         requires plain { length plain.now.log ≡ 400 }
