@@ -29,23 +29,8 @@ raise_stop-requires g c =
           (shards_bounded _ _ b (shard_in c.learn_all.new.shards.items) ended k (let e = ap length is in omega (arith, l, e, n)));
     }
 
-pub returns-clause-constants : goal.returns-clause-constants
-returns-clause-constants g c =
-    let key = start_in c.hall.inside.locks.table.shared.key in
-    let b = c.take_all-book.result in
-    let end = c.raise_stop.new.book in
-    let xs = c.take_all-book.new.shards.items in
-    let ys = c.learn_all.new.shards.items in
-    let closed = c.free_table.ensures.closed b (shard_in xs) c.take_all-book.ensures.holds in
-    let l = c.learn_all.ensures in
-    let r = c.raise_stop.ensures in
-    let last_seen = c.take_all-book.new.seat.me.0.it.seen in
-    let w = close_is key last_seen b c.learn_all.new.book end xs ys c.as_slice.result.now closed l.learned l.len c.as_slice.ensures.value
-    l.book r.going r.stopped in
-    sym (ap (λ (h : HallState). h.hall.constants) c.hall.view_is) ∙ ap (λ k. Some k) w.constants
-
-pub returns-clause-ended : goal.returns-clause-ended
-returns-clause-ended g c =
+pub returns : goal.returns
+returns g c =
     let key = start_in c.hall.inside.locks.table.shared.key in
     let b = c.take_all-book.result in
     let end = c.raise_stop.new.book in
@@ -59,36 +44,12 @@ returns-clause-ended g c =
     l.book r.going r.stopped in
     let seen = c.take_all-book.ensures.seen ∙ ap (λ (k : WorkerSeat). k.seen) c.key.view_is in
     let before = ap (λ (h : HallState). h.before) c.hall.view_is in
-    subst (λ es. EndedHall (start_of end c.args.hall.before) es end (shard_in ys)) seen
-    (subst (λ l. EndedHall (start_of end l) last_seen end (shard_in ys)) before w.ended)
-
-pub returns-clause-stop : goal.returns-clause-stop
-returns-clause-stop g c =
-    let key = start_in c.hall.inside.locks.table.shared.key in
-    let b = c.take_all-book.result in
-    let end = c.raise_stop.new.book in
-    let xs = c.take_all-book.new.shards.items in
-    let ys = c.learn_all.new.shards.items in
-    let closed = c.free_table.ensures.closed b (shard_in xs) c.take_all-book.ensures.holds in
-    let l = c.learn_all.ensures in
-    let r = c.raise_stop.ensures in
-    let last_seen = c.take_all-book.new.seat.me.0.it.seen in
-    let w = close_is key last_seen b c.learn_all.new.book end xs ys c.as_slice.result.now closed l.learned l.len c.as_slice.ensures.value
-    l.book r.going r.stopped in
-    w.stop
-
-pub returns-clause-stopped : goal.returns-clause-stopped
-returns-clause-stopped g c =
-    let key = start_in c.hall.inside.locks.table.shared.key in
-    let b = c.take_all-book.result in
-    let end = c.raise_stop.new.book in
-    let xs = c.take_all-book.new.shards.items in
-    let ys = c.learn_all.new.shards.items in
-    let closed = c.free_table.ensures.closed b (shard_in xs) c.take_all-book.ensures.holds in
-    let l = c.learn_all.ensures in
-    let r = c.raise_stop.ensures in
-    let last_seen = c.take_all-book.new.seat.me.0.it.seen in
-    let w = close_is key last_seen b c.learn_all.new.book end xs ys c.as_slice.result.now closed l.learned l.len c.as_slice.ensures.value
-    l.book r.going r.stopped in
-    let seen = c.take_all-book.ensures.seen ∙ ap (λ (k : WorkerSeat). k.seen) c.key.view_is in
-    λ stopped. stopped_later last_seen (events_of end.log) w.ended.closed.seen (ap (λ es. (state_after es).stopped) seen ∙ stopped)
+    record {
+      len = l.len;
+      constants = sym (ap (λ (h : HallState). h.hall.constants) c.hall.view_is) ∙ ap (λ k. Some k) w.constants;
+      ended = subst (λ es. EndedHall (start_of end c.args.hall.before) es end (shard_in ys)) seen
+          (subst (λ l. EndedHall (start_of end l) last_seen end (shard_in ys)) before w.ended);
+      stop = w.stop;
+      stopped = λ stopped. stopped_later last_seen (events_of end.log) w.ended.closed.seen
+          (ap (λ es. (state_after es).stopped) seen ∙ stopped);
+    }

@@ -25,27 +25,31 @@ advance-next-requires-clause-stopped g c =
     λ e. stopped_later c.args.seat.now.me.0.it.seen (events_of c.book_mut-lent.result.now.log)
     (lent_with c.slot_mut-slot.ensures.value c.book_mut-lent.ensures.value c.take_back.ensures.taken).1.seen (c.requires.stopped e)
 
-pub return_token-requires-clause-call : goal.return_token-requires-clause-call
-return_token-requires-clause-call g c =
+pub return_token-requires : goal.return_token-requires
+return_token-requires g c =
     let x = c.advance-next.new.self in
     let t = lent_with c.slot_mut-slot.ensures.value c.book_mut-lent.ensures.value c.take_back.ensures.taken in
     let b = c.book_mut-lent.result.now in
     let f = fields_of c.take_back.new.token in
     let same : f ≡ fields_of c.args.token = ap (λ (k : FrameToken g.row.M.Denot). fields_of k) c.take_back.ensures.token in
-    let e = c.in-Go.ensures in (
-      b,
-      x,
-      Some t.0,
-      holds_call t.1.holds x,
-      goes_on b x t.0 f c.args.trace c.args.end Out _ (t.2.fields ∙ sym same) (t.2.entries ∙ sym c.requires.trace)
-          (fields_of c.in-Go.token)
-          (enters_not_stopped (state_of b) f.iteration c.args.end e.returned.1) refl e.book c.entries.ensures.control
-          (subst HasRisingTickets c.entries.ensures.log c.entries.ensures.rise)
-          e.returned.2 e.token.0.out e.token.0.parts e.now,
-      knows_after t.1 x
-          (ap constants_of c.in-Go.ensures.book),
-      e.token.0,
-    )
+    let e = c.in-Go.ensures in
+    record {
+      own = c.take_back.ensures.own ∙ c.requires.own;
+      call = (
+        b,
+        x,
+        Some t.0,
+        holds_call t.1.holds x,
+        goes_on b x t.0 f c.args.trace c.args.end Out _ (t.2.fields ∙ sym same) (t.2.entries ∙ sym c.requires.trace)
+            (fields_of c.in-Go.token)
+            (enters_not_stopped (state_of b) f.iteration c.args.end e.returned.1) refl e.book c.entries.ensures.control
+            (subst HasRisingTickets c.entries.ensures.log c.entries.ensures.rise)
+            e.returned.2 e.token.0.out e.token.0.parts e.now,
+        knows_after t.1 x
+            (ap constants_of c.in-Go.ensures.book),
+        e.token.0,
+      );
+    }
 
 pub return_book-requires : goal.return_book-requires
 return_book-requires g c =
@@ -68,17 +72,8 @@ return_book-requires g c =
       );
     }
 
-pub returns-in-Go-clause-idle : goal.returns-in-Go-clause-idle
-returns-in-Go-clause-idle g c =
-    let x = c.advance-next.new.self in
-    let slot = in_slot c.take_back.ensures.taken.2.holds x in
-    let given = c.return_token.ensures.given x slot in
-    let t = lent_with c.slot_mut-slot.ensures.value c.book_mut-lent.ensures.value c.take_back.ensures.taken in
-    stays_idle t.1 x given
-    (ap constants_of c.in-Go.ensures.book) c.entries.ensures.control
-
-pub returns-in-Go-clause-sees : goal.returns-in-Go-clause-sees
-returns-in-Go-clause-sees g c =
+pub returns-in-Go : goal.returns-in-Go
+returns-in-Go g c =
     let x = c.advance-next.new.self in
     let slot = in_slot c.take_back.ensures.taken.2.holds x in
     let given = c.return_token.ensures.given x slot in
@@ -92,14 +87,23 @@ returns-in-Go-clause-sees g c =
     let s = c.return_token.ensures.same in
     let u : FrameToken g.row.M.Denot = record c.in-Go.token { payload = g.M.Carrier.with_seat c.in-Go.token.payload (Some s.0) } in
     let es = stage_end_events f.iteration c.args.end ++ Enter f.iteration ∷ [] in
-    subst (λ (x : FrameToken g.row.M.Denot). Sees m.0.it.seen z.0.it.seen
-    (stage_end_events c.args.token.iteration c.args.end ++ Enter c.args.token.iteration ∷ [])
-    (λ q. AdvanceReturns q c.args.token.iteration c.args.token.index c.args.end (nexts.Go x))) (sym s.1)
-    (subst (λ (k : TokenFields). Sees m.0.it.seen z.0.it.seen (stage_end_events k.iteration c.args.end ++ Enter k.iteration ∷ [])
-    (λ q. AdvanceReturns q k.iteration k.index c.args.end (nexts.Go u))) same
-    (sees t.1 x given es
-    (λ q. AdvanceReturns q f.iteration f.index c.args.end (nexts.Go u))
-    (advanced {M = g.row.M.Denot} b x f c.args.trace c.args.end (nexts.Go c.in-Go.token) e.book).1 e.returned))
+    record {
+      own = c.return_token.ensures.own ∙ c.take_back.ensures.own;
+      idle = stays_idle t.1 x given (ap constants_of e.book) c.entries.ensures.control;
+      sees = subst (λ (x : FrameToken g.row.M.Denot). Sees m.0.it.seen z.0.it.seen
+          (stage_end_events c.args.token.iteration c.args.end ++ Enter c.args.token.iteration ∷ [])
+          (λ q. AdvanceReturns q c.args.token.iteration c.args.token.index c.args.end (nexts.Go x))) (sym s.1)
+          (subst (λ (k : TokenFields). Sees m.0.it.seen z.0.it.seen (stage_end_events k.iteration c.args.end ++ Enter k.iteration ∷ [])
+          (λ q. AdvanceReturns q k.iteration k.index c.args.end (nexts.Go u))) same
+          (sees t.1 x given es
+          (λ q. AdvanceReturns q f.iteration f.index c.args.end (nexts.Go u))
+          (advanced {M = g.row.M.Denot} b x f c.args.trace c.args.end (nexts.Go c.in-Go.token) e.book).1 e.returned));
+      tokens = token_given_and_returned x t.1 given;
+      runs = runs_after t.1 x given (fields_of c.return_token.result) (c.return_token.ensures.runs x slot);
+      token = subst (λ k. IsGivenToken g.M.Stands.ready_at g.M.Stands.tie k c.return_token.result)
+          (hall_is t.1 c.args.seat.now.table_id c.take_back.new.seat.table_id c.take_back.ensures.own) c.return_token.ensures.token;
+      barred = tt;
+    }
 
 pub returns-in_default : goal.returns-in_default
 returns-in_default g c =
@@ -130,41 +134,12 @@ returns-in_default g c =
           (sym (seen_after t.1 x given)) c.barred_right.ensures;
     }
 
-pub returns-in-Go-clause-tokens : goal.returns-in-Go-clause-tokens
-returns-in-Go-clause-tokens g c =
-    let x = c.advance-next.new.self in
-    let slot = in_slot c.take_back.ensures.taken.2.holds x in
-    let given = c.return_token.ensures.given x slot in
-    let t = lent_with c.slot_mut-slot.ensures.value c.book_mut-lent.ensures.value c.take_back.ensures.taken in
-    token_given_and_returned x t.1 given
-
 pub advance-next-requires-clause-out : goal.advance-next-requires-clause-out
 advance-next-requires-clause-out g c =
     let t = lent_with c.slot_mut-slot.ensures.value c.book_mut-lent.ensures.value c.take_back.ensures.taken in
     let same : fields_of c.take_back.new.token ≡ fields_of c.args.token =
     ap (λ (k : FrameToken g.row.M.Denot). fields_of k) c.take_back.ensures.token in
     subst (IsOutOf c.book_mut-lent.result.now) (sym same) t.2.out
-
-pub return_token-requires-clause-own : goal.return_token-requires-clause-own
-return_token-requires-clause-own g c = c.take_back.ensures.own ∙ c.requires.own
-
-pub returns-in-Go-clause-own : goal.returns-in-Go-clause-own
-returns-in-Go-clause-own g c = c.return_token.ensures.own ∙ c.take_back.ensures.own
-
-pub returns-in-Go-clause-runs : goal.returns-in-Go-clause-runs
-returns-in-Go-clause-runs g c =
-    let x = c.advance-next.new.self in
-    let slot = in_slot c.take_back.ensures.taken.2.holds x in
-    let given = c.return_token.ensures.given x slot in
-    let t = lent_with c.slot_mut-slot.ensures.value c.book_mut-lent.ensures.value c.take_back.ensures.taken in
-    runs_after t.1 x given
-    (fields_of c.return_token.result) (c.return_token.ensures.runs x slot)
-
-pub returns-in-Go-clause-token : goal.returns-in-Go-clause-token
-returns-in-Go-clause-token g c =
-    let t = lent_with c.slot_mut-slot.ensures.value c.book_mut-lent.ensures.value c.take_back.ensures.taken in
-    subst (λ k. IsGivenToken g.M.Stands.ready_at g.M.Stands.tie k c.return_token.result)
-    (hall_is t.1 c.args.seat.now.table_id c.take_back.new.seat.table_id c.take_back.ensures.own) c.return_token.ensures.token
 
 pub slot_mut-slot-requires : goal.slot_mut-slot-requires
 slot_mut-slot-requires g c = (

@@ -18,22 +18,26 @@ use Rattle.pipe_frame.specs.TokenCounts.{Exchanges}
 use Rattle.hall_calls.proofs.TokenMoves.{none_begun, none_moves, token_given}
 use Rattle.hall_calls.proofs.worker.begin_at.Goals as goal
 
-pub return_token-requires-clause-call : goal.return_token-requires-clause-call
-return_token-requires-clause-call g c =
+pub return_token-requires : goal.return_token-requires
+return_token-requires g c =
     let x = c.begin-begun.new.self in
     let b = c.book_mut-lent.result.now in
     let h = lent c.slot_mut-slot.ensures.value c.book_mut-lent.ensures.value c.take_book.ensures.taken in
-    let e = c.in-Started.ensures in (
-      b,
-      x,
-      None,
-      holds_call h.holds x,
-      begin_call b x (fields_of c.in-Started.token) e.book h.tokens h.traces c.entries.ensures.control
-          (subst HasRisingTickets c.entries.ensures.log c.entries.ensures.rise)
-          e.token.out e.token.parts e.now,
-      knows_after h x (ap constants_of c.in-Started.ensures.book),
-      e.token,
-    )
+    let e = c.in-Started.ensures in
+    record {
+      own = c.take_book.ensures.own ∙ c.requires.own;
+      call = (
+        b,
+        x,
+        None,
+        holds_call h.holds x,
+        begin_call b x (fields_of c.in-Started.token) e.book h.tokens h.traces c.entries.ensures.control
+            (subst HasRisingTickets c.entries.ensures.log c.entries.ensures.rise)
+            e.token.out e.token.parts e.now,
+        knows_after h x (ap constants_of c.in-Started.ensures.book),
+        e.token,
+      );
+    }
 
 pub return_book-requires : goal.return_book-requires
 return_book-requires g c =
@@ -51,14 +55,6 @@ return_book-requires g c =
         q.call,
       );
     }
-
-pub returns-in-Started-clause-idle : goal.returns-in-Started-clause-idle
-returns-in-Started-clause-idle g c =
-    let x = c.begin-begun.new.self in
-    let h = lent c.slot_mut-slot.ensures.value c.book_mut-lent.ensures.value c.take_book.ensures.taken in
-    let slot = in_slot c.take_book.ensures.taken.1.holds x in
-    let given = c.return_token.ensures.given x slot in
-    stays_idle h x given (ap constants_of c.in-Started.ensures.book) c.entries.ensures.control
 
 pub returns-in_default : goal.returns-in_default
 returns-in_default g c =
@@ -83,36 +79,8 @@ returns-in_default g c =
       token = none_started r _ c.in_default.not-Started;
     }
 
-pub returns-in-Started-clause-tokens : goal.returns-in-Started-clause-tokens
-returns-in-Started-clause-tokens g c =
-    let x = c.begin-begun.new.self in
-    let h = lent c.slot_mut-slot.ensures.value c.book_mut-lent.ensures.value c.take_book.ensures.taken in
-    let slot = in_slot c.take_book.ensures.taken.1.holds x in
-    let given = c.return_token.ensures.given x slot in
-    token_given x h given
-
-pub return_token-requires-clause-own : goal.return_token-requires-clause-own
-return_token-requires-clause-own g c = c.take_book.ensures.own ∙ c.requires.own
-
-pub returns-in-Started-clause-own : goal.returns-in-Started-clause-own
-returns-in-Started-clause-own g c = c.return_token.ensures.own ∙ c.take_book.ensures.own
-
-pub returns-in-Started-clause-runs : goal.returns-in-Started-clause-runs
-returns-in-Started-clause-runs g c =
-    let x = c.begin-begun.new.self in
-    let h = lent c.slot_mut-slot.ensures.value c.book_mut-lent.ensures.value c.take_book.ensures.taken in
-    let slot = in_slot c.take_book.ensures.taken.1.holds x in
-    let given = c.return_token.ensures.given x slot in
-    runs_after h x given (fields_of c.return_token.result) (c.return_token.ensures.runs x slot)
-
-pub returns-in-Started-clause-token : goal.returns-in-Started-clause-token
-returns-in-Started-clause-token g c =
-    let h = lent c.slot_mut-slot.ensures.value c.book_mut-lent.ensures.value c.take_book.ensures.taken in
-    subst (λ k. IsGivenToken g.M.Stands.ready_at g.M.Stands.tie k c.return_token.result)
-    (hall_is h c.args.seat.now.table_id c.take_book.new.seat.table_id c.take_book.ensures.own) c.return_token.ensures.token
-
-pub returns-in-Started-clause-sees : goal.returns-in-Started-clause-sees
-returns-in-Started-clause-sees g c =
+pub returns-in-Started : goal.returns-in-Started
+returns-in-Started g c =
     let x = c.begin-begun.new.self in
     let slot = in_slot c.take_book.ensures.taken.1.holds x in
     let given = c.return_token.ensures.given x slot in
@@ -125,13 +93,21 @@ returns-in-Started-clause-sees g c =
     let limit = (name_of c.args.seat.now.table_id m.0.it.constants).limit in
     let u : FrameToken g.row.M.Denot = record c.in-Started.token { payload = g.M.Carrier.with_seat c.in-Started.token.payload (Some s.0) }
     in
-    subst (λ (y : FrameToken g.row.M.Denot). Sees m.0.it.seen z.0.it.seen (Begin y.iteration ∷ [])
-    (λ q. BeginReturns limit q (begun.Started y))) (sym s.1)
-    (sees h x given (Begin u.iteration ∷ [])
-    (λ q. BeginReturns {M = g.row.M.Denot} limit q (begun.Started u))
-    (ap (λ (y : BookState). events_of y.log) e.book ∙ events_stamped b.log 0 (Begin u.iteration ∷ []))
-    (subst (λ (k : HallName). BeginReturns {M = g.row.M.Denot} k.limit (state_of b) (begun.Started u))
-    (sym (name_is c.args.seat.now.table_id h)) e.returned))
+    record {
+      own = c.return_token.ensures.own ∙ c.take_book.ensures.own;
+      idle = stays_idle h x given (ap constants_of e.book) c.entries.ensures.control;
+      sees = subst (λ (y : FrameToken g.row.M.Denot). Sees m.0.it.seen z.0.it.seen (Begin y.iteration ∷ [])
+          (λ q. BeginReturns limit q (begun.Started y))) (sym s.1)
+          (sees h x given (Begin u.iteration ∷ [])
+          (λ q. BeginReturns {M = g.row.M.Denot} limit q (begun.Started u))
+          (ap (λ (y : BookState). events_of y.log) e.book ∙ events_stamped b.log 0 (Begin u.iteration ∷ []))
+          (subst (λ (k : HallName). BeginReturns {M = g.row.M.Denot} k.limit (state_of b) (begun.Started u))
+          (sym (name_is c.args.seat.now.table_id h)) e.returned));
+      tokens = token_given x h given;
+      runs = runs_after h x given (fields_of c.return_token.result) (c.return_token.ensures.runs x slot);
+      token = subst (λ k. IsGivenToken g.M.Stands.ready_at g.M.Stands.tie k c.return_token.result)
+          (hall_is h c.args.seat.now.table_id c.take_book.new.seat.table_id c.take_book.ensures.own) c.return_token.ensures.token;
+    }
 
 pub slot_mut-slot-requires : goal.slot_mut-slot-requires
 slot_mut-slot-requires g c = (

@@ -16,24 +16,28 @@ use Rattle.hall_calls.proofs.TakenBooks.{knows_after, lent, runs_after, same_eve
 use Rattle.hall_calls.proofs.TokenMoves.{none_moves, token_given}
 use Rattle.hall_calls.proofs.worker.check_right_at.Goals as goal
 
-pub return_token-requires-clause-call : goal.return_token-requires-clause-call
-return_token-requires-clause-call g c =
+pub return_token-requires : goal.return_token-requires
+return_token-requires g c =
     let x = c.check_right-entered.new.self in
     let b = c.book_mut-lent.result.now in
     let h = lent c.slot_mut-slot.ensures.value c.book_mut-lent.ensures.value c.take_book.ensures.taken in
     let e = c.in-Some.ensures in
-    let f = fields_of c.in-Some.token in (
-      b,
-      x,
-      None,
-      holds_call h.holds x,
-      enter_call b x f (ap constants_of e.book) (ap (λ (y : BookState). y.tokens) e.book)
-          (ap (λ (y : BookState). y.traces) e.book) e.token.out e.token.parts
-          (kept_now (item_or Spent b.tokens f.iteration)) (ap (λ (y : BookState). y.log) e.book) c.entries.ensures.control
-          (subst HasRisingTickets c.entries.ensures.log c.entries.ensures.rise) e.now,
-      knows_after h x (ap constants_of c.in-Some.ensures.book),
-      e.token,
-    )
+    let f = fields_of c.in-Some.token in
+    record {
+      own = c.take_book.ensures.own ∙ c.requires.own;
+      call = (
+        b,
+        x,
+        None,
+        holds_call h.holds x,
+        enter_call b x f (ap constants_of e.book) (ap (λ (y : BookState). y.tokens) e.book)
+            (ap (λ (y : BookState). y.traces) e.book) e.token.out e.token.parts
+            (kept_now (item_or Spent b.tokens f.iteration)) (ap (λ (y : BookState). y.log) e.book) c.entries.ensures.control
+            (subst HasRisingTickets c.entries.ensures.log c.entries.ensures.rise) e.now,
+        knows_after h x (ap constants_of c.in-Some.ensures.book),
+        e.token,
+      );
+    }
 
 pub return_book-requires-clause-call : goal.return_book-requires-clause-call
 return_book-requires-clause-call g c =
@@ -47,60 +51,26 @@ return_book-requires-clause-call g c =
       subst (λ x. IsBookCall b None x None) (sym c.in-None.ensures.book) (unchanged_call b),
     )
 
-pub returns-in-Some-clause-idle : goal.returns-in-Some-clause-idle
-returns-in-Some-clause-idle g c =
+pub returns-in-None : goal.returns-in-None
+returns-in-None g c =
     let x = c.check_right-entered.new.self in
-    let h = lent c.slot_mut-slot.ensures.value c.book_mut-lent.ensures.value c.take_book.ensures.taken in
-    let slot = in_slot c.take_book.ensures.taken.1.holds x in
-    let given = c.return_token.ensures.given x slot in
-    stays_idle h x given (ap constants_of c.in-Some.ensures.book) c.entries.ensures.control
-
-pub returns-in-None-clause-idle : goal.returns-in-None-clause-idle
-returns-in-None-clause-idle g c =
-    let x = c.check_right-entered.new.self in
-    let h = lent c.slot_mut-slot.ensures.value c.book_mut-lent.ensures.value c.take_book.ensures.taken in
     let slot = in_slot c.take_book.ensures.taken.1.holds x in
     let given = c.return_book.ensures.given x slot in
-    stays_idle h x given (ap constants_of c.in-None.ensures.book) c.entries.ensures.control
-
-pub returns-in-Some-clause-tokens : goal.returns-in-Some-clause-tokens
-returns-in-Some-clause-tokens g c =
-    let x = c.check_right-entered.new.self in
+    let b = c.book_mut-lent.result.now in
     let h = lent c.slot_mut-slot.ensures.value c.book_mut-lent.ensures.value c.take_book.ensures.taken in
-    let slot = in_slot c.take_book.ensures.taken.1.holds x in
-    let given = c.return_token.ensures.given x slot in
-    token_given x h given
+    let e = c.in-None.ensures in
+    record {
+      own = c.return_book.ensures.own.0 ∙ c.take_book.ensures.own;
+      idle = stays_idle h x given (ap constants_of e.book) c.entries.ensures.control;
+      sees = sees h x given [] (λ q. EnterReturns {M = g.row.M.Denot} q (c.args.iteration + 1) None)
+          (same_events b x e.book) e.returned;
+      tokens = none_moves x h given;
+      runs = tt;
+      token = tt;
+    }
 
-pub returns-in-None-clause-tokens : goal.returns-in-None-clause-tokens
-returns-in-None-clause-tokens g c =
-    let x = c.check_right-entered.new.self in
-    let h = lent c.slot_mut-slot.ensures.value c.book_mut-lent.ensures.value c.take_book.ensures.taken in
-    let slot = in_slot c.take_book.ensures.taken.1.holds x in
-    let given = c.return_book.ensures.given x slot in
-    none_moves x h given
-
-pub return_token-requires-clause-own : goal.return_token-requires-clause-own
-return_token-requires-clause-own g c = c.take_book.ensures.own ∙ c.requires.own
-
-pub returns-in-Some-clause-own : goal.returns-in-Some-clause-own
-returns-in-Some-clause-own g c = c.return_token.ensures.own ∙ c.take_book.ensures.own
-
-pub returns-in-Some-clause-runs : goal.returns-in-Some-clause-runs
-returns-in-Some-clause-runs g c =
-    let x = c.check_right-entered.new.self in
-    let h = lent c.slot_mut-slot.ensures.value c.book_mut-lent.ensures.value c.take_book.ensures.taken in
-    let slot = in_slot c.take_book.ensures.taken.1.holds x in
-    let given = c.return_token.ensures.given x slot in
-    runs_after h x given (fields_of c.return_token.result) (c.return_token.ensures.runs x slot)
-
-pub returns-in-Some-clause-token : goal.returns-in-Some-clause-token
-returns-in-Some-clause-token g c =
-    let h = lent c.slot_mut-slot.ensures.value c.book_mut-lent.ensures.value c.take_book.ensures.taken in
-    subst (λ k. IsGivenToken g.M.Stands.ready_at g.M.Stands.tie k c.return_token.result)
-    (hall_is h c.args.seat.now.table_id c.take_book.new.seat.table_id c.take_book.ensures.own) c.return_token.ensures.token
-
-pub returns-in-Some-clause-sees : goal.returns-in-Some-clause-sees
-returns-in-Some-clause-sees g c =
+pub returns-in-Some : goal.returns-in-Some
+returns-in-Some g c =
     let x = c.check_right-entered.new.self in
     let slot = in_slot c.take_book.ensures.taken.1.holds x in
     let given = c.return_token.ensures.given x slot in
@@ -111,25 +81,20 @@ returns-in-Some-clause-sees g c =
     let e = c.in-Some.ensures in
     let s = c.return_token.ensures.same in
     let u : FrameToken g.row.M.Denot = record c.in-Some.token { payload = g.M.Carrier.with_seat c.in-Some.token.payload (Some s.0) } in
-    subst (λ (y : FrameToken g.row.M.Denot). Sees m.0.it.seen z.0.it.seen (Enter y.iteration ∷ [])
-    (λ q. EnterReturns q (c.args.iteration + 1) (Some y))) (sym s.1)
-    (sees h x given (Enter u.iteration ∷ [])
-    (λ q. EnterReturns {M = g.row.M.Denot} q (c.args.iteration + 1) (Some u))
-    (ap (λ (y : BookState). events_of y.log) e.book
-    ∙ events_stamped b.log (kept_now (item_or Spent b.tokens u.iteration)) (Enter u.iteration ∷ [])) e.returned)
-
-pub returns-in-None-clause-own : goal.returns-in-None-clause-own
-returns-in-None-clause-own g c = c.return_book.ensures.own.0 ∙ c.take_book.ensures.own
-
-pub returns-in-None-clause-sees : goal.returns-in-None-clause-sees
-returns-in-None-clause-sees g c =
-    let x = c.check_right-entered.new.self in
-    let h = lent c.slot_mut-slot.ensures.value c.book_mut-lent.ensures.value c.take_book.ensures.taken in
-    let slot = in_slot c.take_book.ensures.taken.1.holds x in
-    let given = c.return_book.ensures.given x slot in
-    let b = c.book_mut-lent.result.now in
-    sees h x given [] (λ q. EnterReturns {M = g.row.M.Denot} q (c.args.iteration + 1) None)
-    (same_events b x c.in-None.ensures.book) c.in-None.ensures.returned
+    record {
+      own = c.return_token.ensures.own ∙ c.take_book.ensures.own;
+      idle = stays_idle h x given (ap constants_of e.book) c.entries.ensures.control;
+      sees = subst (λ (y : FrameToken g.row.M.Denot). Sees m.0.it.seen z.0.it.seen (Enter y.iteration ∷ [])
+          (λ q. EnterReturns q (c.args.iteration + 1) (Some y))) (sym s.1)
+          (sees h x given (Enter u.iteration ∷ [])
+          (λ q. EnterReturns {M = g.row.M.Denot} q (c.args.iteration + 1) (Some u))
+          (ap (λ (y : BookState). events_of y.log) e.book
+          ∙ events_stamped b.log (kept_now (item_or Spent b.tokens u.iteration)) (Enter u.iteration ∷ [])) e.returned);
+      tokens = token_given x h given;
+      runs = runs_after h x given (fields_of c.return_token.result) (c.return_token.ensures.runs x slot);
+      token = subst (λ k. IsGivenToken g.M.Stands.ready_at g.M.Stands.tie k c.return_token.result)
+          (hall_is h c.args.seat.now.table_id c.take_book.new.seat.table_id c.take_book.ensures.own) c.return_token.ensures.token;
+    }
 
 pub slot_mut-slot-requires : goal.slot_mut-slot-requires
 slot_mut-slot-requires g c = (

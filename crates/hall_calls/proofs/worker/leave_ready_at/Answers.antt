@@ -60,32 +60,20 @@ return_book-requires-clause-call g c =
           (t.2.entries ∙ c.requires.fresh),
     )
 
-pub returns-clause-idle : goal.returns-clause-idle
-returns-clause-idle g c =
-    let x = c.leave_ready.new.self in
-    let slot = in_slot c.take_back.ensures.taken.2.holds x in
-    let given = c.return_book.ensures.given x slot in
-    let t = lent_with c.slot_mut-slot.ensures.value c.book_mut-lent.ensures.value c.take_back.ensures.taken in
-    stays_idle t.1 x given
-    (ap constants_of c.leave_ready.ensures) c.entries.ensures.control
-
-pub returns-clause-sees : goal.returns-clause-sees
-returns-clause-sees g c =
+pub returns : goal.returns
+returns g c =
     let x = c.leave_ready.new.self in
     let slot = in_slot c.take_back.ensures.taken.2.holds x in
     let given = c.return_book.ensures.given x slot in
     let t = lent_with c.slot_mut-slot.ensures.value c.book_mut-lent.ensures.value c.take_back.ensures.taken in
     let b = c.book_mut-lent.result.now in
-    sees t.1 x given [] (λ s. Unit {0})
-    (ap (λ (x : BookState). events_of x.log) c.leave_ready.ensures ∙ sym (append-nil (events_of b.log))) tt
-
-pub returns-clause-tokens : goal.returns-clause-tokens
-returns-clause-tokens g c =
-    let x = c.leave_ready.new.self in
-    let slot = in_slot c.take_back.ensures.taken.2.holds x in
-    let given = c.return_book.ensures.given x slot in
-    let t = lent_with c.slot_mut-slot.ensures.value c.book_mut-lent.ensures.value c.take_back.ensures.taken in
-    token_returned x t.1 given
+    record {
+      own = c.return_book.ensures.own.0 ∙ c.take_back.ensures.own;
+      idle = stays_idle t.1 x given (ap constants_of c.leave_ready.ensures) c.entries.ensures.control;
+      sees = sees t.1 x given [] (λ s. Unit {0})
+          (ap (λ (x : BookState). events_of x.log) c.leave_ready.ensures ∙ sym (append-nil (events_of b.log))) tt;
+      tokens = token_returned x t.1 given;
+    }
 
 pub slot_mut-slot-requires : goal.slot_mut-slot-requires
 slot_mut-slot-requires g c = (

@@ -20,22 +20,26 @@ use Rattle.pipe_frame.specs.TokenCounts.{Exchanges}
 use Rattle.hall_calls.proofs.TokenMoves.{none_moves, none_rescued, token_given}
 use Rattle.hall_calls.proofs.worker.rescue_at.Goals as goal
 
-pub return_token-requires-clause-call : goal.return_token-requires-clause-call
-return_token-requires-clause-call g c =
+pub return_token-requires : goal.return_token-requires
+return_token-requires g c =
     let x = c.rescue-found.new.self in
     let b = c.book_mut-lent.result.now in
     let h = lent c.slot_mut-slot.ensures.value c.book_mut-lent.ensures.value c.take_book.ensures.taken in
-    let e = c.in-Token.ensures in (
-      b,
-      x,
-      None,
-      holds_call h.holds x,
-      rescued_call b x (fields_of c.in-Token.token) e.book c.entries.ensures.control
-          (subst HasRisingTickets c.entries.ensures.log c.entries.ensures.rise)
-          e.token.out e.token.parts e.now,
-      knows_after h x (ap constants_of c.in-Token.ensures.book),
-      e.token,
-    )
+    let e = c.in-Token.ensures in
+    record {
+      own = c.take_book.ensures.own ∙ c.requires.own;
+      call = (
+        b,
+        x,
+        None,
+        holds_call h.holds x,
+        rescued_call b x (fields_of c.in-Token.token) e.book c.entries.ensures.control
+            (subst HasRisingTickets c.entries.ensures.log c.entries.ensures.rise)
+            e.token.out e.token.parts e.now,
+        knows_after h x (ap constants_of c.in-Token.ensures.book),
+        e.token,
+      );
+    }
 
 pub return_book-requires : goal.return_book-requires
 return_book-requires g c =
@@ -54,16 +58,8 @@ return_book-requires g c =
       );
     }
 
-pub returns-in-Token-clause-idle : goal.returns-in-Token-clause-idle
-returns-in-Token-clause-idle g c =
-    let x = c.rescue-found.new.self in
-    let h = lent c.slot_mut-slot.ensures.value c.book_mut-lent.ensures.value c.take_book.ensures.taken in
-    let slot = in_slot c.take_book.ensures.taken.1.holds x in
-    let given = c.return_token.ensures.given x slot in
-    stays_idle h x given (ap constants_of c.in-Token.ensures.book) c.entries.ensures.control
-
-pub returns-in-Token-clause-sees : goal.returns-in-Token-clause-sees
-returns-in-Token-clause-sees g c =
+pub returns-in-Token : goal.returns-in-Token
+returns-in-Token g c =
     let x = c.rescue-found.new.self in
     let slot = in_slot c.take_book.ensures.taken.1.holds x in
     let given = c.return_token.ensures.given x slot in
@@ -75,12 +71,20 @@ returns-in-Token-clause-sees g c =
     let s = c.return_token.ensures.same in
     let limit = (name_of c.args.seat.now.table_id m.0.it.constants).limit in
     let u : FrameToken g.row.M.Denot = record c.in-Token.token { payload = g.M.Carrier.with_seat c.in-Token.token.payload (Some s.0) } in
-    subst (λ (y : FrameToken g.row.M.Denot). RescueSees limit m.0.it.seen z.0.it.seen (rescue.Token y)) (sym s.1)
-    (rescue_sees_of {M = g.row.M.Denot} limit m.0.it.seen z.0.it.seen b x (rescue.Token u) h.seen
-    (seen_after h x given)
-    (ap (λ (y : BookState). events_of y.log) e.book ∙ resumed_events b u.iteration)
-    (subst (λ (k : HallName). RescueReturns {M = g.row.M.Denot} k.limit (state_of b) (IsReady b) (rescue.Token u))
-    (sym (name_is c.args.seat.now.table_id h)) e.returned))
+    record {
+      own = c.return_token.ensures.own ∙ c.take_book.ensures.own;
+      idle = stays_idle h x given (ap constants_of e.book) c.entries.ensures.control;
+      sees = subst (λ (y : FrameToken g.row.M.Denot). RescueSees limit m.0.it.seen z.0.it.seen (rescue.Token y)) (sym s.1)
+          (rescue_sees_of {M = g.row.M.Denot} limit m.0.it.seen z.0.it.seen b x (rescue.Token u) h.seen
+          (seen_after h x given)
+          (ap (λ (y : BookState). events_of y.log) e.book ∙ resumed_events b u.iteration)
+          (subst (λ (k : HallName). RescueReturns {M = g.row.M.Denot} k.limit (state_of b) (IsReady b) (rescue.Token u))
+          (sym (name_is c.args.seat.now.table_id h)) e.returned));
+      tokens = token_given x h given;
+      runs = runs_after h x given (fields_of c.return_token.result) (c.return_token.ensures.runs x slot);
+      token = subst (λ k. IsGivenToken g.M.Stands.ready_at g.M.Stands.tie k c.return_token.result)
+          (hall_is h c.args.seat.now.table_id c.take_book.new.seat.table_id c.take_book.ensures.own) c.return_token.ensures.token;
+    }
 
 pub returns-in_default : goal.returns-in_default
 returns-in_default g c =
@@ -105,34 +109,6 @@ returns-in_default g c =
       runs = none_found r _ c.in_default.not-Token;
       token = none_found r _ c.in_default.not-Token;
     }
-
-pub returns-in-Token-clause-tokens : goal.returns-in-Token-clause-tokens
-returns-in-Token-clause-tokens g c =
-    let x = c.rescue-found.new.self in
-    let h = lent c.slot_mut-slot.ensures.value c.book_mut-lent.ensures.value c.take_book.ensures.taken in
-    let slot = in_slot c.take_book.ensures.taken.1.holds x in
-    let given = c.return_token.ensures.given x slot in
-    token_given x h given
-
-pub return_token-requires-clause-own : goal.return_token-requires-clause-own
-return_token-requires-clause-own g c = c.take_book.ensures.own ∙ c.requires.own
-
-pub returns-in-Token-clause-own : goal.returns-in-Token-clause-own
-returns-in-Token-clause-own g c = c.return_token.ensures.own ∙ c.take_book.ensures.own
-
-pub returns-in-Token-clause-runs : goal.returns-in-Token-clause-runs
-returns-in-Token-clause-runs g c =
-    let x = c.rescue-found.new.self in
-    let h = lent c.slot_mut-slot.ensures.value c.book_mut-lent.ensures.value c.take_book.ensures.taken in
-    let slot = in_slot c.take_book.ensures.taken.1.holds x in
-    let given = c.return_token.ensures.given x slot in
-    runs_after h x given (fields_of c.return_token.result) (c.return_token.ensures.runs x slot)
-
-pub returns-in-Token-clause-token : goal.returns-in-Token-clause-token
-returns-in-Token-clause-token g c =
-    let h = lent c.slot_mut-slot.ensures.value c.book_mut-lent.ensures.value c.take_book.ensures.taken in
-    subst (λ k. IsGivenToken g.M.Stands.ready_at g.M.Stands.tie k c.return_token.result)
-    (hall_is h c.args.seat.now.table_id c.take_book.new.seat.table_id c.take_book.ensures.own) c.return_token.ensures.token
 
 pub slot_mut-slot-requires : goal.slot_mut-slot-requires
 slot_mut-slot-requires g c = (

@@ -22,43 +22,22 @@ return_book-requires-clause-call g c =
           c.entries.ensures.control (subst HasRisingTickets c.entries.ensures.log c.entries.ensures.rise),
     )
 
-pub returns-clause-idle : goal.returns-clause-idle
-returns-clause-idle g c =
-    let x = c.stop.new.self in
-    let h = lent c.slot_mut-slot.ensures.value c.book_mut-lent.ensures.value c.take_book.ensures.taken in
-    let slot = in_slot c.take_book.ensures.taken.1.holds x in
-    let given = c.return_book.ensures.given x slot in
-    stays_idle h x given (ap constants_of c.stop.ensures) c.entries.ensures.control
-
-pub returns-clause-later : goal.returns-clause-later
-returns-clause-later g c =
+pub returns : goal.returns
+returns g c =
     let x = c.stop.new.self in
     let slot = in_slot c.take_book.ensures.taken.1.holds x in
     let given = c.return_book.ensures.given x slot in
     let b = c.book_mut-lent.result.now in
     let h = lent c.slot_mut-slot.ensures.value c.book_mut-lent.ensures.value c.take_book.ensures.taken in
     let seen = seen_after h x given in
-    subst (λ l. BeginsWith l c.args.seat.now.me.0.it.seen) (sym seen)
-    (halted_seen b x c.args.seat.now.me.0.it.seen c.stop.ensures h.seen)
-
-pub returns-clause-stopped : goal.returns-clause-stopped
-returns-clause-stopped g c =
-    let x = c.stop.new.self in
-    let h = lent c.slot_mut-slot.ensures.value c.book_mut-lent.ensures.value c.take_book.ensures.taken in
-    let slot = in_slot c.take_book.ensures.taken.1.holds x in
-    let given = c.return_book.ensures.given x slot in
-    let b = c.book_mut-lent.result.now in
-    let seen = seen_after h x given in
-    ap (λ l. (state_after l).stopped) seen ∙ halted_stops b x c.stop.ensures
-
-pub returns-clause-tokens : goal.returns-clause-tokens
-returns-clause-tokens g c =
-    let x = c.stop.new.self in
-    let h = lent c.slot_mut-slot.ensures.value c.book_mut-lent.ensures.value c.take_book.ensures.taken in
-    let slot = in_slot c.take_book.ensures.taken.1.holds x in
-    let given = c.return_book.ensures.given x slot in
-    ap (λ (x : ViewAndSlots g.row.M.Denot). x.0.it.tokens) given
-    ∙ h.counts
+    record {
+      own = c.return_book.ensures.own.0 ∙ c.take_book.ensures.own;
+      idle = stays_idle h x given (ap constants_of c.stop.ensures) c.entries.ensures.control;
+      later = subst (λ l. BeginsWith l c.args.seat.now.me.0.it.seen) (sym seen)
+          (halted_seen b x c.args.seat.now.me.0.it.seen c.stop.ensures h.seen);
+      stopped = ap (λ l. (state_after l).stopped) seen ∙ halted_stops b x c.stop.ensures;
+      tokens = ap (λ (x : ViewAndSlots g.row.M.Denot). x.0.it.tokens) given ∙ h.counts;
+    }
 
 pub slot_mut-slot-requires : goal.slot_mut-slot-requires
 slot_mut-slot-requires g c = (

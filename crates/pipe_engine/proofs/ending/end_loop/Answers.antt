@@ -62,24 +62,8 @@ collect-requires-clause-parts g c =
     (parts tree input c.args.throttle c.args.hall end.book end.shards.items of_hall c.requires.opened ensured.constants h merged refl
     c.args.cells (init_accesses (whole_of tree input)) c.requires.state)
 
-pub gather-requires-clause-cells : goal.gather-requires-clause-cells
-gather-requires-clause-cells g c =
-    let end = c.in_ok-book.field-0 in
-    let ensured = c.in_ok-book.ensures in
-    let log = c.in_ok-book_log.ensures in
-    let h = finished_end c.args.hall.before c.args.key.seen end.book end.shards.items ensured.len ensured.ended ensured.stop log.sound
-    log.finished in
-    let tree = tree_of c.args.prepared.now.checked.now in
-    let input = c.args.prepared.now.input.now in
-    let of_hall = log_of_hall end.book end.shards.items in
-    let merged = hall_is_merged c.args.hall.before end.book end.shards.items h in
-    let all = races tree input c.args.throttle c.args.hall end.book end.shards.items of_hall c.requires.opened
-    ensured.constants h merged refl in
-    subst (λ (l : List (CellId × Found)). AllPairs (λ (a : CellId × Found) (b : CellId × Found). a.0 ≢ b.0) l)
-    (sym (c.as_slice-6.ensures.value ∙ c.in_ok-found.ensures ∙ ap found_by c.as_slice.ensures.value)) all.cells
-
-pub gather-requires-clause-instances : goal.gather-requires-clause-instances
-gather-requires-clause-instances g c =
+pub gather-requires : goal.gather-requires
+gather-requires g c =
     let end = c.in_ok-book.field-0 in
     let ensured = c.in_ok-book.ensures in
     let log = c.in_ok-book_log.ensures in
@@ -102,52 +86,28 @@ gather-requires-clause-instances g c =
     ensured.constants h merged refl in
     let instances = subst (λ (l : List Column). All (λ (f : CellId × Found). IsFoundIn (node_columns l) f.1) (found_by end.shards.items))
     (sym full_is) all.instances in
-    subst (λ (l : List (CellId × Found)). All (λ (f : CellId × Found). IsFoundIn (node_columns c.in_ok-columns.columns) f.1) l) (sym found)
-    (subst (λ (l : List Column). All (λ (f : CellId × Found). IsFoundIn (node_columns l) f.1) (found_by end.shards.items))
-    (sym columns_are) (found_if needed full (found_by end.shards.items) none instances))
+    record {
+      cells = subst (λ (l : List (CellId × Found)). AllPairs (λ (a : CellId × Found) (b : CellId × Found). a.0 ≢ b.0) l) (sym found) all.cells;
+      instances = subst (λ (l : List (CellId × Found)). All (λ (f : CellId × Found). IsFoundIn (node_columns c.in_ok-columns.columns) f.1) l) (sym found)
+          (subst (λ (l : List Column). All (λ (f : CellId × Found). IsFoundIn (node_columns l) f.1) (found_by end.shards.items))
+          (sym columns_are) (found_if needed full (found_by end.shards.items) none instances));
+    }
 
-pub of_logs-run_log-requires-clause-book : goal.of_logs-run_log-requires-clause-book
-of_logs-run_log-requires-clause-book g c =
+pub of_logs-run_log-requires : goal.of_logs-run_log-requires
+of_logs-run_log-requires g c =
     let end = c.in_ok-book.field-0 in
     let ensured = c.in_ok-book.ensures in
     let log = c.in_ok-book_log.ensures in
     let h = finished_end c.args.hall.before c.args.key.seen end.book end.shards.items ensured.len ensured.ended ensured.stop log.sound
     log.finished in
-    subst BookRises (sym log.log) (can_be_merged c.args.hall.before end.book end.shards.items h).0
+    let sorted = can_be_merged c.args.hall.before end.book end.shards.items h in
+    record {
+      book = subst BookRises (sym log.log) sorted.0;
+      shards = subst (All ShardRises) (sym c.in_ok-shard_logs.ensures) sorted.1;
+    }
 
-pub of_logs-run_log-requires-clause-shards : goal.of_logs-run_log-requires-clause-shards
-of_logs-run_log-requires-clause-shards g c =
-    let end = c.in_ok-book.field-0 in
-    let ensured = c.in_ok-book.ensures in
-    let log = c.in_ok-book_log.ensures in
-    let h = finished_end c.args.hall.before c.args.key.seen end.book end.shards.items ensured.len ensured.ended ensured.stop log.sound
-    log.finished in
-    subst (All ShardRises) (sym c.in_ok-shard_logs.ensures) (can_be_merged c.args.hall.before end.book end.shards.items h).1
-
-pub least_trap-trap-requires-clause-count : goal.least_trap-trap-requires-clause-count
-least_trap-trap-requires-clause-count g c =
-    let end = c.in_ok-book.field-0 in
-    let ensured = c.in_ok-book.ensures in
-    let log = c.in_ok-book_log.ensures in
-    let h = finished_end c.args.hall.before c.args.key.seen end.book end.shards.items ensured.len ensured.ended ensured.stop log.sound
-    log.finished in
-    let tree = tree_of c.args.prepared.now.checked.now in
-    let input = c.args.prepared.now.input.now in
-    let of_hall = log_of_hall end.book end.shards.items in
-    let merged = hall_is_merged c.args.hall.before end.book end.shards.items h in
-    let full : List Column = made_columns (map (λ (e : BookEntry). e.event) end.book.log) in
-    let needed = c.are_columns_needed-needed.result in
-    let columns_are = c.in_ok-columns.ensures
-    ∙ ap (λ (l : List BookEntry). cond needed (made_columns (map (λ (e : BookEntry). e.event) l)) []) (c.as_slice-5.ensures ∙ log.log) in
-    let small = small_if needed full (subst HasSmallColumns (sym (columns_of_book tree input c.args.throttle c.args.hall end.book
-    end.shards.items of_hall c.requires.opened ensured.constants h merged refl))
-    (small_columns tree input c.args.throttle c.args.hall end.book end.shards.items of_hall c.requires.opened
-    ensured.constants h merged refl c.requires.accepted)) in
-    let seen = c.as_slice-7.ensures ∙ columns_are in
-    subst (λ (l : List Column). length l ≤ 2 ^ 32) (sym seen) small.count
-
-pub least_trap-trap-requires-clause-nonempty : goal.least_trap-trap-requires-clause-nonempty
-least_trap-trap-requires-clause-nonempty g c =
+pub least_trap-trap-requires : goal.least_trap-trap-requires
+least_trap-trap-requires g c =
     let end = c.in_ok-book.field-0 in
     let ensured = c.in_ok-book.ensures in
     let log = c.in_ok-book_log.ensures in
@@ -166,29 +126,11 @@ least_trap-trap-requires-clause-nonempty g c =
     (small_columns tree input c.args.throttle c.args.hall end.book end.shards.items of_hall c.requires.opened
     ensured.constants h merged refl c.requires.accepted)) in
     let seen = c.as_slice-7.ensures ∙ columns_are in
-    subst (λ (l : List Column). All (λ (column : Column). 0 < length column.nodes) l) (sym seen) small.some
-
-pub least_trap-trap-requires-clause-bounded : goal.least_trap-trap-requires-clause-bounded
-least_trap-trap-requires-clause-bounded g c =
-    let end = c.in_ok-book.field-0 in
-    let ensured = c.in_ok-book.ensures in
-    let log = c.in_ok-book_log.ensures in
-    let h = finished_end c.args.hall.before c.args.key.seen end.book end.shards.items ensured.len ensured.ended ensured.stop log.sound
-    log.finished in
-    let tree = tree_of c.args.prepared.now.checked.now in
-    let input = c.args.prepared.now.input.now in
-    let of_hall = log_of_hall end.book end.shards.items in
-    let merged = hall_is_merged c.args.hall.before end.book end.shards.items h in
-    let full : List Column = made_columns (map (λ (e : BookEntry). e.event) end.book.log) in
-    let needed = c.are_columns_needed-needed.result in
-    let columns_are = c.in_ok-columns.ensures
-    ∙ ap (λ (l : List BookEntry). cond needed (made_columns (map (λ (e : BookEntry). e.event) l)) []) (c.as_slice-5.ensures ∙ log.log) in
-    let small = small_if needed full (subst HasSmallColumns (sym (columns_of_book tree input c.args.throttle c.args.hall end.book
-    end.shards.items of_hall c.requires.opened ensured.constants h merged refl))
-    (small_columns tree input c.args.throttle c.args.hall end.book end.shards.items of_hall c.requires.opened
-    ensured.constants h merged refl c.requires.accepted)) in
-    let seen = c.as_slice-7.ensures ∙ columns_are in
-    subst (λ (l : List Column). All (λ (column : Column). length column.nodes ≤ 2 ^ 32) l) (sym seen) small.bounded
+    record {
+      count = subst (λ (l : List Column). length l ≤ 2 ^ 32) (sym seen) small.count;
+      nonempty = subst (λ (l : List Column). All (λ (column : Column). 0 < length column.nodes) l) (sym seen) small.some;
+      bounded = subst (λ (l : List Column). All (λ (column : Column). length column.nodes ≤ 2 ^ 32) l) (sym seen) small.bounded;
+    }
 
 pub returns : goal.returns
 returns g c =
