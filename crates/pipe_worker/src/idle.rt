@@ -2,12 +2,17 @@
 
 use std::sync::Wait;
 use std::sync::atomic::{AtomicBool, Ordering};
+use std::thread;
 use std::thread::Parker;
 use std::time::Duration;
 
-// How many short pauses come before the long ones. They last some twenty microseconds in all, and do
-// not give the processor to others.
-const SHORT_PAUSES: u32 = 8;
+// How many short pauses come before the long ones. They last some fifty microseconds in all: a long one
+// takes a tenth of a millisecond, however short it is meant to be.
+const SHORT_PAUSES: u32 = 16;
+
+// How many of them keep the processor. After each further one it is given to others that wait for it, as
+// there may be where workers are more than processors.
+const KEPT_PAUSES: u32 = 8;
 
 // The turns of the first short pause, and of the longest. A turn takes some 8 nanoseconds.
 const FIRST_TURNS: u32 = 32;
@@ -34,8 +39,8 @@ const SHORT_LOOKS: u32 = 4;
 const LONG_LOOKS: u32 = 1;
 
 /// How long a worker has found nothing. Its first pauses are short, since a stage may take only some
-/// microseconds. In the later ones, each twice as long as the last up to a bound, its processor is free
-/// for others.
+/// microseconds. In the long ones that follow, each twice as long as the last up to a bound, its processor
+/// is free for others.
 #[derive(Drop)]
 pub(crate) struct Idle {
     word: AtomicBool,
@@ -141,6 +146,9 @@ impl Idle {
             self.pauses += 1;
             self.spin();
             self.turns = self.turns.saturating_mul(2).min(MOST_TURNS);
+            if self.pauses > KEPT_PAUSES {
+                thread::yield_now();
+            }
         } else {
             self.sleep
                 .park_timeout(rt, Duration::from_micros(self.micros));
