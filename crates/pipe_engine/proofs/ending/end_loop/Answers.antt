@@ -87,8 +87,10 @@ gather-requires g c =
     let instances = subst (λ (l : List Column). All (λ (f : CellId × Found). IsFoundIn (node_columns l) f.1) (found_by end.shards.items))
     (sym full_is) all.instances in
     record {
-      cells = subst (λ (l : List (CellId × Found)). AllPairs (λ (a : CellId × Found) (b : CellId × Found). a.0 ≢ b.0) l) (sym found) all.cells;
-      instances = subst (λ (l : List (CellId × Found)). All (λ (f : CellId × Found). IsFoundIn (node_columns c.in_ok-columns.columns) f.1) l) (sym found)
+      cells = subst (λ (l : List (CellId × Found)). AllPairs (λ (a : CellId × Found) (b : CellId × Found). a.0 ≢ b.0) l)
+          (sym found) all.cells;
+      instances = subst
+          (λ (l : List (CellId × Found)). All (λ (f : CellId × Found). IsFoundIn (node_columns c.in_ok-columns.columns) f.1) l) (sym found)
           (subst (λ (l : List Column). All (λ (f : CellId × Found). IsFoundIn (node_columns l) f.1) (found_by end.shards.items))
           (sym columns_are) (found_if needed full (found_by end.shards.items) none instances));
     }
