@@ -1,5 +1,5 @@
-"""Makes calls in rounds, COUNT times, and prints of each the median of its seconds by the clock, the least, and the median of its
-processor seconds, and how many times as fast it is as the first.
+"""Makes calls in rounds, COUNT times, each time in another order, and prints of each the median of its seconds by the clock, the
+least, and the median of its processor seconds, and how many times as fast it is as the first.
 
     clocked_calls.py COUNT NAME < CALLS
 
@@ -7,6 +7,7 @@ Each line of CALLS has, separated by tabs: a label, how many of these calls are 
 Of calls at the same time the clock runs until the last has ended, and they are compared with the line above: so many calls one after
 the other, and all at the same time. That is how many processors were free."""
 import os
+import random
 import subprocess
 import sys
 import time
@@ -25,14 +26,16 @@ def make(command, together):
     return time.monotonic() - begin, used
 
 
+orders = random.Random(1)
 count, name = int(sys.argv[1]), sys.argv[2]
 lines = [line.rstrip("\n").split("\t") for line in sys.stdin]
 taken = [[] for _ in lines]
 for _ in range(count):
-    for k, (_, together, *command) in enumerate(lines):
+    for k in orders.sample(range(len(lines)), len(lines)):
+        _, together, *command = lines[k]
         taken[k].append(make(command, int(together)))
 medians = [sorted(clock for clock, _ in calls)[count // 2] for calls in taken]
 for k, (label, together, *_) in enumerate(lines):
     clock, used = medians[k], sorted(used for _, used in taken[k])[count // 2]
     faster = medians[0] / clock if together == "1" else int(together) * medians[k - 1] / clock
-    print(f"{name:10} {label:14} {clock:8.4f} {min(taken[k])[0]:8.4f} {used:8.4f} {faster:8.2f}")
+    print(f"{name:16} {label:14} {clock:8.4f} {min(taken[k])[0]:8.4f} {used:8.4f} {faster:8.2f}")
