@@ -55,7 +55,7 @@ pub(crate) fn take_seat_of<M: Carrier>(payload: &mut M) -> RunSeat
     ensures seat { M.seat payload.old ≡ Some result }
     ensures payload { payload.new ≡ M.with_seat payload.old None }
 {
-    payload.take_seat()
+    payload.take_seat().into_seat()
 }
 
 // Takes in the seat of the token's instance, and then the book.

@@ -1,5 +1,5 @@
 -- The seat in a place.
-use Rattle.std.proofs.Common.{◌≡◌, Option, Some, Bool, true, false, refl, sym, ap, ◌∙◌}
+use Rattle.std.proofs.Common.{◌≡◌, Some, Bool, true, false, refl, ap}
 use Rattle.std.proofs.Math.Bool.{Bool-set}
 use Rattle.atomic_table.specs.declared.badge.Badge.{Badge}
 use Rattle.hall_table.specs.InstanceSeats.{is_instance_badge}
@@ -16,8 +16,3 @@ seat_by b false h e = absurd (cc)
 -- the badge of a running instance's seat has that seat
 pub seat_is : (b : Badge View) (e : is_instance_badge b.views ≡ true) → seat_of_badge b ≡ Some (record { badge = b; of_instance = e })
 seat_is b e = seat_by b (is_instance_badge b.views) refl e
-
--- and is the same as the one that was in a place
-pub seat_taken : (b c : Badge View) (o : Option RunSeat) (e : is_instance_badge c.views ≡ true) → seat_of_badge b ≡ o → c ≡ b
-    → o ≡ Some (record { badge = c; of_instance = e })
-seat_taken b c o e here same = sym here ∙ (ap seat_of_badge (sym same) ∙ seat_is c e)

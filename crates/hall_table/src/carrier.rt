@@ -4,6 +4,7 @@ ghost use Rattle.std.specs.Prelude.{◌≡◌, ◌↔◌, ℕ, ℤ, List, Option
 ghost use Rattle.std.specs.Borrow.{sem};
 
 use crate::run_seat::RunSeat;
+use crate::seat_place::SeatPlace;
 use frame_book::payload::Payload;
 use om_shared::writer::OmWriter;
 use order_2d::two_passes::TwoPasses;
@@ -28,10 +29,9 @@ pub trait Carrier: Payload<OmWriter> {
     /// The payload with this seat, or with none.
     ghost with_seat: { Self → Option RunSeat → Self };
 
-    /// Takes the seat out, which must be there.
-    fn take_seat(&mut self) -> RunSeat
-        requires there { (r : RunSeat) × (seat self.old ≡ Some r) }
-        ensures seat { seat self.old ≡ Some result }
+    /// Takes out its seat, if it has one.
+    fn take_seat(&mut self) -> SeatPlace
+        ensures seat { result ≡ seat self.old }
         ensures payload { self.new ≡ with_seat self.old None };
 
     /// Puts a seat in.

@@ -40,14 +40,20 @@ impl SeatPlace {
         }
     }
 
-    /// Takes the seat, which must be there.
-    pub fn take(&mut self) -> RunSeat
-        requires there { (r : Seat) × (self.old ≡ Some r) }
-        ensures seat { self.old ≡ Some result }
+    /// Takes out the seat, if there is one.
+    pub fn take(&mut self) -> SeatPlace
+        ensures seat { result ≡ self.old }
         ensures empty { self.new ≡ None }
     {
-        let badge = mem::replace(&mut self.badge, Badge::blank());
-        RunSeat { badge }
+        mem::replace(self, SeatPlace::new())
+    }
+
+    /// Returns the seat, which must be there.
+    pub fn into_seat(self) -> RunSeat
+        requires there { (r : Seat) × (self ≡ Some r) }
+        ensures { self ≡ Some result }
+    {
+        RunSeat { badge: self.badge }
     }
 
     /// Puts a seat there. One that was there is dropped.

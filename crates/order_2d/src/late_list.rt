@@ -4,7 +4,7 @@ ghost use Rattle.std.specs.Prelude.{◌≡◌, ◌↔◌, ◌<◌, ◌≤◌, �
 ghost use Rattle.om_relabel.specs.declared.links.TheConstants.{MOST_ELEMENTS};
 ghost use Rattle.pipe_model.specs.Orders.OrderList.{IsBeforeIn, IsLog, list_of_log};
 
-use crate::list_writer::ListWriter;
+use crate::list_writer::{ListWriter, OwnedList};
 use om_list::om_list::OmList;
 use pipe_model::memory::NoMemory;
 use std::alloc::Global;
@@ -91,5 +91,11 @@ impl ListWriter for LateList {
     fn insert_pair_after(&mut self, x: u32) -> (u32, u32) {
         let element = self.insert_after(x);
         (element, self.insert_after(element))
+    }
+}
+
+impl OwnedList for LateList {
+    fn with_capacity(alloc: Global, capacity: u32) -> Result<LateList, NoMemory> {
+        LateList::new(alloc, capacity)
     }
 }

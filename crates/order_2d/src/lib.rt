@@ -4,6 +4,7 @@
 #![tactic(auto)]
 
 pub mod late_list;
+pub mod late_orders;
 pub mod list_writer;
 mod numbers;
 pub mod plain_orders;

@@ -1,11 +1,14 @@
 //! Lists into which elements are inserted.
 
-ghost use Rattle.std.specs.Prelude.{◌≡◌, ◌<◌, ◌≤◌, ◌+◌, ◌++◌, ◌∷◌, [], length};
+ghost use Rattle.std.specs.Prelude.{◌≡◌, ◌<◌, ◌≤◌, ◌+◌, ◌++◌, ◌∷◌, [], IfOk, length};
+ghost use Rattle.om_relabel.specs.declared.links.TheConstants.{MOST_ELEMENTS};
 ghost use Rattle.om_shared.specs.SharedLists.{identity_of};
 ghost use Rattle.order_2d.specs.OrderPairs.{OrderedList};
 
 use om_list::om_list::OmList;
 use om_shared::writer::OmWriter;
+use pipe_model::memory::NoMemory;
+use std::alloc::Global;
 
 /// A list for order maintenance. Contracts see the log of its insertions, its capacity, and which
 /// list it is, if it has an identity.
@@ -33,6 +36,16 @@ pub trait ListWriter {
             ≡ record (list self.old) { log = (list self.old).log ++ x ∷ (1 + length (list self.old).log) ∷ [] } };
 }
 
+/// A list that only its owner asks and changes, so it is made by itself, without passes.
+pub trait OwnedList: ListWriter {
+    /// Returns the list of element 0 alone, with room for `capacity` elements in all. No other call
+    /// allocates. Returns an error only if memory runs out.
+    fn with_capacity(alloc: Global, capacity: u32) -> Result<Self, NoMemory>
+        requires positive { 0 < capacity }
+        requires bounded { capacity ≤ MOST_ELEMENTS }
+        ensures { IfOk result (λ l. Self.list l ≡ record { log = []; capacity = capacity; identity = [] }) };
+}
+
 impl ListWriter for OmList {
     ghost list = { λ l. record { log = l.log; capacity = l.capacity; identity = [] } };
 
@@ -43,6 +56,12 @@ impl ListWriter for OmList {
     fn insert_pair_after(&mut self, x: u32) -> (u32, u32) {
         let element = OmList::insert_after(self, x);
         (element, OmList::insert_after(self, element))
+    }
+}
+
+impl OwnedList for OmList {
+    fn with_capacity(alloc: Global, capacity: u32) -> Result<OmList, NoMemory> {
+        Ok(OmList::new(alloc, capacity)?)
     }
 }
 

@@ -1,57 +1,66 @@
-//! Questions about two lists that nobody else changes meanwhile.
+//! Questions about two lists that do not change meanwhile.
 
 ghost use Rattle.std.specs.Prelude.{◌≡◌, ◌↔◌, IsTrue, true, []};
-ghost use Rattle.pipe_model.specs.Orders.OrderList.{IsLog, IsBeforeIn, has, list_of_log};
+ghost use Rattle.pipe_model.specs.Orders.OrderList.{IsBeforeIn, IsLog, has, list_of_log};
 
-use crate::late_list::LateList;
 use crate::two_orders::TwoOrders;
+use om_list::om_list::OmList;
 use pipe_model::marks::Marks;
 use pipe_model::orders::Orders;
+use std::marker::Model;
 
-/// The two lists, for questions.
+/// A view of the two lists, for questions. Contracts see their logs.
 #[derive(Drop)]
 pub struct PlainOrders<'a> {
-    /// The lists.
-    pub orders: &'a mut TwoOrders<LateList>,
+    down: &'a OmList,
+    right: &'a OmList,
 }
 
-impl TwoOrders<LateList> {
-    /// Returns whether an element of the down-first list is before another. Both must be in the list.
-    pub fn is_down_before(&mut self, x: u32, y: u32) -> bool
-        requires first { has x (list_of_log self.old.down.log) ≡ true }
-        requires second { has y (list_of_log self.old.down.log) ≡ true }
-        ensures order { IsTrue result ↔ IsBeforeIn (list_of_log self.old.down.log) x y }
-        ensures unchanged { self.new ≡ self.old }
-    {
-        self.down.before(x, y)
-    }
+impl<'a> Model for PlainOrders<'a> {
+    ghost use Rattle.pipe_model.specs.Orders.OrderList.{IsLog};
+    ghost use Rattle.order_2d.specs.OrderPairs.{OrderLogs};
 
-    /// Returns whether an element of the right-first list is before another. Both must be in the list.
-    pub fn is_right_before(&mut self, x: u32, y: u32) -> bool
-        requires first { has x (list_of_log self.old.right.log) ≡ true }
-        requires second { has y (list_of_log self.old.right.log) ≡ true }
-        ensures order { IsTrue result ↔ IsBeforeIn (list_of_log self.old.right.log) x y }
-        ensures unchanged { self.new ≡ self.old }
+    ghost Value = { OrderLogs };
+
+    ghost view = { λ o. record { down = o.down.now.log; right = o.right.now.log } };
+
+    ghost invariant = { λ o. IsLog 1 o.down.now.log × IsLog 1 o.right.now.log };
+}
+
+impl TwoOrders<OmList> {
+    /// Returns a view of the two lists, for questions about their order.
+    pub fn view(&self) -> PlainOrders<'_>
+        ensures { result ≡ record { down = self.now.down.log; right = self.now.right.log } }
     {
-        self.right.before(x, y)
+        PlainOrders {
+            down: &self.down,
+            right: &self.right,
+        }
     }
+}
+
+// Whether an element of a list is before another.
+fn is_before(list: &OmList, x: u32, y: u32) -> bool
+    requires log { IsLog 1 list.now.log }
+    requires first { has x (list_of_log list.now.log) ≡ true }
+    requires second { has y (list_of_log list.now.log) ≡ true }
+    ensures { IsTrue result ↔ IsBeforeIn (list_of_log list.now.log) x y }
+{
+    list.before(x, y)
 }
 
 impl<'a> Orders for PlainOrders<'a> {
-    ghost use Rattle.order_2d.specs.SeenOrders.{lists_identity};
-    ghost use Rattle.pipe_model.specs.Orders.OrderList.{list_of_log};
+    ghost down_first = { λ o. list_of_log o.down };
 
-    ghost down_first = { λ o. list_of_log o.orders.now.down.log };
+    ghost right_first = { λ o. list_of_log o.right };
 
-    ghost right_first = { λ o. list_of_log o.orders.now.right.log };
-
-    ghost identity = { λ o. lists_identity o.orders.ghost_name o.orders.now };
+    ghost identity = { λ o. [] };
 
     fn down_before(&mut self, a: &Marks, b: &Marks) -> bool {
-        self.orders.is_down_before(a.down_first, b.down_first)
+        is_before(self.down, a.down_first, b.down_first)
     }
 
     fn right_before(&mut self, a: &Marks, b: &Marks) -> bool {
-        self.orders.is_right_before(a.right_first, b.right_first)
+        is_before(self.right, a.right_first, b.right_first)
     }
 }

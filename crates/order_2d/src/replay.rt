@@ -12,7 +12,7 @@ ghost use Rattle.pipe_model.specs.Orders.TwoOrders.{down_first_log, right_first_
 ghost use Rattle.pipe_model.specs.Races.Columns.{IsNodeOf, node_columns};
 ghost use Rattle.pipe_model.specs.declared.node.NodeId.{NodeId as PlainNodeId};
 
-use crate::late_list::LateList;
+use crate::list_writer::{ListWriter, OwnedList};
 use crate::numbers::column_numbers;
 use crate::rows::{StartedColumn, above, left_marks, marks_of};
 use crate::starts::{MOST_STARTS, starts_of_log};
@@ -29,9 +29,9 @@ use std::alloc::Global;
 
 /// The two orders of a run.
 #[derive(Drop)]
-pub struct Replayed {
+pub struct Replayed<L: ListWriter + Drop> {
     /// The two lists.
-    pub orders: TwoOrders<LateList>,
+    pub orders: TwoOrders<L>,
     /// The instances, in the order in which they started.
     pub nodes: NodeIds,
     /// The marks of each instance, in the same order.
@@ -41,7 +41,11 @@ pub struct Replayed {
 }
 
 // Starts an instance with these parents; with none it is the first.
-fn start_with(orders: &mut TwoOrders<LateList>, up: Option<Marks>, left: Option<Marks>) -> Marks
+fn start_with<L: ListWriter + Drop>(
+    orders: &mut TwoOrders<L>,
+    up: Option<Marks>,
+    left: Option<Marks>,
+) -> Marks
     requires inserted { AreInserted (length orders.old.down.log) up left }
     requires room { HasRoom orders.old }
     ensures marks { result ≡ marks_after (length orders.old.down.log) (down_taken up left) (right_taken up left) }
@@ -54,8 +58,8 @@ fn start_with(orders: &mut TwoOrders<LateList>, up: Option<Marks>, left: Option<
 }
 
 // Starts instance `m` of `starts`; the rows have those before it.
-fn start_next(
-    orders: &mut TwoOrders<LateList>,
+fn start_next<L: ListWriter + Drop>(
+    orders: &mut TwoOrders<L>,
     columns: &[Column],
     numbers: &[Numbers],
     rows: &[StartedColumn],
@@ -106,12 +110,12 @@ fn empty_rows(alloc: Global, columns: &[Column]) -> Result<Vec<StartedColumn>, N
 }
 
 // Starts all instances of `starts`, and returns the marks of each, in order and by columns.
-fn start_all(
+fn start_all<L: ListWriter + Drop>(
     alloc: Global,
     columns: &[Column],
     numbers: &[Numbers],
     starts: &[NodeId],
-    orders: &mut TwoOrders<LateList>,
+    orders: &mut TwoOrders<L>,
 ) -> Result<(Vec<Marks>, Vec<StartedColumn>), NoMemory>
     requires run { CanReplay (node_columns columns.now) starts.now numbers.now }
     requires lists { HasLists (node_columns columns.now) starts.now 0 orders.old }
@@ -130,23 +134,24 @@ fn start_all(
 }
 
 // Two orders with room for `count` instances.
-fn empty_orders(alloc: Global, count: usize) -> Result<TwoOrders<LateList>, NoMemory>
+fn empty_orders<L: OwnedList + Drop>(alloc: Global, count: usize) -> Result<TwoOrders<L>, NoMemory>
     requires { count ≤ MOST_STARTS }
     ensures down { IfOk result (λ o. (o.down.log ≡ []) × (2 * count < o.down.capacity)) }
     ensures right { IfOk result (λ o. (o.right.log ≡ []) × (2 * count < o.right.capacity)) }
 {
     let capacity = 2 * count as u32 + 1;
-    let down = LateList::new(alloc, capacity)?;
-    let right = LateList::new(alloc, capacity)?;
+    let down = L::with_capacity(alloc, capacity)?;
+    let right = L::with_capacity(alloc, capacity)?;
     Ok(TwoOrders::new(down, right))
 }
 
-/// Returns the two orders of a run: those of its starts, in the order of its events. Of two instances
-/// one is before the other in both lists exactly if it precedes it in the dag of the columns. The
-/// instances are those of the columns, and their marks are in both lists. The events other than
-/// accesses must be a run of the control part that starts at most 262,145 instances, and the columns
-/// those that they make. Returns an error only if memory runs out.
-pub fn replay(alloc: Global, run_log: &RunLog) -> Result<Replayed, NoMemory>
+/// Returns the two orders of a run: those of its starts, in the order of its events. The caller picks
+/// the kind of the lists: plain ones (`OmList`), or ones that wait for a question (`LateList`). Of two
+/// instances one is before the other in both lists exactly if it precedes it in the dag of the
+/// columns. The instances are those of the columns, and their marks are in both lists. The events
+/// other than accesses must be a run of the control part that starts at most 262,145 instances, and
+/// the columns those that they make. Returns an error only if memory runs out.
+pub fn replay<L: OwnedList + Drop>(alloc: Global, run_log: &RunLog) -> Result<Replayed<L>, NoMemory>
     requires own { IsOwnLog run_log.now }
     requires bounded { length (log_starts run_log.now.events) ≤ MOST_STARTS }
     ensures nodes { IfOk result (λ r. r.nodes ≡ log_starts run_log.now.events) }

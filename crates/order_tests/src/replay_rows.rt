@@ -10,6 +10,7 @@ ghost use Rattle.pipe_model.specs.Races.Columns.{IsNodeOf, node_columns};
 
 use crate::plays::{Stages, Turns, played};
 use dag_build::dag::Dag;
+use om_list::om_list::OmList;
 use order_2d::late_list::LateList;
 use order_2d::replay::{Replayed, replay};
 use order_2d::two_orders::TwoOrders;
@@ -19,6 +20,7 @@ use pipe_model::marks::Marks;
 use pipe_model::memory::NoMemory;
 use pipe_model::node::Kind::{Continue as C, Wait as W};
 use pipe_model::node::NodeId;
+use pipe_model::orders::Orders;
 use pipe_model::trap::Trap;
 use std::alloc::Global;
 
@@ -145,7 +147,7 @@ fn lists_agree_with(alloc: Global, log: &RunLog, dag: &Dag) -> Result<bool, NoMe
     requires bounded { length (log_starts log.now.events) ≤ MOST_STARTS }
     requires dag { dag.now ≡ node_columns log.now.columns }
 {
-    let replayed = replay(alloc, log)?;
+    let replayed = replay::<LateList>(alloc, log)?;
     let Replayed {
         mut orders,
         nodes,
@@ -241,11 +243,39 @@ fn lists_agree_with_dags(rt: HostRuntime) {
     assert!(rt; other.is_none(), "{other:?}");
 }
 
-// An instance by iteration and index, and its elements in the down-first and in the right-first list.
-type Element = (u32, u32, u32, u32);
+// Whether an instance is before another in both plain lists.
+fn are_before_in(orders: &TwoOrders<OmList>, a: &Marks, b: &Marks) -> bool
+    requires a_in { AreIn (list_of_log orders.now.down.log) (list_of_log orders.now.right.log) a.now }
+    requires b_in { AreIn (list_of_log orders.now.down.log) (list_of_log orders.now.right.log) b.now }
+{
+    let mut down = orders.view();
+    let mut right = orders.view();
+    down.down_before(a, b) && right.right_before(a, b)
+}
 
-// Whether the instances of a run are these, with their elements.
-fn are_elements(replayed: &Replayed, rows: &[Element]) -> bool {
+// How many instances are after instance `m` in both lists.
+fn count_after(orders: &TwoOrders<OmList>, marks: &[Marks], m: usize) -> usize
+    requires index { m < length marks.now }
+    requires placed { All (AreIn (list_of_log orders.now.down.log) (list_of_log orders.now.right.log)) marks.now }
+{
+    let mut count = 0usize;
+    for n in 0..marks.len() {
+        if are_before_in(orders, &marks[m], &marks[n]) {
+            count = count.saturating_add(1);
+        }
+    }
+    count
+}
+
+// An instance by iteration and index, its elements in the down-first and in the right-first list, and
+// how many instances it precedes.
+type Row = (u32, u32, u32, u32, usize);
+
+// Whether the instances of a run are these, with their elements and with their places in plain lists.
+fn are_rows(replayed: &Replayed<OmList>, rows: &[Row]) -> bool
+    requires placed { All (AreIn (list_of_log replayed.now.orders.down.log) (list_of_log replayed.now.orders.right.log))
+        replayed.now.marks.items }
+{
     let nodes = replayed.nodes.as_slice();
     let marks = replayed.marks.as_slice();
     if nodes.len() != rows.len() || marks.len() != rows.len() {
@@ -253,24 +283,30 @@ fn are_elements(replayed: &Replayed, rows: &[Element]) -> bool {
     }
     for k in 0..rows.len() {
         let (x, m) = (nodes[k], marks[k]);
-        if (x.iteration, x.index, m.down_first, m.right_first) != rows[k] {
+        let after = count_after(&replayed.orders, marks, k);
+        if (x.iteration, x.index, m.down_first, m.right_first, after) != rows[k] {
             return false;
         }
     }
     true
 }
 
-// The elements of the small dag.
-const ELEMENTS: [Element; 4] = [(0, 0, 0, 0), (1, 0, 2, 1), (0, 1, 1, 2), (1, 1, 3, 5)];
+// The rows of the small dag, of whose instances two are parallel.
+const ROWS: [Row; 4] = [
+    (0, 0, 0, 0, 3),
+    (1, 0, 2, 1, 1),
+    (0, 1, 1, 2, 1),
+    (1, 1, 3, 5, 0),
+];
 
-// Whether a run has the elements of the small dag.
-fn has_elements(alloc: Global, log: &RunLog) -> bool
+// Whether a run has the rows of the small dag.
+fn has_rows(alloc: Global, log: &RunLog) -> bool
     requires own { IsOwnLog log.now }
     requires bounded { length (log_starts log.now.events) ≤ MOST_STARTS }
 {
     match replay(alloc, log) {
         Ok(replayed) => {
-            let found = are_elements(&replayed, &ELEMENTS);
+            let found = are_rows(&replayed, &ROWS);
             drop(replayed);
             found
         }
@@ -279,10 +315,10 @@ fn has_elements(alloc: Global, log: &RunLog) -> bool
 }
 
 // The instances start head by head.
-fn small_has_elements(alloc: Global) -> bool {
+fn small_has_rows(alloc: Global) -> bool {
     match played(alloc, &SMALL, Turns::Rightmost) {
         Ok(log) => {
-            let found = event_count(&log) <= 1_000 && has_elements(alloc, &log);
+            let found = event_count(&log) <= 1_000 && has_rows(alloc, &log);
             drop(log);
             found
         }
@@ -291,6 +327,6 @@ fn small_has_elements(alloc: Global) -> bool {
 }
 
 #[test]
-fn the_small_dag_has_its_elements(rt: HostRuntime) {
-    assert!(rt; small_has_elements(rt.alloc()));
+fn the_small_dag_has_its_rows(rt: HostRuntime) {
+    assert!(rt; small_has_rows(rt.alloc()));
 }

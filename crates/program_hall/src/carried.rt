@@ -132,7 +132,7 @@ impl<B: RunCode> Carrier for Carried<B> {
 
     ghost with_seat = { λ x s. record x { seat = s } };
 
-    fn take_seat(&mut self) -> RunSeat {
+    fn take_seat(&mut self) -> SeatPlace {
         self.seat.take()
     }
 

@@ -57,7 +57,7 @@ placed_instance columns starts marks down right same all x started =
     subst (λ (y : NodeId). AreIn down right (instance_marks columns starts y.iteration y.index)) found
     (subst (AreIn down right) (marks_at_start columns starts starts m d started) here)
 
-module _ (log : RunLog) (r : Replayed) (own : IsOwnLog log) (nodes : r.nodes ≡ log_starts log.events)
+module _ {L : Type 0} (log : RunLog) (r : Replayed L) (own : IsOwnLog log) (nodes : r.nodes ≡ log_starts log.events)
     (down : r.orders.down.log ≡ down_first_log (log_starts log.events))
     (right : r.orders.right.log ≡ right_first_log (log_columns log.events) (log_starts log.events)) where
   own_lists : AreListsOf (log_columns log.events) r.nodes r.orders

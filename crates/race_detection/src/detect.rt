@@ -148,7 +148,7 @@ pub fn detect(alloc: Global, run_log: &RunLog) -> Result<Reports, NoMemory>
     ensures { IfOk result (λ reports. reports ≡ found_reports (log_columns run_log.now.events)
         (log_starts run_log.now.events) (log_accesses run_log.now.events)) }
 {
-    let replayed = replay(alloc, run_log)?;
+    let replayed = replay::<LateList>(alloc, run_log)?;
     let Replayed {
         mut orders,
         nodes,

@@ -9,7 +9,7 @@ ghost use Rattle.race_detection.specs.NotedRuns.{AreListsOf, HasNoted, IsReplayO
 use access_history::history::{History, MarkedNode};
 use left_parent::started::StartedNode;
 use order_2d::late_list::LateList;
-use order_2d::plain_orders::PlainOrders;
+use order_2d::late_orders::LateOrders;
 use order_2d::rows::StartedColumn;
 use order_2d::two_orders::TwoOrders;
 use pipe_model::access::NodeAccess;
@@ -62,6 +62,6 @@ pub(crate) fn note(
         who,
         Some(started.joined),
         access.access.kind,
-        &mut PlainOrders { orders },
+        &mut LateOrders { orders },
     );
 }

@@ -9,14 +9,14 @@ use Rattle.pipe_model.specs.Orders.Starts.{start_at}
 use Rattle.pipe_model.specs.Races.Columns.{node_columns}
 
 pub loop-m-init : goal.loop-m-init
-loop-m-init c = record {
+loop-m-init g c = record {
   rows = none_started c.args.columns.now c.args.starts.now c.in_ok-rows.rows.items c.in_ok-rows.ensures;
   marks = c.in_ok-marks.ensures.items;
   lists = c.requires.lists;
 }
 
 pub loop-m-preserved : goal.loop-m-preserved
-loop-m-preserved c =
+loop-m-preserved g c =
     let columns = node_columns c.args.columns.now in
     let starts = c.args.starts.now in
     let x = start_at starts c.loop-m.m in

@@ -6,7 +6,7 @@ use Rattle.order_2d.proofs.replay.start_all.Given as goal
 use Rattle.pipe_model.specs.Races.Columns.{node_columns}
 
 abbrev pub invariant-loop-m : goal.invariant-loop-m
-invariant-loop-m l = record {
+invariant-loop-m g l = record {
   rows : HasStarted (node_columns l.columns) l.starts l.m l.rows.items;
   marks : l.marks.items ≡ marks_of_starts (node_columns l.columns) l.starts (take l.m l.starts);
   lists : HasLists (node_columns l.columns) l.starts l.m l.orders;

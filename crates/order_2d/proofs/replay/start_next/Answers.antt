@@ -15,13 +15,13 @@ use Rattle.pipe_model.specs.Orders.TwoOrders.{down_first_taken}
 use Rattle.pipe_model.specs.Races.Columns.{node_columns}
 
 pub above-above-requires-clause-started : goal.above-above-requires-clause-started
-above-above-requires-clause-started c =
+above-above-requires-clause-started g c =
     let x = start_at c.args.starts.now c.args.m in
     above_there (node_columns c.args.columns.now) c.args.starts.now c.requires.run.columns_ok c.requires.run.starts_ok
     c.args.m c.args.rows.now c.requires.rows c.requires.next x.iteration x.index (c.requires.run.starts_ok.once c.args.m c.requires.next)
 
 pub left_index-left-requires-clause-above : goal.left_index-left-requires-clause-above
-left_index-left-requires-clause-above c =
+left_index-left-requires-clause-above g c =
     let columns = node_columns c.args.columns.now in
     let x = start_at c.args.starts.now c.args.m in
     let above = above_is columns c.args.starts.now c.requires.run.columns_ok c.requires.run.starts_ok
@@ -30,14 +30,14 @@ left_index-left-requires-clause-above c =
     subst (IsAbove columns x.iteration x.index) (sym above) (is_above columns c.args.starts.now x.iteration x.index)
 
 pub left_marks-requires-clause-started : goal.left_marks-requires-clause-started
-left_marks-requires-clause-started c =
+left_marks-requires-clause-started g c =
     let x = start_at c.args.starts.now c.args.m in
     λ j e. left_there (node_columns c.args.columns.now) c.args.starts.now c.requires.run.columns_ok c.requires.run.starts_ok
     c.args.m c.args.rows.now c.requires.rows c.requires.next x.iteration x.index (c.requires.run.starts_ok.once c.args.m c.requires.next)
     j (sym c.left_index-left.ensures ∙ e)
 
 pub start_with-marks-requires-clause-inserted : goal.start_with-marks-requires-clause-inserted
-start_with-marks-requires-clause-inserted c =
+start_with-marks-requires-clause-inserted g c =
     let columns = node_columns c.args.columns.now in
     let starts = c.args.starts.now in
     let x = start_at starts c.args.m in
@@ -53,11 +53,11 @@ start_with-marks-requires-clause-inserted c =
     c.args.m c.args.rows.now c.requires.rows c.requires.next x.iteration x.index number (length c.args.orders.now.down.log) long)
 
 pub start_with-marks-requires-clause-room : goal.start_with-marks-requires-clause-room
-start_with-marks-requires-clause-room c =
+start_with-marks-requires-clause-room g c =
     has_room (node_columns c.args.columns.now) c.args.starts.now c.args.m c.args.orders.now c.requires.lists c.requires.next
 
 pub returns-clause-node : goal.returns-clause-node
-returns-clause-node c =
+returns-clause-node g c =
     let columns = node_columns c.args.columns.now in
     let starts = c.args.starts.now in
     let x = start_at starts c.args.m in
@@ -82,7 +82,7 @@ returns-clause-node c =
     ap₂ (λ a b. let n : StartedNode = record { marks = a; joined = b } in n) marks joined
 
 pub returns-clause-lists : goal.returns-clause-lists
-returns-clause-lists c =
+returns-clause-lists g c =
     let columns = node_columns c.args.columns.now in
     let starts = c.args.starts.now in
     let x = start_at starts c.args.m in

@@ -3,7 +3,7 @@ use Rattle.std.proofs.Common.{◌≡◌, ℕ, List, true, ap, sym, subst}
 use Rattle.pipe_model.specs.Orders.OrderList.{has, list_of_log}
 use Rattle.order_2d.specs.OrderPairs.{OrderPair}
 use Rattle.order_2d.proofs.GrownLogs.{element_within}
-use Rattle.order_2d.proofs.plain_orders.TwoOrders+LateList.is_down_before.Goals as goal
+use Rattle.order_2d.proofs.late_orders.TwoOrders+LateList.is_down_before.Goals as goal
 
 pub before-requires-clause-first : goal.before-requires-clause-first
 before-requires-clause-first c =
