@@ -43,6 +43,8 @@ use om_shared::writer::OmWriter;
 use pipe_frame::token::FrameToken;
 use std::sync::Wait;
 use std::thread;
+use std::thread::Parker;
+use std::time::Duration;
 
 /// The book and the shards of a run, each protected by a lock of its own.
 #[derive(Drop)]
@@ -62,9 +64,18 @@ pub const STRIDE: usize = 8;
 // thread was put off the processor.
 const SHORT_LOOKS: u32 = 4000;
 
-// Pauses for a moment after this number of looks at a lock that is taken.
-fn pause(looks: u32) {
-    if looks >= SHORT_LOOKS {
+// How often the thread gives the processor away before it sleeps between its looks. By then the thread that
+// has the lock is most likely off its processor, for some milliseconds.
+const GIVING_LOOKS: u32 = 60;
+
+// The microseconds of a sleep.
+const SLEEP: u64 = 50;
+
+// Pauses after this number of looks at a lock that is taken.
+fn pause<R: Wait>(rt: &R, sleep: &Parker, looks: u32) {
+    if looks >= SHORT_LOOKS + GIVING_LOOKS {
+        sleep.park_timeout(rt, Duration::from_micros(SLEEP));
+    } else if looks >= SHORT_LOOKS {
         thread::yield_now();
     }
 }
@@ -96,6 +107,7 @@ impl<M: Carrier> Locks<M> {
             return;
         }
         let mut looks = 0u32;
+        let sleep = Parker::new();
         for _ in rt.forever() {
             if self.seems_free(lock) {
                 if self.try_take(seat, lock) {
@@ -103,7 +115,7 @@ impl<M: Carrier> Locks<M> {
                 }
             }
             looks = looks.saturating_add(1);
-            pause(looks);
+            pause(rt, &sleep, looks);
         }
         unreachable!()
     }

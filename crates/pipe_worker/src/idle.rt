@@ -22,7 +22,7 @@ const MOST_TURNS: u32 = 512;
 // The microseconds of the first long pause, and of the longest.
 const FIRST_SLEEP: u64 = 25;
 
-const LONGEST_SLEEP: u64 = 200;
+const LONGEST_SLEEP: u64 = 800;
 
 // The microseconds for which a worker of short instances rests before it steals, at first and at most.
 // Each rest is twice as long as the last, until the worker has run a longer instance. So the tasks of
